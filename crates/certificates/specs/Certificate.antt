@@ -1,0 +1,36 @@
+-- Document 01, "Store and filing": what a certificate is, in words and in meaning.
+use Prim.Native.Nat.{ℕ}
+use mathlib.Core.Bool.{Bool, _&&_}
+use mathlib.Core.List.{List}
+use lib.Dec.{eqb}
+use lib.ListN.{length, getD, drop}
+use Rattle.rows.specs.Ordered.{wordsBefore}
+use Rattle.rows.specs.Row.{Row, isKey}
+use Rattle.rows.specs.Name.{Polarity, isName, isPolarity, polarityOf}
+use Rattle.rows.specs.Layout.{rowIn, soundRow}
+
+-- "With + it says that the row is in the key's list, with − that it is not."
+pub record Certificate : Type 0 where
+  pub key : ℕ
+  pub name : ℕ
+  pub polarity : Polarity
+  pub row : Row
+
+-- "eight words a certificate: key, name, polarity, width, four atoms"
+abbrev pub recordWords : ℕ
+recordWords = 8
+
+-- "A certificate is unsound if its key is a number, its name is over 65,535, its polarity over 1, its width not 1 to 4, or an unused atom not 0";
+-- refusal 9 also asks for eight words
+unfoldable pub soundRecord : List ℕ → Bool
+unfolding soundRow
+soundRecord w = eqb (length w) recordWords && (isKey (getD w 0 0) && (isName (getD w 1 0) && (isPolarity (getD w 2 0) && soundRow (drop 3 w))))
+
+-- what a record says
+unfoldable pub certificateOf : List ℕ → Certificate
+unfolding polarityOf rowIn
+certificateOf w = record { key = getD w 0 0; name = getD w 1 0; polarity = polarityOf (getD w 2 0); row = rowIn (drop 3 w) }
+
+-- records are in order "word by word"
+abbrev pub recordBefore : List ℕ → List ℕ → Bool
+recordBefore = wordsBefore

@@ -1,0 +1,4 @@
+pub mod Certificate
+pub mod Store
+pub mod Filing
+pub mod NamePart

@@ -1,0 +1,1 @@
+// Certificates and the store that holds them.

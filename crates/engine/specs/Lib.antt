@@ -1,0 +1,3 @@
+pub mod Query
+pub mod Demand3
+pub mod Cases

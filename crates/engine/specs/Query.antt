@@ -1,0 +1,76 @@
+-- Document 01, "Reading" and the refusal table: the query call, in the order "1, 2; each definition, then the query; 8; 11; then reading, first met".
+use Prim.Native.Nat.{ℕ}
+use mathlib.Core.Bool.{Bool, true, false, _&&_}
+use mathlib.Core.List.{List, [], _∷_, _++_}
+use lib.Dec.{leb}
+use lib.ListN.{length}
+use Rattle.refusals.specs.Table.{badStore, shortArea, queryPart, noPart}
+use Rattle.rows.specs.Ordered.{same, lists, keep, insert, join, common, without, wordsBefore}
+use Rattle.rows.specs.Row.{rowBefore}
+use Rattle.rows.specs.Sets.{RowSet, has, unite, subtract, listing}
+use Rattle.rows.specs.Layout.{setRoom, written}
+use Rattle.certificates.specs.Certificate.{Certificate}
+use Rattle.certificates.specs.Store.{soundStore, certificates}
+use Rattle.policy.specs.Syntax.{Expr}
+use Rattle.policy.specs.Polarity.{Verdict}
+use Rattle.policy.specs.Judgement.{Checked, checked, unchecked, check}
+use Rattle.meaning.specs.Evidence.{Evidence, namesHeld}
+use Rattle.meaning.specs.Reading.{Answer, done, refused, read}
+
+-- the verdict, the draws and the set; or the refusal's number and part
+pub data Outcome : Type 0 where
+  answered : Verdict → ℕ → RowSet → Outcome
+  declined : ℕ → ℕ → Outcome
+
+-- "Definitions are read once, in file order, then the query"; "the count starts at 0 and runs through definitions and query".
+-- Still to read are these definitions and the query; read are these sets, with so many draws.
+unfoldable pub readFrom : Evidence → List Expr → Expr → Verdict → List RowSet → ℕ → Outcome
+unfolding read
+readFrom names [] q v sets k = elim (read names sets q [] k) [ done s k′ ↦ answered v k′ s | refused n ↦ declined n queryPart ]
+readFrom names (e ∷ es) q v sets k = elim (read names sets e [] k) [
+  | done s k′ ↦ readFrom names es q v (sets ++ (s ∷ [])) k′
+  | refused n ↦ declined n (length sets)
+]
+
+-- 11: "answer area under 642 words, definition area under 10,272, scratch area under 16,384"
+abbrev pub definitionRoom : ℕ
+definitionRoom = 10272
+
+abbrev pub scratchRoom : ℕ
+scratchRoom = 16384
+
+unfoldable pub roomy : ℕ → ℕ → ℕ → Bool
+roomy answer definitions scratch = leb setRoom answer && (leb definitionRoom definitions && leb scratchRoom scratch)
+
+-- what is lent to a query call besides the store
+pub record Call : Type 0 where
+  pub policy : List ℕ
+  pub query : List ℕ
+  pub answer : List ℕ
+  pub definitions : List ℕ
+  pub scratch : List ℕ
+
+-- an accepted policy and query, read from this evidence if the areas are long enough
+unfoldable pub outcomeFrom : Evidence → Call → Outcome
+unfolding check roomy readFrom
+outcomeFrom names c = elim (check (c .policy) (c .query)) [
+  | unchecked n part ↦ declined n part
+  | checked es q v ↦ elim (roomy (length (c .answer)) (length (c .definitions)) (length (c .scratch))) [
+    | false ↦ declined shortArea noPart
+    | true ↦ readFrom names es q v [] 0
+  ]
+]
+
+-- the query call on a store
+unfoldable pub queryCall : List ℕ → Call → Outcome
+unfolding check soundStore outcomeFrom namesHeld certificates
+queryCall store c = elim (check (c .policy) (c .query)) [
+  | unchecked n part ↦ declined n part
+  | checked es q v ↦ elim (soundStore store) [ false ↦ declined badStore noPart | true ↦ outcomeFrom (namesHeld (certificates store)) c ]
+]
+
+-- "An answer fills 2 + 5 × count words; the rest of its area stays"; a refused query leaves the area as it was
+unfoldable pub answerArea : Outcome → List ℕ → List ℕ
+unfolding written
+answerArea (answered v k s) area = written s area
+answerArea (declined n part) area = area

@@ -1,0 +1,1 @@
+// The query call. Its meaning, demand 3 and the portal cases are in `specs/`.

@@ -1,0 +1,5 @@
+pub mod Values
+pub mod Evidence
+pub mod Reading
+pub mod World
+pub mod Belonging

@@ -1,0 +1,72 @@
+-- Document 01, "Polarity and openness": which polarities an expression has (the source's Table 3), which expressions are open, the verdict.
+use Prim.Native.Nat.{ℕ}
+use mathlib.Core.Bool.{Bool, true, false, not, _&&_, _||_}
+use mathlib.Core.List.{List}
+use lib.ListN.{getD}
+use Rattle.rows.specs.Name.{Polarity, plus, minus, opposite, samePolarity}
+use Rattle.policy.specs.Syntax.{Term, Slot, Expr, finite, cofinite, definition, listed, union, difference, comprehension, Body, head, draw, same, different, absent}
+
+-- what is known of an earlier definition: its declared polarity, and whether it is open
+pub record Known : Type 0 where
+  pub declared : Polarity
+  pub isOpen : Bool
+
+abbrev pub unknown : Known
+unknown = record { declared = plus; isOpen = false }
+
+unfoldable mutual
+  pub hasPolarity : Expr → List Known → Polarity → Bool
+  hasPolarity (finite rows) ks p = true
+  hasPolarity (cofinite rows) ks p = true
+  hasPolarity (definition d) ks p = samePolarity (getD ks d unknown .declared) p
+  hasPolarity (listed t n q) ks p = samePolarity q p
+  hasPolarity (union a b) ks p = hasPolarity a ks p && hasPolarity b ks p
+  hasPolarity (difference a b) ks p = hasPolarity a ks p && hasPolarity b ks (opposite p)
+  hasPolarity (comprehension b) ks p = guardsHave b ks p
+
+  -- "those that every draw has and that are opposite to one of every absent guard. No other operand counts"
+  pub guardsHave : Body → List Known → Polarity → Bool
+  guardsHave (head row) ks p = true
+  guardsHave (draw e pattern rest) ks p = hasPolarity e ks p && guardsHave rest ks p
+  guardsHave (same x y rest) ks p = guardsHave rest ks p
+  guardsHave (different x y rest) ks p = guardsHave rest ks p
+  guardsHave (absent row e rest) ks p = hasPolarity e ks (opposite p) && guardsHave rest ks p
+
+-- "Open: 2, a − name, 3 of an open definition, 5 with an open part, 6 with an open left."
+unfoldable pub openExpr : Expr → List Known → Bool
+openExpr (finite rows) ks = false
+openExpr (cofinite rows) ks = true
+openExpr (definition d) ks = getD ks d unknown .isOpen
+openExpr (listed t n q) ks = samePolarity q minus
+openExpr (union a b) ks = openExpr a ks || openExpr b ks
+openExpr (difference a b) ks = openExpr a ks
+openExpr (comprehension b) ks = false
+
+-- "Only sets that are not open may be drawn from", at any depth
+unfoldable mutual
+  unfolding openExpr
+
+  pub drawsClosed : Expr → List Known → Bool
+  drawsClosed (finite rows) ks = true
+  drawsClosed (cofinite rows) ks = true
+  drawsClosed (definition d) ks = true
+  drawsClosed (listed t n q) ks = true
+  drawsClosed (union a b) ks = drawsClosed a ks && drawsClosed b ks
+  drawsClosed (difference a b) ks = drawsClosed a ks && drawsClosed b ks
+  drawsClosed (comprehension b) ks = guardsClosed b ks
+
+  pub guardsClosed : Body → List Known → Bool
+  guardsClosed (head row) ks = true
+  guardsClosed (draw e pattern rest) ks = not (openExpr e ks) && (drawsClosed e ks && guardsClosed rest ks)
+  guardsClosed (same x y rest) ks = guardsClosed rest ks
+  guardsClosed (different x y rest) ks = guardsClosed rest ks
+  guardsClosed (absent row e rest) ks = drawsClosed e ks && guardsClosed rest ks
+
+-- "Both gives verdict 0 exact, + alone 1 lower, − alone 2 upper." (A query with none is refused.)
+pub data Verdict : Type 0 where
+  exact lower upper : Verdict
+
+unfoldable pub verdictWord : Verdict → ℕ
+verdictWord exact = 0
+verdictWord lower = 1
+verdictWord upper = 2

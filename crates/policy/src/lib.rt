@@ -1,0 +1,1 @@
+// Policies and queries: their words, and how they are judged.

@@ -1,0 +1,1 @@
+// The refusal numbers. The table itself is `specs/Table.antt`.

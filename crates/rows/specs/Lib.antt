@@ -1,0 +1,6 @@
+pub mod Word
+pub mod Ordered
+pub mod Row
+pub mod Name
+pub mod Sets
+pub mod Layout

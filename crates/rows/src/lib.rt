@@ -1,0 +1,1 @@
+// Rows and sets of rows, in words.
