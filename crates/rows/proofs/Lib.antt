@@ -1,0 +1,4 @@
+pub mod Case
+pub mod Order
+pub mod Ordered
+pub mod Sets
