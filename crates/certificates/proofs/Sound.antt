@@ -1,0 +1,110 @@
+-- What soundness says of a record and of a store.
+use Prim.Native.Nat.{ℕ, zero, suc, _+_, _*_, _≤_}
+use mathlib.Core.Path.{_≡_, refl, sym, _∙_, ap, subst}
+use mathlib.Core.Bool.{Bool, true, false, _&&_}
+use mathlib.Core.List.{List, [], _∷_}
+use native.Mathlib.Omega.{arith}
+use lib.Dec.{leb, eqb}
+use lib.ListN.{length, getD, take, drop, length-drop, length-take}
+use lib.Seq.{length-take-le}
+use borrow.Author.Tests.{leb-true, leb-false, eqb-true, le-leb}
+use Rattle.rows.specs.Word.{All, IsWord, Words}
+use Rattle.rows.specs.Ordered.{_∈_, ascending}
+use Rattle.rows.specs.Row.{IsRow, isKey}
+use Rattle.rows.specs.Name.{isName, isPolarity}
+use Rattle.rows.specs.Layout.{rowIn, soundRow, zeros, every}
+use Rattle.rows.proofs.Case.{Case, isTrue, isFalse, split, never, and-true, true-and}
+use Rattle.rows.proofs.Order.{words-order}
+use Rattle.rows.proofs.Ordered.{Ascending, all-in, all-of, ascending-true, true-ascending}
+use Rattle.certificates.specs.Certificate.{recordWords, soundRecord, certificateOf, recordBefore}
+use Rattle.certificates.specs.Store.{capacity, storeWords, countOf, records, soundStore}
+use Rattle.certificates.proofs.Pieces.{every-true, true-every, all-take, all-drop, all-pieces, pieces-length, Sized}
+
+-- a record, test by test
+pub record SoundRecord (w : List ℕ) : Type 0 where
+  pub eight : length w ≡ recordWords
+  pub key : isKey (getD w 0 0) ≡ true
+  pub name : isName (getD w 1 0) ≡ true
+  pub polarity : isPolarity (getD w 2 0) ≡ true
+  pub row : soundRow (drop 3 w) ≡ true
+
+pub sound-record : (w : List ℕ) → soundRecord w ≡ true → SoundRecord w
+unfolding soundRecord
+sound-record w e =
+    let a = and-true (eqb (length w) recordWords) _ e in
+    let b = and-true (isKey (getD w 0 0)) _ (a .1) in
+    let c = and-true (isName (getD w 1 0)) _ (b .1) in
+    let d = and-true (isPolarity (getD w 2 0)) _ (c .1) in
+    record { eight = eqb-true (length w) recordWords (a .0); key = b .0; name = c .0; polarity = d .0; row = d .1 }
+
+-- a certificate's issuer is a key, and what it speaks about is a row
+pub about-key : (w : List ℕ) → soundRecord w ≡ true → isKey (certificateOf w .key) ≡ true
+unfolding certificateOf
+about-key w e = sound-record w e .key
+
+row-width : (ws : List ℕ) → soundRow ws ≡ true → (1 ≤ getD ws 0 0) × (getD ws 0 0 ≤ 4)
+unfolding soundRow
+row-width ws e =
+    let a = and-true (leb 1 (getD ws 0 0)) _ e in
+    let b = and-true (leb (getD ws 0 0) 4) _ (a .1) in
+    (leb-true 1 (getD ws 0 0) (a .0), leb-true (getD ws 0 0) 4 (b .0))
+
+pub row-in : (ws : List ℕ) → soundRow ws ≡ true → length ws ≡ 5 → Words ws → IsRow (rowIn ws)
+unfolding rowIn
+row-in ws e l p =
+    let t = row-width ws e in
+    let n : length (take (getD ws 0 0) (drop 1 ws)) ≡ getD ws 0 0 = length-take-le (getD ws 0 0) (drop 1 ws) (omega (arith, length-drop 1 ws)) in
+    record { some = omega arith; few = omega arith; words = all-take IsWord (getD ws 0 0) (drop 1 ws) (all-drop IsWord 1 ws p) }
+
+pub about-row : (w : List ℕ) → soundRecord w ≡ true → Words w → IsRow (certificateOf w .row)
+unfolding certificateOf
+about-row w e p =
+    let s = sound-record w e in
+    row-in (drop 3 w) (s .row) (omega (arith, length-drop 3 w, s .eight)) (all-drop IsWord 3 w p)
+
+-- the records of a store
+pub records-length : (store : List ℕ) → length (records store) ≡ countOf store
+unfolding records
+records-length store = pieces-length recordWords (countOf store) (drop 1 store)
+
+pub records-words : (store : List ℕ) → Words store → All Words (records store)
+unfolding records
+records-words store p = all-pieces IsWord recordWords (countOf store) (drop 1 store) (all-drop IsWord 1 store p)
+
+abbrev pub AllSound : List (List ℕ) → Type 0
+AllSound = All (λ w. soundRecord w ≡ true)
+
+pub sound-sized : (rs : List (List ℕ)) → AllSound rs → Sized recordWords rs
+unfolding Sized All
+sound-sized [] a = tt
+sound-sized (r ∷ rs) a = (sound-record r (a .0) .eight, sound-sized rs (a .1))
+
+-- a sound store, test by test
+pub record SoundStore (store : List ℕ) : Type 0 where
+  pub long : storeWords ≤ length store
+  pub few : countOf store ≤ capacity
+  pub each : AllSound (records store)
+  pub order : Ascending recordBefore words-order (records store)
+
+pub sound-store : (store : List ℕ) → soundStore store ≡ true → SoundStore store
+unfolding soundStore
+sound-store store e = go (split (leb storeWords (length store) && leb (countOf store) capacity))
+  where
+    go : Case (leb storeWords (length store) && leb (countOf store) capacity) → SoundStore store
+    go (isTrue p) =
+        let a = and-true (leb storeWords (length store)) _ p in
+        let f : (every soundRecord (records store) && ascending recordBefore (records store)) ≡ true = rw (p, soundStore) at e in
+        let b = and-true (every soundRecord (records store)) _ f in
+        record {
+          long = leb-true storeWords (length store) (a .0);
+          few = leb-true (countOf store) capacity (a .1);
+          each = every-true soundRecord (records store) (b .0);
+          order = ascending-true recordBefore words-order (records store) (b .1);
+        }
+    go (isFalse p) = never e (rw (p, soundStore))
+
+pub store-sound : (store : List ℕ) → SoundStore store → soundStore store ≡ true
+unfolding soundStore
+store-sound store s =
+    rw (le-leb storeWords (length store) (s .long), le-leb (countOf store) capacity (s .few), soundStore)
+    (true-and (every soundRecord (records store)) _ (true-every soundRecord (records store) (s .each)) (true-ascending recordBefore words-order (records store) (s .order)))
