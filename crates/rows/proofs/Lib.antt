@@ -2,3 +2,4 @@ pub mod Case
 pub mod Order
 pub mod Ordered
 pub mod Sets
+pub mod LayoutLaws
