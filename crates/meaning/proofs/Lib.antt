@@ -1,0 +1,6 @@
+pub mod Steps
+pub mod Rows
+pub mod Proper
+pub mod Faithful
+pub mod Monotone
+pub mod Minimal

@@ -1,0 +1,124 @@
+-- Every set that is read lists rows alone, in ascending order, at most 128 of them: it has a layout.
+use Prim.Native.Nat.{ℕ, zero, suc, _+_, _≤_}
+use mathlib.Core.Path.{_≡_, refl, sym, _∙_, ap, subst}
+use mathlib.Core.Bool.{Bool, true, false}
+use mathlib.Core.Option.{Option, none, some}
+use mathlib.Core.List.{List, [], _∷_, _++_}
+use native.Mathlib.Omega.{arith}
+use lib.Dec.{eqb}
+use lib.ListN.{length, getD}
+use Rattle.rows.specs.Word.{All, IsWord, Words}
+use Rattle.rows.specs.Ordered.{insert}
+use Rattle.rows.specs.Row.{Row, IsRow, rowBefore}
+use Rattle.rows.specs.Sets.{RowSet, only, allBut, listing, mostRows, has, unite, subtract}
+use Rattle.rows.proofs.Sets.{Proper, none-proper, insert-proper, unite-proper, subtract-proper}
+use Rattle.policy.specs.Syntax.{Term, Slot, Expr, finite, cofinite, definition, listed, union, difference, comprehension, Body, head, draw, same, different, absent}
+use Rattle.policy.specs.Words.{each, termWords, termRowWords, slotWords, fresh, exprWords, bodyWords}
+use Rattle.policy.specs.WellFormed.{FitRow, FitRows, Fit, FitBody}
+use Rattle.meaning.specs.Values.{Values, value, rowOf}
+use Rattle.meaning.specs.Evidence.{Evidence}
+use Rattle.meaning.specs.Reading.{Answer, done, refused, Reading, after, within, small, drawable, tick, rowsOf, match, onMatch, drawEach, read, gather}
+use Rattle.meaning.proofs.Steps.{done-value, after-done, either, small-done, within-done, drawable-done}
+use Rattle.meaning.proofs.Rows.{all-left, all-right, row-of-terms, match-words}
+
+pub record TidyRows (xs : List Row) : Type 0 where
+  pub proper : Proper xs
+  pub few : length xs ≤ mostRows
+
+pub record Tidy (s : RowSet) : Type 0 where
+  pub proper : Proper (listing s)
+  pub few : length (listing s) ≤ mostRows
+
+abbrev pub ProperNames : Evidence → Type 0
+ProperNames names = (k n : ℕ) (p : _) → Proper (listing (names k n p))
+
+abbrev pub TidySets : List RowSet → Type 0
+TidySets sets = (d : ℕ) → Tidy (getD sets d (only []))
+
+pub rowsOf-proper : (n : ℕ) (vs : Values) → Words vs → (rs : List (List Term)) → All (FitRow n) rs → Words (each termRowWords rs) → Proper (rowsOf vs rs)
+unfolding rowsOf All each
+rowsOf-proper n vs w [] f t = none-proper
+rowsOf-proper n vs w (r ∷ rs) f t =
+    insert-proper (rowOf vs r) (rowsOf vs rs) (row-of-terms n vs w r (f .0) (all-left IsWord (termRowWords r) _ t))
+    (rowsOf-proper n vs w rs (f .1) (all-right IsWord (termRowWords r) _ t))
+
+small-tidy : (s t : RowSet) (k j : ℕ) → Proper (listing s) → small s k ≡ done t j → Tidy t
+small-tidy s t k j a e = let d = small-done s t k j e in record { proper = subst (λ (u : RowSet). Proper (listing u)) (d .value) a; few = d .few }
+
+-- what a step adds to the rows found so far keeps them tidy
+abbrev Keeps : (List Row → Reading (List Row)) → Type 0
+Keeps f = (acc : List Row) (k : ℕ) (found : List Row) (j : ℕ) → TidyRows acc → f acc k ≡ done found j → TidyRows found
+
+give-tidy : (acc found : List Row) (k j : ℕ) → TidyRows acc → done acc k ≡ done found j → TidyRows found
+give-tidy acc found k j a e = subst TidyRows (done-value e) a
+
+either-tidy : (b : Bool) (m n : Reading (List Row)) (k : ℕ) (found : List Row) (j : ℕ) → (m k ≡ done found j → TidyRows found) → (n k ≡ done found j → TidyRows found) →
+    either b m n k ≡ done found j → TidyRows found
+either-tidy true m n k found j f g e = f e
+either-tidy false m n k found j f g e = g e
+
+module _ (rest : Values → List Row → Reading (List Row)) (keeps : (ws : Values) → Words ws → Keeps (rest ws)) where
+  onMatch-tidy : (o : Option Values) → ((ws : Values) → o ≡ some ws → Words ws) → Keeps (λ acc. onMatch rest acc o)
+  unfolding onMatch
+  onMatch-tidy none w acc k found j a e = give-tidy acc found k j a e
+  onMatch-tidy (some vs) w acc k found j a e = keeps vs (w vs refl) acc k found j a e
+
+  drawEach-tidy : (p : List Slot) (vs : Values) → Words vs → (xs : List Row) → All IsRow xs → Keeps (drawEach rest p vs xs)
+  unfolding drawEach All
+  drawEach-tidy p vs w [] i acc k found j a e = give-tidy acc found k j a e
+  drawEach-tidy p vs w (x ∷ xs) i acc k found j a e =
+      let t = after-done (tick k) _ found j e in
+      let m = after-done (onMatch rest acc (match p vs x) (t .draws)) _ found j (t .rest) in
+      drawEach-tidy p vs w xs (i .1) (m .value) (m .draws) found j
+      (onMatch-tidy (match p vs x) (λ ws q. match-words p vs x ws w (i .0 .words) q) acc (t .draws) (m .value) (m .draws) a (m .first)) (m .rest)
+
+module _ (names : Evidence) (sets : List RowSet) (properNames : ProperNames names) (tidySets : TidySets sets) where
+  mutual
+    unfolding read Fit exprWords bodyWords listing All
+
+    pub read-tidy : (e : Expr) (m n : ℕ) → Fit m n e → Words (exprWords e n) → (vs : Values) → Words vs → (k : ℕ) (s : RowSet) (j : ℕ) → read names sets e vs k ≡ done s j → Tidy s
+    read-tidy (finite rs) m n f t vs w k s j q = small-tidy (only (rowsOf vs rs)) s k j (rowsOf-proper n vs w rs (f .rows) (t .1 .1)) q
+    read-tidy (cofinite rs) m n f t vs w k s j q = small-tidy (allBut (rowsOf vs rs)) s k j (rowsOf-proper n vs w rs (f .rows) (t .1 .1)) q
+    read-tidy (definition d) m n f t vs w k s j q = subst Tidy (done-value q) (tidySets d)
+    read-tidy (listed i l p) m n f t vs w k s j q = small-tidy (names (value vs i) l p) s k j (properNames (value vs i) l p) q
+    read-tidy (union a b) m n f t vs w k s j q =
+        let x = after-done (read names sets a vs k) _ s j q in
+        let y = after-done (read names sets b vs (x .draws)) _ s j (x .rest) in
+        small-tidy (unite (x .value) (y .value)) s (y .draws) j (unite-proper (x .value) (y .value)
+        (read-tidy a m n (f .0) (all-left IsWord (exprWords a n) _ (t .1)) vs w k (x .value) (x .draws) (x .first) .proper)
+        (read-tidy b m n (f .1) (all-right IsWord (exprWords a n) _ (t .1)) vs w (x .draws) (y .value) (y .draws) (y .first) .proper)) (y .rest)
+    read-tidy (difference a b) m n f t vs w k s j q =
+        let x = after-done (read names sets a vs k) _ s j q in
+        let y = after-done (read names sets b vs (x .draws)) _ s j (x .rest) in
+        small-tidy (subtract (x .value) (y .value)) s (y .draws) j (subtract-proper (x .value) (y .value)
+        (read-tidy a m n (f .0) (all-left IsWord (exprWords a n) _ (t .1)) vs w k (x .value) (x .draws) (x .first) .proper)
+        (read-tidy b m n (f .1) (all-right IsWord (exprWords a n) _ (t .1)) vs w (x .draws) (y .value) (y .draws) (y .first) .proper)) (y .rest)
+    read-tidy (comprehension b) m n f t vs w k s j q =
+        let x = after-done (gather names sets b vs [] k) _ s j q in
+        let g = gather-tidy b m n (f .1) (t .1 .1) vs w [] k (x .value) (x .draws) (record { proper = none-proper; few = omega arith }) (x .first) in
+        subst Tidy (done-value (x .rest)) (record { proper = g .proper; few = g .few })
+
+    pub gather-tidy : (b : Body) (m n : ℕ) → FitBody m n b → Words (bodyWords b n) → (vs : Values) → Words vs → Keeps (gather names sets b vs)
+    gather-tidy (head h) m n f t vs w acc k found j a q =
+        let d = within-done (insert rowBefore (rowOf vs h) acc) found k j q in
+        record { proper = subst Proper (d .value) (insert-proper (rowOf vs h) acc (row-of-terms n vs w h f t) (a .proper)); few = d .few }
+    gather-tidy (draw e p rest) m n f t vs w acc k found j a q =
+        let x = after-done (read names sets e vs k) _ found j q in
+        let y = after-done (drawable (x .value) (x .draws)) _ found j (x .rest) in
+        let s = read-tidy e m n (f .0) (all-left IsWord (exprWords e n) _ (t .1)) vs w k (x .value) (x .draws) (x .first) in
+        let i : Tidy (only (y .value)) = subst Tidy (drawable-done (x .value) (y .value) (x .draws) (y .draws) (y .first)) s in
+        let u = all-right IsWord (exprWords e n) _ (t .1) in
+        drawEach-tidy (λ ws more. gather names sets rest ws more)
+        (λ ws v acc′ i′ found′ l b′ g. gather-tidy rest m (n + fresh p) (f .2) (all-right IsWord (slotWords n p) _ (u .1)) ws v acc′ i′ found′ l b′ g)
+        p vs w (y .value) (i .proper .rows) acc (y .draws) found j a (y .rest)
+    gather-tidy (same x y rest) m n f t vs w acc k found j a q =
+        either-tidy (eqb (value vs x) (value vs y)) (gather names sets rest vs acc) (λ i. done acc i) k found j
+        (λ g. gather-tidy rest m n (f .2) (all-right IsWord (termWords y) _ (all-right IsWord (termWords x) _ (t .1))) vs w acc k found j a g) (λ g. give-tidy acc found k j a g) q
+    gather-tidy (different x y rest) m n f t vs w acc k found j a q =
+        either-tidy (eqb (value vs x) (value vs y)) (λ i. done acc i) (gather names sets rest vs acc) k found j
+        (λ g. give-tidy acc found k j a g) (λ g. gather-tidy rest m n (f .2) (all-right IsWord (termWords y) _ (all-right IsWord (termWords x) _ (t .1))) vs w acc k found j a g) q
+    gather-tidy (absent h e rest) m n f t vs w acc k found j a q =
+        let x = after-done (read names sets e vs k) _ found j q in
+        either-tidy (has (x .value) (rowOf vs h)) (λ i. done acc i) (gather names sets rest vs acc) (x .draws) found j
+        (λ g. give-tidy acc found (x .draws) j a g)
+        (λ g. gather-tidy rest m n (f .2) (all-right IsWord (exprWords e n) _ (all-right IsWord (termRowWords h) _ (t .1))) vs w acc (x .draws) found j a g) (x .rest)

@@ -1,0 +1,73 @@
+-- Terms come to words, rows of terms to rows, and what a pattern binds are words.
+use Prim.Native.Nat.{ℕ, zero, suc, _≤_}
+use mathlib.Core.Path.{_≡_, refl, sym, _∙_, ap, subst}
+use mathlib.Core.Logic.{_⊎_, inl, inr}
+use mathlib.Core.Bool.{Bool, true, false}
+use mathlib.Core.Option.{Option, none, some}
+use mathlib.Core.List.{List, [], _∷_, _++_, map}
+use native.Mathlib.Omega.{arith}
+use lib.Dec.{eqb, lit<}
+use lib.ListN.{length, getD, length-map}
+use Rattle.rows.specs.Word.{All, IsWord, Words}
+use Rattle.rows.specs.Row.{Row, IsRow}
+use Rattle.rows.proofs.Case.{Case, isTrue, isFalse, split}
+use Rattle.policy.specs.Syntax.{Term, atom, var, Slot, old, new}
+use Rattle.policy.specs.Words.{termWords, each, termRowWords}
+use Rattle.policy.specs.WellFormed.{FitRow}
+use Rattle.meaning.specs.Values.{Values, value, rowOf}
+use Rattle.meaning.specs.Reading.{match}
+
+-- each of two lists, one after the other
+pub all-left : {A : Type 0} (P : A → Type 0) (xs ys : List A) → All P (xs ++ ys) → All P xs
+unfolding All
+all-left P [] ys a = tt
+all-left P (x ∷ xs) ys a = (a .0, all-left P xs ys (a .1))
+
+pub all-right : {A : Type 0} (P : A → Type 0) (xs ys : List A) → All P (xs ++ ys) → All P ys
+unfolding All
+all-right P [] ys a = a
+all-right P (x ∷ xs) ys a = all-right P xs ys (a .1)
+
+pub all-both : {A : Type 0} (P : A → Type 0) (xs ys : List A) → All P xs → All P ys → All P (xs ++ ys)
+unfolding All
+all-both P [] ys a b = b
+all-both P (x ∷ xs) ys a b = (a .0, all-both P xs ys (a .1) b)
+
+word-at : (vs : Values) → Words vs → (i : ℕ) → IsWord (getD vs i 0)
+unfolding All
+word-at [] w i = lit< tt
+word-at (v ∷ vs) w zero = w .0
+word-at (v ∷ vs) w (suc i) = word-at vs (w .1) i
+
+value-word : (vs : Values) → Words vs → (t : Term) → Words (termWords t) → IsWord (value vs t)
+unfolding value termWords All
+value-word vs w (atom a) t = t .1 .0
+value-word vs w (var i) t = word-at vs w i
+
+values-words : (vs : Values) → Words vs → (ts : List Term) → Words (each termWords ts) → Words (rowOf vs ts)
+unfolding rowOf each All
+values-words vs w [] t = tt
+values-words vs w (x ∷ ts) t = (value-word vs w x (all-left IsWord (termWords x) _ t), values-words vs w ts (all-right IsWord (termWords x) _ t))
+
+pub row-of-terms : (n : ℕ) (vs : Values) → Words vs → (ts : List Term) → FitRow n ts → Words (termRowWords ts) → IsRow (rowOf vs ts)
+unfolding rowOf termRowWords All
+row-of-terms n vs w ts f t =
+    let l : length (map (value vs) ts) ≡ length ts = length-map ts (value vs) in
+    let some : 1 ≤ length ts = f .some in
+    let few : length ts ≤ 4 = f .few in
+    record { some = omega arith; few = omega arith; words = values-words vs w ts (t .1) }
+
+pub match-words : (p : List Slot) (vs : Values) (x : Row) (ws : Values) → Words vs → Words x → match p vs x ≡ some ws → Words ws
+unfolding match All
+match-words [] vs [] ws a b e = subst Words (let f : vs ≡ ws = cc in f) a
+match-words [] vs (y ∷ x) ws a b e = let z : _≡_ {A = ℕ} 0 1 = cc in absurd (omega arith)
+match-words (old t ∷ p) vs [] ws a b e = let z : _≡_ {A = ℕ} 0 1 = cc in absurd (omega arith)
+match-words (old t ∷ p) vs (y ∷ x) ws a b e = go (match-words p vs x ws a (b .1)) (split (eqb (value vs t) y))
+  where
+    go : (match p vs x ≡ some ws → Words ws) → Case (eqb (value vs t) y) → Words ws
+    go ih (isTrue h) = ih (rw (h, match) at e)
+    go ih (isFalse h) =
+        let m : none ≡ some ws = rw (h, match) at e in
+        let z : _≡_ {A = ℕ} 0 1 = cc in absurd (omega arith)
+match-words (new ∷ p) vs [] ws a b e = let z : _≡_ {A = ℕ} 0 1 = cc in absurd (omega arith)
+match-words (new ∷ p) vs (y ∷ x) ws a b e = match-words p (vs ++ (y ∷ [])) x ws (all-both IsWord vs (y ∷ []) a (b .0, tt)) (b .1) e
