@@ -4,3 +4,5 @@ pub mod Proper
 pub mod Faithful
 pub mod Monotone
 pub mod Minimal
+pub mod Exact
+pub mod Closed

@@ -1,0 +1,164 @@
+-- What is not open is read as a finite set, so a checked draw never meets a complement: refusal 12 is not reached.
+use Prim.Native.Nat.{ℕ, _+_}
+use mathlib.Core.Path.{_≡_, refl, sym, _∙_, ap, subst}
+use mathlib.Core.Logic.{_⊎_, inl, inr}
+use mathlib.Core.Bool.{Bool, true, false, not, _&&_, _||_}
+use mathlib.Core.Option.{Option, none, some}
+use mathlib.Core.List.{List, [], _∷_, _++_}
+use native.Mathlib.Omega.{arith}
+use lib.Dec.{T, eqb, ltb, leb}
+use lib.ListN.{length, getD}
+use Rattle.refusals.specs.Table.{complementDrawn}
+use Rattle.rows.specs.Ordered.{insert}
+use Rattle.rows.specs.Row.{Row, isKey, rowBefore}
+use Rattle.rows.specs.Name.{Polarity, plus, minus, samePolarity}
+use Rattle.rows.specs.Sets.{RowSet, only, allBut, listing, mostRows, has, unite, subtract}
+use Rattle.rows.proofs.Case.{T-left, T-right}
+use Rattle.certificates.specs.Certificate.{Certificate}
+use Rattle.policy.specs.Syntax.{Term, Slot, Expr, finite, cofinite, definition, listed, union, difference, comprehension, Body, head, draw, same, different, absent}
+use Rattle.policy.specs.Polarity.{Known, unknown, openExpr, drawsClosed, guardsClosed}
+use Rattle.meaning.specs.Values.{Values, value, rowOf}
+use Rattle.meaning.specs.Evidence.{Evidence, certified, namesHeld}
+use Rattle.meaning.specs.Reading.{Answer, done, refused, Reading, after, within, small, drawable, tick, rowsOf, match, onMatch, drawEach, read, gather}
+use Rattle.meaning.proofs.Steps.{done-value, refused-number, not-refused, after-done, after-refused, either, small-done}
+
+unfoldable pub IsFinite : RowSet → Type 0
+IsFinite (only xs) = Unit {0}
+IsFinite (allBut xs) = ⊥
+
+-- + names are finite, in whatever evidence
+abbrev pub FiniteNames : Evidence → Type 0
+FiniteNames names = (k n : ℕ) → IsFinite (names k n plus)
+
+pub held-finite : (cs : List Certificate) → FiniteNames (namesHeld cs)
+unfolding IsFinite namesHeld
+held-finite cs k n = go (isKey k)
+  where
+    go : (b : Bool) → IsFinite (elim b as (λ c. RowSet) [ true ↦ only (certified cs k n plus) | false ↦ only [] ])
+    go true = tt
+    go false = tt
+
+finite-unite : (s t : RowSet) → IsFinite s → IsFinite t → IsFinite (unite s t)
+unfolding IsFinite unite
+finite-unite (only xs) (only ys) a b = tt
+finite-unite (only xs) (allBut ys) a b = b
+finite-unite (allBut xs) t a b = absurd a
+
+finite-subtract : (s t : RowSet) → IsFinite s → IsFinite (subtract s t)
+unfolding IsFinite subtract
+finite-subtract (only xs) (only ys) a = tt
+finite-subtract (only xs) (allBut ys) a = tt
+finite-subtract (allBut xs) t a = absurd a
+
+neither-left : (a b : Bool) → T (not (a || b)) → T (not a)
+neither-left true b t = absurd t
+neither-left false b t = tt
+
+neither-right : (a b : Bool) → T (not (a || b)) → T (not b)
+neither-right true b t = absurd t
+neither-right false b t = t
+
+-- a reading that is never refused with 12
+abbrev Not12 : {A : Type 0} → Reading A → Type 0
+Not12 m = (k : ℕ) → m k ≡ refused complementDrawn → ⊥
+
+give-not : {A : Type 0} (a : A) → Not12 (λ k. done a k)
+give-not a k e = not-refused e
+
+refuse-not : {A : Type 0} (n : ℕ) → (n ≡ complementDrawn → ⊥) → Not12 {A = A} (λ k. refused n)
+refuse-not n f k e = f (refused-number e)
+
+either-not : {A : Type 0} (b : Bool) (m n : Reading A) → Not12 m → Not12 n → Not12 (either b m n)
+either-not true m n f g = f
+either-not false m n f g = g
+
+-- a first step that is never refused with 12, then one that is not, whatever value the first is done with
+after-not : {A B : Type 0} (m : Reading A) (f : A → Reading B) → Not12 m → ((k : ℕ) (a : A) (j : ℕ) → m k ≡ done a j → Not12 (f a)) → Not12 (λ k. after (m k) f)
+after-not m f g h k e = elim (after-refused (m k) f complementDrawn e) [ inl q ↦ g k q | inr p ↦ h k (p .value) (p .draws) (p .first) (p .draws) (p .rest) ]
+
+small-not : (s : RowSet) → Not12 (small s)
+unfolding small
+small-not s = either-not (leb (length (listing s)) mostRows) _ _ (give-not s) (refuse-not 13 (λ q. omega arith))
+
+within-not : (xs : List Row) → Not12 (within xs)
+unfolding within
+within-not xs = either-not (leb (length xs) mostRows) _ _ (give-not xs) (refuse-not 13 (λ q. omega arith))
+
+tick-not : Not12 tick
+unfolding tick
+tick-not k e = go (ltb k 1000000) e
+  where
+    go : (b : Bool) → _≡_ {A = Answer (Unit {0})} (elim b as (λ c. Answer (Unit {0})) [ true ↦ done tt (k + 1) | false ↦ refused 14 ]) (refused complementDrawn) → ⊥
+    go true q = not-refused q
+    go false q = let n : _≡_ {A = ℕ} 14 complementDrawn = refused-number q in omega arith
+
+drawable-not : (s : RowSet) → IsFinite s → Not12 (drawable s)
+unfolding IsFinite drawable
+drawable-not (only xs) f = give-not xs
+drawable-not (allBut xs) f = λ k e. f
+
+module _ (rest : Values → List Row → Reading (List Row)) (fine : (vs : Values) (acc : List Row) → Not12 (rest vs acc)) where
+  onMatch-not : (acc : List Row) (o : Option Values) → Not12 (onMatch rest acc o)
+  unfolding onMatch
+  onMatch-not acc none = give-not acc
+  onMatch-not acc (some vs) = fine vs acc
+
+  drawEach-not : (p : List Slot) (vs : Values) (xs acc : List Row) → Not12 (drawEach rest p vs xs acc)
+  unfolding drawEach
+  drawEach-not p vs [] acc = give-not acc
+  drawEach-not p vs (x ∷ xs) acc =
+      after-not tick _ tick-not (λ k u j q. after-not (onMatch rest acc (match p vs x)) _ (onMatch-not acc (match p vs x)) (λ k′ more j′ q′. drawEach-not p vs xs more))
+
+module _ (names : Evidence) (finiteNames : FiniteNames names) (sets : List RowSet) (ks : List Known)
+    (finiteSets : (d : ℕ) → T (not (getD ks d unknown .isOpen)) → IsFinite (getD sets d (only []))) where
+  pub closed-finite : (e : Expr) → T (not (openExpr e ks)) → (vs : Values) (k : ℕ) (s : RowSet) (j : ℕ) → read names sets e vs k ≡ done s j → IsFinite s
+  unfolding openExpr read IsFinite
+  closed-finite (finite rs) t vs k s j q = subst IsFinite (small-done (only (rowsOf vs rs)) s k j q .value) tt
+  closed-finite (cofinite rs) t vs k s j q = absurd t
+  closed-finite (definition d) t vs k s j q = subst IsFinite (done-value q) (finiteSets d t)
+  closed-finite (listed u n plus) t vs k s j q = subst IsFinite (small-done (names (value vs u) n plus) s k j q .value) (finiteNames (value vs u) n)
+  closed-finite (listed u n minus) t vs k s j q = absurd t
+  closed-finite (union a b) t vs k s j q =
+      let x = after-done (read names sets a vs k) _ s j q in
+      let y = after-done (read names sets b vs (x .draws)) _ s j (x .rest) in
+      subst IsFinite (small-done (unite (x .value) (y .value)) s (y .draws) j (y .rest) .value)
+      (finite-unite (x .value) (y .value) (closed-finite a (neither-left (openExpr a ks) (openExpr b ks) t) vs k (x .value) (x .draws) (x .first))
+      (closed-finite b (neither-right (openExpr a ks) (openExpr b ks) t) vs (x .draws) (y .value) (y .draws) (y .first)))
+  closed-finite (difference a b) t vs k s j q =
+      let x = after-done (read names sets a vs k) _ s j q in
+      let y = after-done (read names sets b vs (x .draws)) _ s j (x .rest) in
+      subst IsFinite (small-done (subtract (x .value) (y .value)) s (y .draws) j (y .rest) .value)
+      (finite-subtract (x .value) (y .value) (closed-finite a t vs k (x .value) (x .draws) (x .first)))
+  closed-finite (comprehension b) t vs k s j q =
+      let x = after-done (gather names sets b vs [] k) _ s j q in
+      subst IsFinite (done-value (x .rest)) tt
+
+  mutual
+    unfolding drawsClosed read
+
+    pub never-12 : (e : Expr) → T (drawsClosed e ks) → (vs : Values) → Not12 (read names sets e vs)
+    never-12 (finite rs) t vs = small-not (only (rowsOf vs rs))
+    never-12 (cofinite rs) t vs = small-not (allBut (rowsOf vs rs))
+    never-12 (definition d) t vs = give-not _
+    never-12 (listed u n p) t vs = small-not (names (value vs u) n p)
+    never-12 (union a b) t vs =
+        after-not (read names sets a vs) _ (never-12 a (T-left (drawsClosed a ks) (drawsClosed b ks) t) vs) (λ k x j q.
+        after-not (read names sets b vs) _ (never-12 b (T-right (drawsClosed a ks) (drawsClosed b ks) t) vs) (λ k′ y j′ q′. small-not (unite x y)))
+    never-12 (difference a b) t vs =
+        after-not (read names sets a vs) _ (never-12 a (T-left (drawsClosed a ks) (drawsClosed b ks) t) vs) (λ k x j q.
+        after-not (read names sets b vs) _ (never-12 b (T-right (drawsClosed a ks) (drawsClosed b ks) t) vs) (λ k′ y j′ q′. small-not (subtract x y)))
+    never-12 (comprehension b) t vs = after-not (gather names sets b vs []) _ (guards-never-12 b t vs []) (λ k xs j q. give-not (only xs))
+
+    pub guards-never-12 : (b : Body) → T (guardsClosed b ks) → (vs : Values) (acc : List Row) → Not12 (gather names sets b vs acc)
+    guards-never-12 (head h) t vs acc = within-not (insert rowBefore (rowOf vs h) acc)
+    guards-never-12 (draw e p rest) t vs acc =
+        let t₁ = T-left (not (openExpr e ks)) (drawsClosed e ks && guardsClosed rest ks) t in
+        let t₂ = T-right (not (openExpr e ks)) (drawsClosed e ks && guardsClosed rest ks) t in
+        after-not (read names sets e vs) _ (never-12 e (T-left (drawsClosed e ks) (guardsClosed rest ks) t₂) vs) (λ k s j q.
+        after-not (drawable s) _ (drawable-not s (closed-finite e t₁ vs k s j q)) (λ k′ xs j′ q′.
+        drawEach-not (λ ws more. gather names sets rest ws more) (λ ws more. guards-never-12 rest (T-right (drawsClosed e ks) (guardsClosed rest ks) t₂) ws more) p vs xs acc))
+    guards-never-12 (same x y rest) t vs acc = either-not (eqb (value vs x) (value vs y)) _ _ (guards-never-12 rest t vs acc) (give-not acc)
+    guards-never-12 (different x y rest) t vs acc = either-not (eqb (value vs x) (value vs y)) _ _ (give-not acc) (guards-never-12 rest t vs acc)
+    guards-never-12 (absent h e rest) t vs acc =
+        after-not (read names sets e vs) _ (never-12 e (T-left (drawsClosed e ks) (guardsClosed rest ks) t) vs) (λ k s j q.
+        either-not (has s (rowOf vs h)) _ _ (give-not acc) (guards-never-12 rest (T-right (drawsClosed e ks) (guardsClosed rest ks) t) vs acc))

@@ -1,0 +1,149 @@
+-- An expression with both polarities names no list and no definition: its reading is the same whatever is held. And the value that is read never
+-- depends on the draws made before.
+use Prim.Native.Nat.{ℕ, zero, suc}
+use mathlib.Core.Path.{_≡_, refl, sym, _∙_, ap, subst}
+use mathlib.Core.Bool.{Bool, true, false, _&&_}
+use mathlib.Core.Option.{Option, none, some}
+use mathlib.Core.List.{List, [], _∷_, _++_}
+use lib.Dec.{T, eqb}
+use lib.ListN.{length, getD}
+use Rattle.rows.specs.Ordered.{insert}
+use Rattle.rows.specs.Row.{Row, rowBefore}
+use Rattle.rows.specs.Name.{Polarity, plus, minus, opposite, samePolarity}
+use Rattle.rows.specs.Sets.{RowSet, only, allBut, has, unite, subtract}
+use Rattle.rows.proofs.Case.{T-left, T-right}
+use Rattle.policy.specs.Syntax.{Term, Slot, Expr, finite, cofinite, definition, listed, union, difference, comprehension, Body, head, draw, same, different, absent}
+use Rattle.policy.specs.Polarity.{Known, unknown, hasPolarity, guardsHave}
+use Rattle.meaning.specs.Values.{Values, value, rowOf}
+use Rattle.meaning.specs.Evidence.{Evidence}
+use Rattle.meaning.specs.Reading.{Answer, done, refused, Reading, after, within, small, drawable, tick, rowsOf, match, onMatch, drawEach, read, gather}
+use Rattle.meaning.proofs.Steps.{done-value, after-done, after-same, either, small-done, within-done, drawable-done}
+
+not-both : (q : Polarity) → T (samePolarity q plus) → T (samePolarity q minus) → ⊥
+not-both plus t u = u
+not-both minus t u = t
+
+-- two ways to read the guards that follow, the same on every row
+module _ (f g : Values → List Row → Reading (List Row)) (h : (vs : Values) (acc : List Row) (k : ℕ) → f vs acc k ≡ g vs acc k) where
+  onMatch-same : (acc : List Row) (o : Option Values) (k : ℕ) → onMatch f acc o k ≡ onMatch g acc o k
+  unfolding onMatch
+  onMatch-same acc none k = refl
+  onMatch-same acc (some vs) k = h vs acc k
+
+  drawEach-same : (p : List Slot) (vs : Values) (xs acc : List Row) (k : ℕ) → drawEach f p vs xs acc k ≡ drawEach g p vs xs acc k
+  unfolding drawEach
+  drawEach-same p vs [] acc k = refl
+  drawEach-same p vs (x ∷ xs) acc k =
+      after-same (tick k) (tick k) _ _ refl (λ u j.
+      after-same _ _ _ _ (onMatch-same acc (match p vs x) j) (λ found i. drawEach-same p vs xs found i))
+
+either-same : {A : Type 0} (b : Bool) (m n m′ n′ : Reading A) (k : ℕ) → m k ≡ m′ k → n k ≡ n′ k → either b m n k ≡ either b m′ n′ k
+either-same true m n m′ n′ k e f = e
+either-same false m n m′ n′ k e f = f
+
+module _ (names names′ : Evidence) (sets sets′ : List RowSet) (ks : List Known) where
+  mutual
+    unfolding hasPolarity read
+
+    pub read-same : (e : Expr) → T (hasPolarity e ks plus) → T (hasPolarity e ks minus) → (vs : Values) (k : ℕ) → read names sets e vs k ≡ read names′ sets′ e vs k
+    read-same (finite rs) t u vs k = refl
+    read-same (cofinite rs) t u vs k = refl
+    read-same (definition d) t u vs k = absurd (not-both (getD ks d unknown .declared) t u)
+    read-same (listed x n p) t u vs k = absurd (not-both p t u)
+    read-same (union a b) t u vs k =
+        after-same (read names sets a vs k) (read names′ sets′ a vs k) _ _
+        (read-same a (T-left (hasPolarity a ks plus) (hasPolarity b ks plus) t) (T-left (hasPolarity a ks minus) (hasPolarity b ks minus) u) vs k)
+        (λ x j. after-same (read names sets b vs j) (read names′ sets′ b vs j) _ _
+        (read-same b (T-right (hasPolarity a ks plus) (hasPolarity b ks plus) t) (T-right (hasPolarity a ks minus) (hasPolarity b ks minus) u) vs j) (λ y i. refl))
+    read-same (difference a b) t u vs k =
+        after-same (read names sets a vs k) (read names′ sets′ a vs k) _ _
+        (read-same a (T-left (hasPolarity a ks plus) (hasPolarity b ks minus) t) (T-left (hasPolarity a ks minus) (hasPolarity b ks plus) u) vs k)
+        (λ x j. after-same (read names sets b vs j) (read names′ sets′ b vs j) _ _
+        (read-same b (T-right (hasPolarity a ks minus) (hasPolarity b ks plus) u) (T-right (hasPolarity a ks plus) (hasPolarity b ks minus) t) vs j) (λ y i. refl))
+    read-same (comprehension b) t u vs k =
+        after-same (gather names sets b vs [] k) (gather names′ sets′ b vs [] k) _ _ (gather-same b t u vs [] k) (λ x j. refl)
+
+    pub gather-same : (b : Body) → T (guardsHave b ks plus) → T (guardsHave b ks minus) → (vs : Values) (acc : List Row) (k : ℕ) →
+        gather names sets b vs acc k ≡ gather names′ sets′ b vs acc k
+    gather-same (head h) t u vs acc k = refl
+    gather-same (draw e p rest) t u vs acc k =
+        after-same (read names sets e vs k) (read names′ sets′ e vs k) _ _
+        (read-same e (T-left (hasPolarity e ks plus) (guardsHave rest ks plus) t) (T-left (hasPolarity e ks minus) (guardsHave rest ks minus) u) vs k)
+        (λ s j. after-same (drawable s j) (drawable s j) _ _ refl
+        (λ xs i. drawEach-same (λ ws found. gather names sets rest ws found) (λ ws found. gather names′ sets′ rest ws found)
+        (λ ws found l. gather-same rest (T-right (hasPolarity e ks plus) (guardsHave rest ks plus) t) (T-right (hasPolarity e ks minus) (guardsHave rest ks minus) u) ws found l)
+        p vs xs acc i))
+    gather-same (same x y rest) t u vs acc k = either-same (eqb (value vs x) (value vs y)) _ _ _ _ k (gather-same rest t u vs acc k) refl
+    gather-same (different x y rest) t u vs acc k = either-same (eqb (value vs x) (value vs y)) _ _ _ _ k refl (gather-same rest t u vs acc k)
+    gather-same (absent h e rest) t u vs acc k =
+        after-same (read names sets e vs k) (read names′ sets′ e vs k) _ _
+        (read-same e (T-left (hasPolarity e ks plus) (guardsHave rest ks minus) u) (T-left (hasPolarity e ks minus) (guardsHave rest ks plus) t) vs k)
+        (λ s j. either-same (has s (rowOf vs h)) _ _ _ _ j refl
+        (gather-same rest (T-right (hasPolarity e ks minus) (guardsHave rest ks plus) t) (T-right (hasPolarity e ks plus) (guardsHave rest ks minus) u) vs acc j))
+
+-- the value does not depend on the draws made before: a reading that is done from two counts gives one value
+abbrev Steady : {A : Type 0} → Reading A → Type 0
+Steady m = (k k′ j j′ : ℕ) (a a′ : _) → m k ≡ done a j → m k′ ≡ done a′ j′ → a ≡ a′
+
+give-steady : {A : Type 0} (a : A) → Steady (λ k. done a k)
+give-steady a k k′ j j′ b b′ e e′ = sym (done-value e) ∙ done-value e′
+
+after-steady : {A B : Type 0} (m : Reading A) (f : A → Reading B) → Steady m → ((a : A) → Steady (f a)) → Steady (λ k. after (m k) f)
+after-steady m f s t k k′ j j′ b b′ e e′ =
+    let x = after-done (m k) f b j e in
+    let x′ = after-done (m k′) f b′ j′ e′ in
+    let v : x .value ≡ x′ .value = s k k′ (x .draws) (x′ .draws) (x .value) (x′ .value) (x .first) (x′ .first) in
+    t (x′ .value) (x .draws) (x′ .draws) j j′ b b′ (subst (λ a. f a (x .draws) ≡ done b j) v (x .rest)) (x′ .rest)
+
+either-steady : {A : Type 0} (b : Bool) (m n : Reading A) → Steady m → Steady n → Steady (either b m n)
+either-steady true m n s t = s
+either-steady false m n s t = t
+
+small-steady : (s : RowSet) → Steady (small s)
+small-steady s k k′ j j′ a a′ e e′ = sym (small-done s a k j e .value) ∙ small-done s a′ k′ j′ e′ .value
+
+within-steady : (xs : List Row) → Steady (within xs)
+within-steady xs k k′ j j′ a a′ e e′ = sym (within-done xs a k j e .value) ∙ within-done xs a′ k′ j′ e′ .value
+
+drawable-steady : (s : RowSet) → Steady (drawable s)
+drawable-steady s k k′ j j′ a a′ e e′ = only-inj (sym (drawable-done s a k j e) ∙ drawable-done s a′ k′ j′ e′)
+  where
+    only-inj : only a ≡ only a′ → a ≡ a′
+    only-inj p = cc
+
+tick-steady : Steady tick
+tick-steady k k′ j j′ a a′ e e′ = refl
+
+module _ (rest : Values → List Row → Reading (List Row)) (steady : (ws : Values) (acc : List Row) → Steady (rest ws acc)) where
+  onMatch-steady : (acc : List Row) (o : Option Values) → Steady (onMatch rest acc o)
+  unfolding onMatch
+  onMatch-steady acc none = give-steady acc
+  onMatch-steady acc (some vs) = steady vs acc
+
+  drawEach-steady : (p : List Slot) (vs : Values) (xs acc : List Row) → Steady (drawEach rest p vs xs acc)
+  unfolding drawEach
+  drawEach-steady p vs [] acc = give-steady acc
+  drawEach-steady p vs (x ∷ xs) acc = after-steady tick _ tick-steady (λ u. after-steady (onMatch rest acc (match p vs x)) _ (onMatch-steady acc (match p vs x)) (λ more. drawEach-steady p vs xs more))
+
+module _ (names : Evidence) (sets : List RowSet) where
+  mutual
+    unfolding read
+
+    pub read-steady : (e : Expr) (vs : Values) → Steady (read names sets e vs)
+    read-steady (finite rs) vs = small-steady (only (rowsOf vs rs))
+    read-steady (cofinite rs) vs = small-steady (allBut (rowsOf vs rs))
+    read-steady (definition d) vs = give-steady _
+    read-steady (listed t n p) vs = small-steady (names (value vs t) n p)
+    read-steady (union a b) vs = after-steady (read names sets a vs) _ (read-steady a vs) (λ x. after-steady (read names sets b vs) _ (read-steady b vs) (λ y. small-steady (unite x y)))
+    read-steady (difference a b) vs = after-steady (read names sets a vs) _ (read-steady a vs) (λ x. after-steady (read names sets b vs) _ (read-steady b vs) (λ y. small-steady (subtract x y)))
+    read-steady (comprehension b) vs = after-steady (gather names sets b vs []) _ (gather-steady b vs []) (λ xs. give-steady (only xs))
+
+    pub gather-steady : (b : Body) (vs : Values) (acc : List Row) → Steady (gather names sets b vs acc)
+    gather-steady (head r) vs acc = within-steady (insert rowBefore (rowOf vs r) acc)
+    gather-steady (draw e p rest) vs acc =
+        after-steady (read names sets e vs) _ (read-steady e vs) (λ s. after-steady (drawable s) _ (drawable-steady s)
+        (λ xs. drawEach-steady (λ ws more. gather names sets rest ws more) (λ ws more. gather-steady rest ws more) p vs xs acc))
+    gather-steady (same x y rest) vs acc = either-steady (eqb (value vs x) (value vs y)) _ _ (gather-steady rest vs acc) (give-steady acc)
+    gather-steady (different x y rest) vs acc = either-steady (eqb (value vs x) (value vs y)) _ _ (give-steady acc) (gather-steady rest vs acc)
+    gather-steady (absent r e rest) vs acc =
+        after-steady (read names sets e vs) _ (read-steady e vs) (λ s. either-steady (has s (rowOf vs r)) _ _ (give-steady acc) (gather-steady rest vs acc))
