@@ -1,9 +1,11 @@
 -- What the proofs of this crate share.
 use Prim.Native.Nat.{ℕ, zero, suc}
-use mathlib.Core.Path.{_≡_, refl}
+use mathlib.Core.Path.{_≡_}
+use mathlib.Core.Logic.{_↔_}
 use mathlib.Core.Bool.{Bool, true, false, _&&_}
 use mathlib.Core.List.{List, [], _∷_}
 use native.Mathlib.Omega.{arith}
+use lib.Dec.{T}
 use lib.ListN.{take, drop}
 use Rattle.rows.specs.Word.{All}
 
@@ -11,9 +13,9 @@ use Rattle.rows.specs.Word.{All}
 pub impossible : {A : Type 0} → _≡_ {A = ℕ} 0 1 → A
 impossible e = absurd (omega arith)
 
-pub both-true : (a b : Bool) → (a && b) ≡ true → (a ≡ true) × (b ≡ true)
-both-true true b e = (refl, e)
-both-true false b e = impossible cc
+pub both-hold : (a b : Bool) → T (a && b) ↔ (T a × T b)
+both-hold true b = (λ h. (tt, h), λ h. h .1)
+both-hold false b = (λ h. absurd h, λ h. h .0)
 
 -- what all have, a part of them has
 pub all-take : {A : Type 0} (P : A → Type 0) (n : ℕ) (xs : List A) → All P xs → All P (take n xs)

@@ -4,9 +4,8 @@ use mathlib.Core.Path.{_≡_, refl, sym, _∙_, ap, subst}
 use mathlib.Core.Logic.{_↔_}
 use mathlib.Core.Bool.{Bool, true, false, _&&_, _||_}
 use mathlib.Core.List.{List, [], _∷_, _++_}
-use lib.Dec.{T, leb}
+use lib.Dec.{T, leb, leb→le}
 use lib.ListN.{length, drop}
-use borrow.Author.Tests.{leb-true}
 use Rattle.rows.specs.Word.{IsWord, Words}
 use Rattle.rows.specs.Name.{plus, minus, polarityOf}
 use Rattle.refusals.specs.Table.{badWord, noPart, queryPart}
@@ -14,8 +13,8 @@ use Rattle.policy.specs.Syntax.{Expr}
 use Rattle.policy.specs.Decode.{Parsed, parsed, unparsed, parse}
 use Rattle.policy.specs.Polarity.{Known, hasPolarity, drawsClosed, Verdict, exact, lower, upper}
 use Rattle.policy.specs.Table.{Entry, entryWords, Table, table, noTable, readTable}
-use Rattle.policy.specs.Judgement.{Checked, checked, unchecked, polarized, checkDefinition, checkQuery, verdictOf, knownOf, withDefinition, checkFrom, check, JudgementReply, verdict, refused, replyOf, judge}
-use Rattle.policy.proofs.Basics.{impossible, both-true, all-take, all-drop}
+use Rattle.policy.specs.Judgement.{Checked, checked, unchecked, polarized, checkDefinition, checkQuery, verdictOf, knownOf, withDefinition, checkFrom, check, verdict, refused, replyOf, judge}
+use Rattle.policy.proofs.Basics.{impossible, both-hold, all-take, all-drop}
 
 -- a definition that passed: the words of entry x are those of e, which has the declared polarity and draws from nothing open
 pub record AcceptedDefinition (policy : List ℕ) (ks : List Known) (x : Entry) (e : Expr) : Type 0 where
@@ -100,11 +99,11 @@ query-accepted ks query q h = go (leb 1 (length query) && leb (length query) 102
           | false ↦ unparsed badWord
         ]) ≡ parsed q → AcceptedQuery ks query q (verdictOf (hasPolarity q ks plus) (hasPolarity q ks minus))
     go true b f =
-        let l = both-true (leb 1 (length query)) (leb (length query) 1024) b in
+        let l = both-hold (leb 1 (length query)) (leb (length query) 1024) .0 (rw b tt) in
         let t = passed (λ d. hasPolarity d ks plus || hasPolarity d ks minus) (λ d. drawsClosed d ks) (parse (length ks) query) q f in
         record {
-          some = leb-true 1 (length query) (l .0);
-          few = leb-true (length query) 1024 (l .1);
+          some = leb→le 1 (length query) (l .0);
+          few = leb→le (length query) 1024 (l .1);
           parses = t .0;
           closed = t .2;
           isExact = verdict-exact (hasPolarity q ks plus) (hasPolarity q ks minus);

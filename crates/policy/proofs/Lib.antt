@@ -1,2 +1,5 @@
 pub mod Basics
+pub mod Format
+pub mod Leaves
+pub mod Decoding
 pub mod Judging

@@ -1,15 +1,15 @@
 -- Document 01, refusals 1 to 7 in their order: "1, 2; each definition, then the query"; within an expression 3, 4, 5, "then 6, then 7".
 use Prim.Native.Nat.{ℕ}
-use mathlib.Core.Bool.{Bool, true, false, not, _&&_, _||_}
+use mathlib.Core.Bool.{Bool, true, false, _&&_, _||_}
 use mathlib.Core.List.{List, [], _∷_, _++_}
 use lib.Dec.{leb}
 use lib.ListN.{length}
 use Rattle.refusals.specs.Table.{badWord, noPolarity, openDraw, queryPart, noPart}
-use Rattle.rows.specs.Name.{Polarity, plus, minus, polarityOf}
+use Rattle.rows.specs.Name.{plus, minus, polarityOf}
 use Rattle.policy.specs.Syntax.{Expr}
 use Rattle.policy.specs.Decode.{Parsed, parsed, unparsed, parse}
-use Rattle.policy.specs.Polarity.{Known, hasPolarity, openExpr, drawsClosed, Verdict, exact, lower, upper, verdictWord}
-use Rattle.policy.specs.Table.{Entry, entryWords, Table, table, noTable, readTable}
+use Rattle.policy.specs.Polarity.{Known, hasPolarity, openExpr, drawsClosed, Verdict, exact, lower, upper}
+use Rattle.policy.specs.Table.{Entry, entryWords, table, noTable, readTable}
 
 -- the definitions, the query and its verdict; or the refusal's number and part
 pub data Checked : Type 0 where

@@ -2,12 +2,12 @@
 -- query (16). The query comes back whole at any length. A number over 16 or without a definition, or any number with a policy refused with 1
 -- or 2, gives an empty part of the policy."
 use Prim.Native.Nat.{ℕ}
-use mathlib.Core.Bool.{Bool, true, false}
+use mathlib.Core.Bool.{true, false}
 use mathlib.Core.List.{List, []}
 use lib.Dec.{eqb, ltb}
 use lib.ListN.{length, getD, take, drop}
 use Rattle.refusals.specs.Table.{queryPart}
-use Rattle.policy.specs.Table.{Entry, Table, table, noTable, readTable}
+use Rattle.policy.specs.Table.{Entry, table, noTable, readTable}
 
 -- where a part lies: so many words of the policy from a word on, or the query
 pub data Place : Type 0 where
