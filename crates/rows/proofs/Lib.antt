@@ -3,3 +3,4 @@ pub mod Order
 pub mod Ordered
 pub mod Sets
 pub mod LayoutLaws
+pub mod RowLaws

@@ -13,13 +13,13 @@ use Rattle.rows.specs.Row.{Row, rowBefore}
 use Rattle.rows.proofs.Case.{Case, isTrue, isFalse, split, never}
 
 -- first by a number, then by a test: how both orders are built
-abbrev step : ℕ → ℕ → Bool → Bool
+abbrev pub step : ℕ → ℕ → Bool → Bool
 step x y q = ltb x y || (eqb x y && q)
 
-step-less : (x y : ℕ) (q : Bool) → x < y → step x y q ≡ true
+pub step-less : (x y : ℕ) (q : Bool) → x < y → step x y q ≡ true
 step-less x y q h = rw (lt-ltb x y h)
 
-step-equal : (x y : ℕ) (q : Bool) → x ≡ y → step x y q ≡ q
+pub step-equal : (x y : ℕ) (q : Bool) → x ≡ y → step x y q ≡ q
 step-equal x y q e = rw (le-ltb x y (omega arith), eq-eqb x y e)
 
 open-step : (x y : ℕ) (q : Bool) → step x y q ≡ true → Case (ltb x y) → Case (eqb x y) → (x < y) ⊎ ((x ≡ y) × (q ≡ true))

@@ -15,6 +15,10 @@ rowWords r = length r ∷ (r ++ replicate (4 - length r) 0)
 unfoldable pub rowIn : List ℕ → Row
 rowIn ws = take (getD ws 0 0) (drop 1 ws)
 
+-- the five words at a place
+abbrev pub fiveAt : List ℕ → ℕ → List ℕ
+fiveAt ws at = take 5 (drop at ws)
+
 unfoldable pub zeros : List ℕ → Bool
 zeros [] = true
 zeros (w ∷ ws) = eqb w 0 && zeros ws

@@ -1,1 +1,2 @@
 // Rows and sets of rows, in words.
+pub mod row;

@@ -1,0 +1,170 @@
+-- A row in words and in hand, and which of two comes first.
+use Prim.Native.Nat.{ℕ, zero, suc, _+_, _*_, _-_, _≤_, _<_}
+use mathlib.Core.Path.{_≡_, refl, sym, _∙_, ap, subst}
+use mathlib.Core.Bool.{Bool, true, false}
+use mathlib.Core.List.{List, [], _∷_, _++_}
+use native.Mathlib.Omega.{arith}
+use lib.ListN.{length, getD, take, drop, length-take, length-drop}
+use lib.Seq.{drop-cons, getD-take, getD-drop, take-suc, take-all, length-take-le}
+use Rattle.rows.specs.Ordered.{wordsBefore}
+use Rattle.rows.specs.Row.{Row, rowBefore}
+use Rattle.rows.specs.Layout.{rowIn, fiveAt}
+use Rattle.rows.specs.Values.{wordsOf, rowOf, orderOf}
+use Rattle.rows.specs.declared.row.Row as Held
+use Rattle.rows.specs.declared.row.Order as Order
+use Rattle.rows.specs.declared.row.Order.the-variants.{Before, Same, After}
+use Rattle.rows.proofs.Case.{Case, isTrue, isFalse, split, never}
+use Rattle.rows.proofs.Order.{step-less, step-equal, row-order}
+
+-- ---- five words
+
+drop-next : (ws : List ℕ) (at next : ℕ) → next ≡ suc at → at < length ws → drop at ws ≡ getD ws at 0 ∷ drop next ws
+drop-next ws at next e h = rw e (drop-cons ws at 0 h)
+
+pub five-words : (ws : List ℕ) (at : ℕ) → at + 5 ≤ length ws → fiveAt ws at ≡ getD ws at 0 ∷ getD ws (at + 1) 0 ∷ getD ws (at + 2) 0 ∷ getD ws (at + 3) 0 ∷ getD ws (at + 4) 0 ∷ []
+five-words ws at h =
+    let a = drop-next ws at (at + 1) (omega arith) (omega arith) in
+    let b = drop-next ws (at + 1) (at + 2) (omega arith) (omega arith) in
+    let c = drop-next ws (at + 2) (at + 3) (omega arith) (omega arith) in
+    let d = drop-next ws (at + 3) (at + 4) (omega arith) (omega arith) in
+    let e = drop-next ws (at + 4) (at + 5) (omega arith) (omega arith) in
+    rw (a, b, c, d, e)
+
+pub five-length : (ws : List ℕ) (at : ℕ) → at + 5 ≤ length ws → length (fiveAt ws at) ≡ 5
+five-length ws at h = length-take-le 5 (drop at ws) (omega (arith, length-drop at ws))
+
+pub five-at : (ws : List ℕ) (at i : ℕ) → i < 5 → getD (fiveAt ws at) i 0 ≡ getD ws (at + i) 0
+five-at ws at i h = getD-take 5 (drop at ws) i 0 h ∙ getD-drop at ws i 0
+
+pub five-width : (ws : List ℕ) (at : ℕ) → getD (fiveAt ws at) 0 0 ≡ getD ws at 0
+five-width ws at = let e : at + 0 ≡ at = omega arith in five-at ws at 0 (omega arith) ∙ ap (λ (k : ℕ). getD ws k 0) e
+
+-- a row of five words: its width and its atoms
+pub row-in-length : (ws : List ℕ) → length ws ≡ 5 → getD ws 0 0 ≤ 4 → length (rowIn ws) ≡ getD ws 0 0
+unfolding rowIn
+row-in-length ws l h = length-take-le (getD ws 0 0) (drop 1 ws) (omega (arith, length-drop 1 ws))
+
+pub row-in-atom : (ws : List ℕ) (j : ℕ) → j < getD ws 0 0 → getD (rowIn ws) j 0 ≡ getD ws (1 + j) 0
+unfolding rowIn
+row-in-atom ws j h = getD-take (getD ws 0 0) (drop 1 ws) j 0 h ∙ getD-drop 1 ws j 0
+
+-- ---- which comes first
+
+pub first-differs : (x y : List ℕ) (j : ℕ) → take j x ≡ take j y → j < length x → j < length y → getD x j 0 < getD y j 0 → wordsBefore x y ≡ true
+unfolding wordsBefore
+first-differs [] y j e h k l = absurd (omega arith)
+first-differs (a ∷ x) [] j e h k l = absurd (omega arith)
+first-differs (a ∷ x) (b ∷ y) zero e h k l = step-less a b (wordsBefore x y) l
+first-differs (a ∷ x) (b ∷ y) (suc j) e h k l =
+    let f : a ≡ b = cc in
+    let g : take j x ≡ take j y = cc in
+    step-equal a b (wordsBefore x y) f ∙ first-differs x y j g (omega arith) (omega arith) l
+
+module _ (x y : Row) where
+  pub order-before : rowBefore x y ≡ true → orderOf x y ≡ Before
+  unfolding orderOf
+  order-before e = rw (e, orderOf)
+
+  pub order-after : rowBefore y x ≡ true → orderOf x y ≡ After
+  unfolding orderOf
+  order-after e = go (split (rowBefore x y))
+    where
+      go : Case (rowBefore x y) → orderOf x y ≡ After
+      go (isTrue f) = never (row-order .transitive x y x f e) (row-order .irreflexive x)
+      go (isFalse f) = rw (f, e, orderOf)
+
+  pub order-same : x ≡ y → orderOf x y ≡ Same
+  unfolding orderOf
+  order-same e =
+      let f : rowBefore x y ≡ false = ap (rowBefore x) (sym e) ∙ row-order .irreflexive x in
+      let g : rowBefore y x ≡ false = ap (rowBefore y) e ∙ row-order .irreflexive y in
+      rw (f, g, orderOf)
+
+  -- narrower, or wider
+  pub narrower : length x < length y → rowBefore x y ≡ true
+  unfolding rowBefore
+  narrower h = step-less (length x) (length y) (wordsBefore x y) h
+
+-- the first atoms of two rows of one width are the same
+pub record Agree (x y : Row) (j : ℕ) : Type 0 where
+  pub width : length x ≡ length y
+  pub within : j ≤ length x
+  pub front : take j x ≡ take j y
+
+pub agree-start : (x y : Row) → length x ≡ length y → Agree x y 0
+agree-start x y e = record { width = e; within = omega arith; front = refl }
+
+pub agree-next : (x y : Row) (j : ℕ) → Agree x y j → j < length x → getD x j 0 ≡ getD y j 0 → Agree x y (j + 1)
+agree-next x y j a h e =
+    let w = a .width in
+    let s : j + 1 ≡ suc j = omega arith in
+    let f : take j x ≡ take j y = a .front in
+    let p : take (suc j) x ≡ take j x ++ (getD x j 0 ∷ []) = take-suc x j 0 h in
+    let q : take (suc j) y ≡ take j y ++ (getD y j 0 ∷ []) = take-suc y j 0 (omega arith) in
+    record { width = a .width; within = omega arith; front = rw s (cc) }
+
+pub agree-before : (x y : Row) (j : ℕ) → Agree x y j → j < length x → getD x j 0 < getD y j 0 → rowBefore x y ≡ true
+unfolding rowBefore
+agree-before x y j a h l =
+    let w = a .width in
+    step-equal (length x) (length y) (wordsBefore x y) w ∙ first-differs x y j (a .front) h (omega arith) l
+
+pub agree-turned : (x y : Row) (j : ℕ) → Agree x y j → Agree y x j
+agree-turned x y j a = let w = a .width in let i = a .within in record { width = sym w; within = omega arith; front = sym (a .front) }
+
+pub agree-end : (x y : Row) (j : ℕ) → Agree x y j → length x ≤ j → x ≡ y
+agree-end x y j a h = let w = a .width in sym (take-all j x h) ∙ a .front ∙ take-all j y (omega arith)
+
+-- ---- a row in hand
+
+pub held-length : (r : Held.Row) → length (r .atoms) ≡ 4 → r .width ≤ 4 → length (rowOf r) ≡ r .width
+unfolding rowOf
+held-length r l h = length-take-le (r .width) (r .atoms) (omega arith)
+
+pub held-atom : (r : Held.Row) (j : ℕ) → j < r .width → getD (rowOf r) j 0 ≡ getD (r .atoms) j 0
+unfolding rowOf
+held-atom r j h = getD-take (r .width) (r .atoms) j 0 h
+
+-- against the five words at a place
+module _ (r : Held.Row) (ws : List ℕ) (at : ℕ) (room : at + 5 ≤ length ws) (four : length (r .atoms) ≡ 4) (few : r .width ≤ 4) (narrow : getD ws at 0 ≤ 4) where
+  mine-width : length (rowOf r) ≡ r .width
+  mine-width = held-length r four few
+
+  their-width : length (rowIn (fiveAt ws at)) ≡ getD ws at 0
+  their-width = let e = five-width ws at in row-in-length (fiveAt ws at) (five-length ws at room) (omega arith) ∙ e
+
+  their-atom : (j : ℕ) → j < getD ws at 0 → getD (rowIn (fiveAt ws at)) j 0 ≡ getD ws (at + 1 + j) 0
+  their-atom j h =
+      let e = five-width ws at in
+      let s : at + (1 + j) ≡ at + 1 + j = omega arith in
+      row-in-atom (fiveAt ws at) j (omega arith) ∙ five-at ws at (1 + j) (omega arith) ∙ ap (λ (k : ℕ). getD ws k 0) s
+
+  pub compare-narrower : r .width < getD ws at 0 → orderOf (rowOf r) (rowIn (fiveAt ws at)) ≡ Before
+  compare-narrower h = order-before _ _ (narrower _ _ (omega (arith, mine-width, their-width)))
+
+  pub compare-wider : getD ws at 0 < r .width → orderOf (rowOf r) (rowIn (fiveAt ws at)) ≡ After
+  compare-wider h = order-after _ _ (narrower _ _ (omega (arith, mine-width, their-width)))
+
+  module _ (alike : r .width ≡ getD ws at 0) where
+    pub compare-start : Agree (rowOf r) (rowIn (fiveAt ws at)) 0
+    compare-start = agree-start _ _ (omega (arith, mine-width, their-width))
+
+    module _ (j : ℕ) (a : Agree (rowOf r) (rowIn (fiveAt ws at)) j) where
+      pub compare-end : r .width ≤ j → orderOf (rowOf r) (rowIn (fiveAt ws at)) ≡ Same
+      compare-end h = order-same _ _ (agree-end _ _ j a (omega (arith, mine-width)))
+
+      module _ (h : j < r .width) where
+        here : getD (rowOf r) j 0 ≡ getD (r .atoms) j 0
+        here = held-atom r j h
+
+        there : getD (rowIn (fiveAt ws at)) j 0 ≡ getD ws (at + 1 + j) 0
+        there = their-atom j (omega arith)
+
+        pub compare-less : getD (r .atoms) j 0 < getD ws (at + 1 + j) 0 → orderOf (rowOf r) (rowIn (fiveAt ws at)) ≡ Before
+        compare-less l = order-before _ _ (agree-before _ _ j a (omega (arith, mine-width)) (omega (arith, here, there)))
+
+        pub compare-more : getD ws (at + 1 + j) 0 < getD (r .atoms) j 0 → orderOf (rowOf r) (rowIn (fiveAt ws at)) ≡ After
+        compare-more l = order-after _ _ (agree-before _ _ j (agree-turned _ _ j a) (omega (arith, their-width)) (omega (arith, here, there)))
+
+        pub compare-next : getD ws (at + 1 + j) 0 ≤ getD (r .atoms) j 0 → getD (r .atoms) j 0 ≤ getD ws (at + 1 + j) 0 → Agree (rowOf r) (rowIn (fiveAt ws at)) (j + 1)
+        compare-next l m = agree-next _ _ j a (omega (arith, mine-width)) (omega (arith, here, there))

@@ -1,0 +1,63 @@
+// A row in hand, and a row in words.
+ghost use mathlib.Core.Path.{_≡_};
+ghost use Prim.Native.Nat.{_+_, _≤_};
+ghost use lib.ListN.{length, getD};
+ghost use Rattle.rows.specs.Layout.{rowIn, fiveAt};
+ghost use Rattle.rows.specs.Values.{wordsOf, rowOf, orderOf};
+
+pub struct Row {
+    pub width: u32,
+    pub atoms: [u32; 4],
+}
+
+pub enum Order {
+    Before,
+    Same,
+    After,
+}
+
+// The row whose five words stand at `at`.
+pub fn load(words: &[u32], at: usize) -> Row
+    requires { ⌜ at + 5 ≤ length (now words) ⌝ }
+    ensures { λ r. ⌜ wordsOf r ≡ fiveAt (now (words .entry)) at ⌝ }
+{
+    let atoms = [words[at + 1], words[at + 2], words[at + 3], words[at + 4]];
+    Row {
+        width: words[at],
+        atoms: atoms,
+    }
+}
+
+fn wide(x: u32) -> usize
+    ensures { λ r. ⌜ r ≡ x ⌝ }
+{
+    x as usize
+}
+
+// Where `row` stands to the row whose five words stand at `at`: the one place that knows the order of rows.
+pub fn compare(row: Row, words: &[u32], at: usize) -> Order
+    requires { ⌜ (at + 5 ≤ length (now words)) × (row .width ≤ 4) × (getD (now words) at 0 ≤ 4) ⌝ }
+    ensures { λ r. ⌜ r ≡ orderOf (rowOf row) (rowIn (fiveAt (now (words .entry)) at)) ⌝ }
+{
+    let width = words[at];
+    if row.width < width {
+        return Order::Before;
+    }
+    if width < row.width {
+        return Order::After;
+    }
+    let end = wide(width);
+    let mut j: usize = 0;
+    while j < end {
+        let x = row.atoms[j];
+        let y = words[at + 1 + j];
+        if x < y {
+            return Order::Before;
+        }
+        if y < x {
+            return Order::After;
+        }
+        j += 1;
+    }
+    Order::Same
+}
