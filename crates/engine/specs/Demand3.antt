@@ -65,9 +65,9 @@ InQuery c W r = elim (check (c .policy) (c .query)) [ checked es q v ↦ Belongs
 pub data Refusal (cs : List Certificate) (c : Call) : ℕ → ℕ → Type 0 where
   judged : {n part : ℕ} → judge (c .policy) (c .query) ≡ refused n part → Refusal cs c n part
   short : {es : List Expr} {q : Expr} {v : Verdict} → check (c .policy) (c .query) ≡ checked es q v →
-      roomy (length (c .answer)) (length (c .definitions)) (length (c .scratch)) ≡ false → Refusal cs c shortArea noPart
+      roomy c ≡ false → Refusal cs c shortArea noPart
   reading : {es : List Expr} {q : Expr} {v : Verdict} {n part : ℕ} → check (c .policy) (c .query) ≡ checked es q v →
-      roomy (length (c .answer)) (length (c .definitions)) (length (c .scratch)) ≡ true →
+      roomy c ≡ true →
       readFrom (namesHeld cs) es q v [] 0 ≡ declined n part → Refusal cs c n part
 
 -- what the store holds at a point
@@ -90,8 +90,10 @@ pub record Bounds (cs : List Certificate) (c : Call) (v : Verdict) (S : RowSet) 
   pub upperRows : v ≡ upper → (r : Row) → IsRow r → (¬ T (has S r)) ↔ ((W : World) → AllTrue W cs → ¬ InQuery c W r)
   pub exactRows : v ≡ exact → (W : World) → AllTrue W cs → (r : Row) → IsRow r → T (has S r) ↔ InQuery c W r
 
+-- an answer: the verdict is the judgement's, set and draws are what reading gives of what was accepted
 pub record Answers (cs : List Certificate) (c : Call) (v : Verdict) (k : ℕ) (S : RowSet) : Type 1 where
   pub verdictIs : judge (c .policy) (c .query) ≡ verdict v
+  pub isRead : (es : List Expr) × (q : Expr) × (check (c .policy) (c .query) ≡ checked es q v) × (readFrom (namesHeld cs) es q v [] 0 ≡ answered v k S)
   pub laidOut : LaidOut (c .answer) (answerArea (answered v k S) (c .answer)) S
   pub bounds : Bounds cs c v S
 
@@ -109,10 +111,10 @@ pub record Demand3 (store : List ℕ) (filings : List (List ℕ)) : Type 1 where
   -- the store holds just what was accepted; 8 never applies
   pub holds : (p : Point filings) → Holds store (storeAt store (p .passed)) (p .passed)
   -- a call is refused with just the refusals that apply
-  pub refuses : (p : Point filings) (c : Call) → CallWords c → (n part : ℕ) →
+  pub refuses : (p : Point filings) (c : Call) (n part : ℕ) →
       (queryCall (storeAt store (p .passed)) c ≡ declined n part) ↔ Refusal (heldAfter (p .passed)) c n part
   -- and answered exactly when none does
-  pub answers : (p : Point filings) (c : Call) → CallWords c →
+  pub answers : (p : Point filings) (c : Call) →
       ((v : Verdict) × (k : ℕ) × (S : RowSet) × (queryCall (storeAt store (p .passed)) c ≡ answered v k S)) ↔
       (¬ ((n : ℕ) × (part : ℕ) × Refusal (heldAfter (p .passed)) c n part))
   -- an answer has document 01's verdict and layout, and the rows that its verdict promises

@@ -39,9 +39,6 @@ definitionRoom = 10272
 abbrev pub scratchRoom : ℕ
 scratchRoom = 16384
 
-unfoldable pub roomy : ℕ → ℕ → ℕ → Bool
-roomy answer definitions scratch = leb setRoom answer && (leb definitionRoom definitions && leb scratchRoom scratch)
-
 -- what is lent to a query call besides the store
 pub record Call : Type 0 where
   pub policy : List ℕ
@@ -50,12 +47,16 @@ pub record Call : Type 0 where
   pub definitions : List ℕ
   pub scratch : List ℕ
 
+-- the three areas are long enough
+unfoldable pub roomy : Call → Bool
+roomy c = leb setRoom (length (c .answer)) && (leb definitionRoom (length (c .definitions)) && leb scratchRoom (length (c .scratch)))
+
 -- an accepted policy and query, read from this evidence if the areas are long enough
 unfoldable pub outcomeFrom : Evidence → Call → Outcome
 unfolding check roomy readFrom
 outcomeFrom names c = elim (check (c .policy) (c .query)) [
   | unchecked n part ↦ declined n part
-  | checked es q v ↦ elim (roomy (length (c .answer)) (length (c .definitions)) (length (c .scratch))) [
+  | checked es q v ↦ elim (roomy c) [
     | false ↦ declined shortArea noPart
     | true ↦ readFrom names es q v [] 0
   ]
