@@ -6,3 +6,4 @@ pub mod Monotone
 pub mod Minimal
 pub mod Exact
 pub mod Closed
+pub mod Readings

@@ -100,9 +100,9 @@ module _ (names : Evidence) (sets : List RowSet) where
       y ← read b vs
       small (unite x y)
     read (difference a b) vs = do
-      x ← read a vs
-      y ← read b vs
-      small (subtract x y)
+      s ← read a vs
+      t ← read b vs
+      small (subtract s t)
     read (comprehension b) vs = do
       xs ← gather b vs []
       give (only xs)
