@@ -2,4 +2,6 @@ pub mod Basics
 pub mod Format
 pub mod Leaves
 pub mod Decoding
+pub mod Decoded
 pub mod Judging
+pub mod Judged

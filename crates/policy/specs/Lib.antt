@@ -2,7 +2,9 @@ pub mod Syntax
 pub mod Words
 pub mod WellFormed
 pub mod Decode
+pub mod Decoded
 pub mod Polarity
 pub mod Table
 pub mod Judgement
+pub mod Judged
 pub mod Part

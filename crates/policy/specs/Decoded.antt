@@ -1,0 +1,121 @@
+-- Words with the number that the decoder refuses them with: document 01's rules of refusals 3, 4 and 5 by example.
+use Prim.Native.Nat.{ℕ, zero, suc, _+_}
+use mathlib.Core.Path.{_≡_}
+use mathlib.Core.List.{List, [], _∷_, _++_}
+use Rattle.refusals.specs.Table.{badWord, notInScope, tooDeep}
+use Rattle.policy.specs.Decode.{Parsed, parsed, unparsed, parse}
+
+-- the refusal's number; 0 where there is none
+unfoldable pub numberOf : Parsed → ℕ
+numberOf (parsed e) = 0
+numberOf (unparsed n) = n
+
+-- two definitions being available
+unfoldable pub Decodes : List ℕ → ℕ → Type 0
+unfolding numberOf parse
+Decodes ws n = numberOf (parse 2 ws) ≡ n
+
+-- so many times the same words, then the last ones
+unfoldable pub again : ℕ → List ℕ → List ℕ → List ℕ
+again zero ws end = end
+again (suc n) ws end = ws ++ again n ws end
+
+-- n unions, each inside the one before, over the words given
+unfoldable pub unions : ℕ → List ℕ → List ℕ
+unfolding again
+unions n ws = again n (5 ∷ []) (ws ++ again n (1 ∷ 0 ∷ []) [])
+
+-- four new variables from number n on
+unfoldable pub four : ℕ → List ℕ
+four n = 1 ∷ 1 ∷ 0 ∷ 4 ∷ 2 ∷ n ∷ 2 ∷ (n + 1) ∷ 2 ∷ (n + 2) ∷ 2 ∷ (n + 3) ∷ []
+
+-- a draw from no rows, with a pattern of one fixed atom
+abbrev pub anyDraw : List ℕ
+anyDraw = 1 ∷ 1 ∷ 0 ∷ 1 ∷ 0 ∷ 5 ∷ []
+
+pub record Table : Type 0 where
+  -- words run out
+  pub runOut :
+      Decodes [] badWord
+      × Decodes (1 ∷ []) badWord
+      × Decodes (1 ∷ 1 ∷ 1 ∷ 0 ∷ []) badWord
+      × Decodes (5 ∷ 1 ∷ 0 ∷ []) badWord
+  -- a code is 1 to 7
+  pub codes :
+      Decodes (0 ∷ []) badWord
+      × Decodes (8 ∷ []) badWord
+  -- at most 128 rows, at most 8 guards
+  pub counts :
+      Decodes (1 ∷ 128 ∷ again 128 (1 ∷ 0 ∷ 5 ∷ []) []) 0
+      × Decodes (1 ∷ 129 ∷ again 129 (1 ∷ 0 ∷ 5 ∷ []) []) badWord
+      × Decodes (2 ∷ 4294967295 ∷ []) badWord
+      × Decodes (7 ∷ 8 ∷ again 8 (2 ∷ 0 ∷ 5 ∷ 0 ∷ 5 ∷ []) (1 ∷ 0 ∷ 5 ∷ [])) 0
+      × Decodes (7 ∷ 9 ∷ again 9 (2 ∷ 0 ∷ 5 ∷ 0 ∷ 5 ∷ []) (1 ∷ 0 ∷ 5 ∷ [])) badWord
+  -- a width is 1 to 4, of rows and of patterns
+  pub widths :
+      Decodes (1 ∷ 1 ∷ 0 ∷ []) badWord
+      × Decodes (1 ∷ 1 ∷ 4 ∷ 0 ∷ 1 ∷ 0 ∷ 2 ∷ 0 ∷ 3 ∷ 0 ∷ 4 ∷ []) 0
+      × Decodes (1 ∷ 1 ∷ 5 ∷ 1 ∷ 0 ∷ []) badWord
+      × Decodes (7 ∷ 1 ∷ 1 ∷ 1 ∷ 0 ∷ 0 ∷ 1 ∷ 0 ∷ 5 ∷ []) badWord
+  -- a tag is 0 or 1, of a slot 2 as well
+  pub tags :
+      Decodes (1 ∷ 1 ∷ 1 ∷ 2 ∷ 0 ∷ []) badWord
+      × Decodes (7 ∷ 1 ∷ 1 ∷ 1 ∷ 0 ∷ 1 ∷ 3 ∷ 0 ∷ 1 ∷ 0 ∷ 5 ∷ []) badWord
+  -- a guard is 1 to 4
+  pub guards :
+      Decodes (7 ∷ 1 ∷ 0 ∷ []) badWord
+      × Decodes (7 ∷ 1 ∷ 5 ∷ []) badWord
+  -- a fixed issuer is a key, a name is up to 65,535, a polarity 0 or 1
+  pub issuers :
+      Decodes (4 ∷ 0 ∷ 2147483648 ∷ 65535 ∷ 1 ∷ []) 0
+      × Decodes (4 ∷ 0 ∷ 2147483647 ∷ 65535 ∷ 1 ∷ []) badWord
+      × Decodes (4 ∷ 0 ∷ 2147483648 ∷ 65536 ∷ 1 ∷ []) badWord
+      × Decodes (4 ∷ 0 ∷ 2147483648 ∷ 65535 ∷ 2 ∷ []) badWord
+  -- two definitions are available
+  pub definitions :
+      Decodes (3 ∷ 1 ∷ []) 0
+      × Decodes (3 ∷ 2 ∷ []) notInScope
+  -- words left over
+  pub leftOver :
+      Decodes (3 ∷ 1 ∷ 0 ∷ []) badWord
+  -- no variable is in scope at first
+  pub noneAtFirst :
+      Decodes (1 ∷ 1 ∷ 1 ∷ 1 ∷ 0 ∷ []) notInScope
+      × Decodes (7 ∷ 0 ∷ 1 ∷ 1 ∷ 0 ∷ []) notInScope
+  -- "a variable from earlier in the pattern may be used"
+  pub earlierInPattern :
+      Decodes (7 ∷ 1 ∷ 1 ∷ 1 ∷ 0 ∷ 2 ∷ 2 ∷ 0 ∷ 1 ∷ 0 ∷ 1 ∷ 1 ∷ 0 ∷ []) 0
+      × Decodes (7 ∷ 1 ∷ 1 ∷ 1 ∷ 0 ∷ 2 ∷ 1 ∷ 0 ∷ 2 ∷ 0 ∷ 1 ∷ 1 ∷ 0 ∷ []) notInScope
+  -- a draw's own variables are not in scope in its expression
+  pub notWhereDrawnFrom :
+      Decodes (7 ∷ 1 ∷ 1 ∷ 1 ∷ 1 ∷ 1 ∷ 1 ∷ 0 ∷ 1 ∷ 2 ∷ 0 ∷ 1 ∷ 1 ∷ 0 ∷ []) notInScope
+  -- "Variables end with their comprehension"
+  pub endWithComprehension :
+      Decodes (5 ∷ 7 ∷ 1 ∷ 1 ∷ 1 ∷ 0 ∷ 1 ∷ 2 ∷ 0 ∷ 1 ∷ 1 ∷ 0 ∷ 1 ∷ 1 ∷ 1 ∷ 1 ∷ 0 ∷ []) notInScope
+  -- a new variable has "the count of variables in scope", in an inner comprehension too, and after it again
+  pub newNumbers :
+      Decodes (7 ∷ 1 ∷ 1 ∷ 1 ∷ 0 ∷ 1 ∷ 2 ∷ 1 ∷ 1 ∷ 1 ∷ 0 ∷ []) notInScope
+      × Decodes (7 ∷ 2 ∷ 1 ∷ 1 ∷ 0 ∷ 1 ∷ 2 ∷ 0 ∷ 1 ∷ 7 ∷ 1 ∷ 1 ∷ 1 ∷ 0 ∷ 1 ∷ 2 ∷ 1 ∷ 1 ∷ 1 ∷ 1 ∷ 1 ∷ 2 ∷ 1 ∷ 1 ∷ 1 ∷ 1 ∷ []) 0
+      × Decodes (7 ∷ 2 ∷ 1 ∷ 1 ∷ 0 ∷ 1 ∷ 2 ∷ 0 ∷ 1 ∷ 7 ∷ 1 ∷ 1 ∷ 1 ∷ 0 ∷ 1 ∷ 2 ∷ 0 ∷ []) notInScope
+  -- "at most 15": a 17th variable
+  pub sixteen :
+      Decodes (7 ∷ 4 ∷ (four 0 ++ (four 4 ++ (four 8 ++ (four 12 ++ (1 ∷ 1 ∷ 15 ∷ [])))))) 0
+      × Decodes (7 ∷ 5 ∷ (four 0 ++ (four 4 ++ (four 8 ++ (four 12 ++ (1 ∷ 1 ∷ 0 ∷ 1 ∷ 2 ∷ 16 ∷ [])))))) notInScope
+  -- "the limit is 15": refused "at its code word", whose own rule comes first
+  pub fifteenLevels :
+      Decodes (unions 14 (1 ∷ 0 ∷ [])) 0
+      × Decodes (unions 15 (1 ∷ 0 ∷ [])) tooDeep
+      × Decodes (unions 15 (1 ∷ 129 ∷ [])) tooDeep
+      × Decodes (unions 15 (9 ∷ 0 ∷ [])) badWord
+      × Decodes (again 15 (5 ∷ []) []) badWord
+  -- "counted where their guards begin": before those inside it, and over the whole expression
+  pub eightDraws :
+      Decodes (7 ∷ 8 ∷ again 8 anyDraw (1 ∷ 0 ∷ 5 ∷ [])) 0
+      × Decodes (5 ∷ 7 ∷ 8 ∷ again 8 anyDraw (1 ∷ 0 ∷ 5 ∷ 7 ∷ 1 ∷ 1 ∷ [])) tooDeep
+      × Decodes (7 ∷ 8 ∷ again 7 anyDraw (1 ∷ 7 ∷ 1 ∷ 1 ∷ [])) tooDeep
+      × Decodes (7 ∷ 8 ∷ 1 ∷ 7 ∷ 1 ∷ (anyDraw ++ (1 ∷ 0 ∷ 5 ∷ 1 ∷ 0 ∷ 5 ∷ again 7 anyDraw (1 ∷ 0 ∷ 5 ∷ [])))) tooDeep
+  -- "at the first word in order"
+  pub firstWord :
+      Decodes (4 ∷ 1 ∷ 0 ∷ 99999 ∷ 0 ∷ []) notInScope
+      × Decodes (5 ∷ 3 ∷ 2 ∷ 9 ∷ []) notInScope
+      × Decodes (5 ∷ 9 ∷ 3 ∷ 2 ∷ []) badWord
