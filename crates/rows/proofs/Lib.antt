@@ -4,3 +4,4 @@ pub mod Ordered
 pub mod Sets
 pub mod LayoutLaws
 pub mod RowLaws
+pub mod Put

@@ -4,16 +4,17 @@ use mathlib.Core.Path.{_≡_, refl, sym, _∙_, ap, subst}
 use mathlib.Core.Bool.{Bool, true, false}
 use mathlib.Core.List.{List, [], _∷_, _++_}
 use native.Mathlib.Omega.{arith}
-use lib.ListN.{length, getD, take, drop, length-take, length-drop}
-use lib.Seq.{drop-cons, getD-take, getD-drop, take-suc, take-all, length-take-le}
+use lib.ListN.{length, getD, take, drop, replicate, length-take, length-drop, getD-replicate, List·getD-append}
+use lib.Seq.{drop-cons, getD-take, getD-drop, getD-append-add, take-suc, take-all, length-take-le}
 use Rattle.rows.specs.Ordered.{wordsBefore}
 use Rattle.rows.specs.Row.{Row, rowBefore}
-use Rattle.rows.specs.Layout.{rowIn, fiveAt}
+use Rattle.rows.specs.Layout.{rowIn, rowWords, fiveAt}
 use Rattle.rows.specs.Values.{wordsOf, rowOf, orderOf}
 use Rattle.rows.specs.declared.row.Row as Held
 use Rattle.rows.specs.declared.row.Order as Order
 use Rattle.rows.specs.declared.row.Order.the-variants.{Before, Same, After}
 use Rattle.rows.proofs.Case.{Case, isTrue, isFalse, split, never}
+use Rattle.rows.proofs.LayoutLaws.{row-length}
 use Rattle.rows.proofs.Order.{step-less, step-equal, row-order}
 
 -- ---- five words
@@ -124,6 +125,31 @@ held-length r l h = length-take-le (r .width) (r .atoms) (omega arith)
 pub held-atom : (r : Held.Row) (j : ℕ) → j < r .width → getD (rowOf r) j 0 ≡ getD (r .atoms) j 0
 unfolding rowOf
 held-atom r j h = getD-take (r .width) (r .atoms) j 0 h
+
+-- its five words: the width, the atoms, and zeros
+module _ (r : Held.Row) (four : length (r .atoms) ≡ 4) (few : r .width ≤ 4) where
+  pub held-width : getD (rowWords (rowOf r)) 0 0 ≡ r .width
+  unfolding rowWords
+  held-width = held-length r four few
+
+  pub held-words-length : length (rowWords (rowOf r)) ≡ 5
+  held-words-length = row-length (rowOf r) (omega (arith, held-length r four few))
+
+  pub held-used : (j : ℕ) → 0 < j → j ≤ r .width → getD (rowWords (rowOf r)) j 0 ≡ getD (r .atoms) (j - 1) 0
+  unfolding rowWords
+  held-used j a h =
+      let e : j ≡ suc (j - 1) = omega arith in
+      ap (λ (k : ℕ). getD (rowWords (rowOf r)) k 0) e
+      ∙ List·getD-append (rowOf r) (replicate (4 - length (rowOf r)) 0) 0 (j - 1) (omega (arith, held-length r four few)) ∙ held-atom r (j - 1) (omega arith)
+
+  pub held-unused : (j : ℕ) → r .width < j → j < 5 → getD (rowWords (rowOf r)) j 0 ≡ 0
+  unfolding rowWords
+  held-unused j h k =
+      let l = held-length r four few in
+      let e : j ≡ suc (length (rowOf r) + (j - 1 - length (rowOf r))) = omega arith in
+      ap (λ (k : ℕ). getD (rowWords (rowOf r)) k 0) e
+      ∙ getD-append-add (rowOf r) (replicate (4 - length (rowOf r)) 0) (j - 1 - length (rowOf r)) 0
+      ∙ getD-replicate (4 - length (rowOf r)) (j - 1 - length (rowOf r)) 0 0 (omega arith)
 
 -- against the five words at a place
 module _ (r : Held.Row) (ws : List ℕ) (at : ℕ) (room : at + 5 ≤ length ws) (four : length (r .atoms) ≡ 4) (few : r .width ≤ 4) (narrow : getD ws at 0 ≤ 4) where

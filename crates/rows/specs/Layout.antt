@@ -52,6 +52,10 @@ unfoldable pub setWords : RowSet → List ℕ
 unfolding formWord listing flat rowWords
 setWords s = formWord s ∷ length (listing s) ∷ flat (map rowWords (listing s))
 
+-- words written over those that stand at a place
+unfoldable pub put : ℕ → List ℕ → List ℕ → List ℕ
+put at ws area = take at area ++ (ws ++ drop (at + length ws) area)
+
 -- "so a set takes 642 words"
 abbrev pub setRoom : ℕ
 setRoom = 642

@@ -1,2 +1,3 @@
 // Rows and sets of rows, in words.
 pub mod row;
+pub mod words;

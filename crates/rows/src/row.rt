@@ -1,8 +1,8 @@
 // A row in hand, and a row in words.
 ghost use mathlib.Core.Path.{_≡_};
-ghost use Prim.Native.Nat.{_+_, _≤_};
+ghost use Prim.Native.Nat.{_+_, _≤_, _<_};
 ghost use lib.ListN.{length, getD};
-ghost use Rattle.rows.specs.Layout.{rowIn, fiveAt};
+ghost use Rattle.rows.specs.Layout.{rowIn, rowWords, fiveAt, put};
 ghost use Rattle.rows.specs.Values.{wordsOf, rowOf, orderOf};
 
 pub struct Row {
@@ -60,4 +60,30 @@ pub fn compare(row: Row, words: &[u32], at: usize) -> Order
         j += 1;
     }
     Order::Same
+}
+
+// Word `j` of the five that a row takes. Whatever stands in the unused atoms, their words are 0.
+fn word(row: Row, j: usize) -> u32
+    requires { ⌜ (j < 5) × (row .width ≤ 4) ⌝ }
+    ensures { λ r. ⌜ r ≡ getD (rowWords (rowOf row)) j 0 ⌝ }
+{
+    if j == 0 {
+        return row.width;
+    }
+    if j <= wide(row.width) {
+        return row.atoms[j - 1];
+    }
+    0
+}
+
+// Writes the row's five words at `at`.
+pub fn store(area: &mut [u32], at: usize, row: Row)
+    requires { ⌜ (at + 5 ≤ length (now area)) × (row .width ≤ 4) ⌝ }
+    ensures { λ _. ⌜ now (area .exit) ≡ put at (rowWords (rowOf row)) (now (area .entry)) ⌝ }
+{
+    let mut j: usize = 0;
+    while j < 5 {
+        area[at + j] = word(row, j);
+        j += 1;
+    }
 }
