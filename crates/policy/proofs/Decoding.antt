@@ -10,12 +10,13 @@ use lib.ListN.{length}
 use borrow.Author.Tests.{ltb-true, lt-ltb}
 use Rattle.refusals.specs.Table.{badWord, notInScope, tooDeep}
 use Rattle.rows.specs.Name.{isName}
+use Rattle.rows.proofs.Case.{iff-refl}
 use Rattle.policy.specs.Syntax.{Term, Expr, finite, cofinite, definition, listed, union, difference, comprehension, Body, head, draw, same, different, absent}
 use Rattle.policy.specs.Words.{termWords, fresh, guardCount, exprWords, bodyWords}
 use Rattle.policy.specs.WellFormed.{FitTerm, Fit, FitBody, depth, bodyDepth, drawCount, bodyDraws, WellFormed}
 use Rattle.policy.specs.Decode.{Read, got, refused, Reader, after, give, word, wordWhere, countDraw, term, slots, guardOf, guardAs, body, codeOf, isCode, exprAs, expr, parsed, noneLeft, parse}
 use Rattle.policy.proofs.Basics.{impossible}
-use Rattle.policy.proofs.Format.{Format, plain, Made, Taken, Takes, Returns, Reads, refuse-takes, then-takes, last-takes, then-returns, last-returns, word-takes, word-returns, returns-as}
+use Rattle.policy.proofs.Format.{Format, oneWord, Made, made, Taken, Takes, Returns, Reads, refuse-takes, then-takes, last-takes, then-returns, last-returns, word-takes, word-returns, returns-as}
 use Rattle.policy.proofs.Leaves.{where-reads, polarity-reads, term-reads, issuer-reads, width-reads, row-reads, rows-reads, slots-reads}
 
 -- an expression of so many levels at most
@@ -35,7 +36,11 @@ pub record FitGuards (known levels c n : ℕ) (b : Body) : Type 0 where
 abbrev pub guards : ℕ → ℕ → ℕ → ℕ → Format Body
 guards known levels c n = record { words = λ b. bodyWords b n; draws = bodyDraws; Good = FitGuards known levels c n }
 
-count-reads : Reads countDraw (record { words = λ t. []; draws = λ t. 1; Good = λ t. Unit {0} })
+-- no words, one draw
+abbrev oneDraw : Format (Unit {0})
+oneDraw = record { words = λ t. []; draws = λ t. 1; Good = λ t. Unit {0} }
+
+count-reads : Reads countDraw oneDraw
 unfolding countDraw
 count-reads = record {
   takes = record { taken = λ ws k t rest j h e. taking ws k t rest j (ltb k 8) refl e };
@@ -44,11 +49,11 @@ count-reads = record {
   where
     taking : (ws : List ℕ) (k : ℕ) (t : Unit {0}) (rest : List ℕ) (j : ℕ) (b : Bool) → ltb k 8 ≡ b →
         (elim b as (λ c. Read (Unit {0})) [ true ↦ got tt ws (k + 1) | false ↦ refused tooDeep ]) ≡ got t rest j →
-        Taken (Made (record { words = λ t. []; draws = λ t. 1; Good = λ t. Unit {0} })) ws k t rest j
+        Taken (Made oneDraw) ws k t rest j
     taking ws k t rest j true h e =
         let l : ws ≡ rest = cc in
         let o : k + 1 ≡ j = cc in
-        record { words = []; draws = 1; front = l; count = omega arith; few = omega (arith, ltb-true k 8 h); so = record { spelled = refl; met = refl; good = tt } }
+        record { words = []; draws = 1; front = l; count = omega arith; few = omega (arith, ltb-true k 8 h); so = made tt }
     taking ws k t rest j false h e = impossible cc
 
 module _ (known levels : ℕ) (inner : ℕ → Reader Expr) (inner-reads : (m : ℕ) → Reads (inner m) (expression known levels m)) where
@@ -114,7 +119,7 @@ module _ (known levels : ℕ) (inner : ℕ → Reader Expr) (inner-reads : (m : 
   head-reads : (n : ℕ) → Reads (body inner zero n) (guards known levels zero n)
   unfolding body bodyWords bodyDepth bodyDraws guardCount FitBody
   head-reads n = record {
-    takes = last-takes head (row-reads n) (λ r g. record { spelled = refl; met = refl; good = record { fit = g; shallow = omega arith; guards = refl } });
+    takes = last-takes head (row-reads n) (λ r g. made (record { fit = g; shallow = omega arith; guards = refl }));
     returns = returning;
   }
     where
@@ -133,14 +138,14 @@ module _ (known levels : ℕ) (inner : ℕ → Reader Expr) (inner-reads : (m : 
       record { takes = word-takes (guardAs-takes c n (λ m. body inner c m) rest); returns = guard-returns c n (λ m. body inner c m) rest }
 
   -- the numbers of definitions, names and counts of guards
-  definition-reads : Reads (wordWhere notInScope (λ d. ltb d known)) (plain (λ d. d ∷ []) (λ d. d < known))
-  definition-reads = where-reads notInScope (λ d. ltb d known) (λ d. d < known) (λ d. (ltb→lt d known, lt→ltb d known))
+  definition-reads : Reads (wordWhere notInScope (λ d. ltb d known)) (oneWord (λ d. d < known))
+  definition-reads = where-reads notInScope (λ d. ltb d known) (λ d. (ltb→lt d known, lt→ltb d known))
 
-  name-reads : Reads (wordWhere badWord isName) (plain (λ m. m ∷ []) (λ m. T (isName m)))
-  name-reads = where-reads badWord isName (λ m. T (isName m)) (λ m. (λ h. h, λ h. h))
+  name-reads : Reads (wordWhere badWord isName) (oneWord (λ m. T (isName m)))
+  name-reads = where-reads badWord isName (λ m. iff-refl)
 
-  guardCount-reads : Reads (wordWhere badWord (λ c. leb c 8)) (plain (λ c. c ∷ []) (λ c. c ≤ 8))
-  guardCount-reads = where-reads badWord (λ c. leb c 8) (λ c. c ≤ 8) (λ c. (leb→le c 8, le→leb c 8))
+  guardCount-reads : Reads (wordWhere badWord (λ c. leb c 8)) (oneWord (λ c. c ≤ 8))
+  guardCount-reads = where-reads badWord (λ c. leb c 8) (λ c. (leb→le c 8, le→leb c 8))
 
   module _ (n : ℕ) where
     -- union and difference: two expressions
@@ -156,17 +161,17 @@ module _ (known levels : ℕ) (inner : ℕ → Reader Expr) (inner-reads : (m : 
     exprAs-takes : (w : ℕ) → Takes (exprAs known inner n (codeOf w)) (λ e u d. Made (expression known (suc levels) n) e (w ∷ u) d)
     unfolding exprAs codeOf exprWords depth drawCount Fit
     exprAs-takes zero = refuse-takes badWord
-    exprAs-takes (suc zero) = last-takes finite (rows-reads n) (λ rs g. record { spelled = refl; met = refl; good = record { fit = g; shallow = omega arith } })
-    exprAs-takes (suc (suc zero)) = last-takes cofinite (rows-reads n) (λ rs g. record { spelled = refl; met = refl; good = record { fit = g; shallow = omega arith } })
-    exprAs-takes (suc (suc (suc zero))) = last-takes definition definition-reads (λ d g. record { spelled = refl; met = refl; good = record { fit = g; shallow = omega arith } })
+    exprAs-takes (suc zero) = last-takes finite (rows-reads n) (λ rs g. made (record { fit = g; shallow = omega arith }))
+    exprAs-takes (suc (suc zero)) = last-takes cofinite (rows-reads n) (λ rs g. made (record { fit = g; shallow = omega arith }))
+    exprAs-takes (suc (suc (suc zero))) = last-takes definition definition-reads (λ d g. made (record { fit = g; shallow = omega arith }))
     exprAs-takes (suc (suc (suc (suc zero)))) =
         then-takes (issuer-reads n) (λ t f.
         then-takes name-reads (λ m g.
-        last-takes (listed t m) polarity-reads (λ p h. record { spelled = refl; met = refl; good = record { fit = (f, g); shallow = omega arith } })))
+        last-takes (listed t m) polarity-reads (λ p h. made (record { fit = (f, g); shallow = omega arith }))))
     exprAs-takes (suc (suc (suc (suc (suc zero))))) =
-        parts-take union _ (λ a b f g. record { spelled = refl; met = refl; good = record { fit = (f .fit, g .fit); shallow = omega (arith, f .shallow, g .shallow) } })
+        parts-take union _ (λ a b f g. made (record { fit = (f .fit, g .fit); shallow = omega (arith, f .shallow, g .shallow) }))
     exprAs-takes (suc (suc (suc (suc (suc (suc zero)))))) =
-        parts-take difference _ (λ a b f g. record { spelled = refl; met = refl; good = record { fit = (f .fit, g .fit); shallow = omega (arith, f .shallow, g .shallow) } })
+        parts-take difference _ (λ a b f g. made (record { fit = (f .fit, g .fit); shallow = omega (arith, f .shallow, g .shallow) }))
     exprAs-takes (suc (suc (suc (suc (suc (suc (suc zero))))))) =
         then-takes guardCount-reads (λ c f.
         last-takes comprehension (body-reads c n) (λ b g. record {
@@ -206,7 +211,7 @@ depth-some (comprehension b) = omega arith
 pub expr-reads : (known levels n : ℕ) → Reads (expr known levels n) (expression known levels n)
 unfolding expr
 expr-reads known zero n = record {
-  takes = then-takes (where-reads badWord isCode (λ c. T (isCode c)) (λ c. (λ h. h, λ h. h))) (λ c g. refuse-takes tooDeep);
+  takes = then-takes (where-reads badWord isCode (λ c. iff-refl)) (λ c g. refuse-takes tooDeep);
   returns = λ e f. absurd (omega (arith, depth-some e, f .shallow));
 }
 expr-reads known (suc levels) n =

@@ -3,7 +3,8 @@
 -- has one lemma, `X-reads`, made of the few below.
 use Prim.Native.Nat.{ℕ, _+_, _≤_}
 use mathlib.Core.Path.{_≡_, refl, ap}
-use mathlib.Core.List.{List, [], _∷_, _++_, append-assoc}
+use mathlib.Core.List.{List, [], _∷_, _++_, append-assoc, append-nil}
+use native.Mathlib.Nat.{add-zero}
 use native.Mathlib.Omega.{arith}
 use Rattle.policy.specs.Decode.{Read, got, refused, Reader, after, give, refuse, word}
 use Rattle.policy.proofs.Basics.{impossible}
@@ -17,11 +18,18 @@ pub record Format (A : Type 0) : Type 1 where
 abbrev pub plain : {A : Type 0} → (A → List ℕ) → (A → Type 0) → Format A
 plain spelling rule = record { words = spelling; draws = λ a. 0; Good = rule }
 
+-- one word
+abbrev pub oneWord : (ℕ → Type 0) → Format ℕ
+oneWord rule = plain (λ w. w ∷ []) rule
+
 -- a value of the format, its words and its draws
 pub record Made {A : Type 0} (F : Format A) (a : A) (u : List ℕ) (d : ℕ) : Type 0 where
   pub spelled : u ≡ F .words a
   pub met : d ≡ F .draws a
   pub good : F .Good a
+
+pub made : {A : Type 0} {F : Format A} {a : A} → F .Good a → Made F a (F .words a) (F .draws a)
+made g = record { spelled = refl; met = refl; good = g }
 
 -- words are taken off the front, draws are met, and there are no more than eight so far
 pub record Taken {A : Type 0} (Q : A → List ℕ → ℕ → Type 0) (ws : List ℕ) (k : ℕ) (a : A) (rest : List ℕ) (j : ℕ) : Type 0 where
@@ -85,24 +93,8 @@ module _ {A B : Type 0} {m : Reader A} {F : Format A} where
 
   -- m last, its value being part of what is given
   pub last-takes : {Q : B → List ℕ → ℕ → Type 0} (c : A → B) → Reads m F → ((a : A) → F .Good a → Q (c a) (F .words a) (F .draws a)) →
-      Takes (λ ws k. after (m ws k) (λ a us i. got (c a) us i)) Q
-  last-takes {Q} c x q = record { taken = λ ws k b rest j h e. go ws k b rest j h (m ws k) refl e }
-    where
-      go : (ws : List ℕ) (k : ℕ) (b : B) (rest : List ℕ) (j : ℕ) → k ≤ 8 → (r : Read A) → m ws k ≡ r → after r (λ a us i. got (c a) us i) ≡ got b rest j → Taken Q ws k b rest j
-      go ws k b rest j h (got a vs i) p e =
-          let f : c a ≡ b = cc in
-          let l : vs ≡ rest = cc in
-          let o : i ≡ j = cc in
-          let y = x .takes .taken ws k a vs i h p in
-          record {
-            words = F .words a;
-            draws = F .draws a;
-            front = rw (y .so .spelled, l) at (y .front);
-            count = omega (arith, y .count, y .so .met);
-            few = rw o at (y .few);
-            so = rw f at (q a (y .so .good));
-          }
-      go ws k b rest j h (refused n) p e = impossible cc
+      Takes (λ ws k. after (m ws k) (λ a. give (c a))) Q
+  last-takes {Q} c x q = then-takes x (λ a g. give-takes (c a) (rw (append-nil, add-zero) (q a g)))
 
   pub then-returns : {b : B} {v : List ℕ} {e : ℕ} (f : A → Reader B) → Reads m F → (a : A) → F .Good a → Returns (f a) b v e →
       Returns (λ ws k. after (m ws k) f) b (F .words a ++ v) (F .draws a + e)
@@ -114,7 +106,7 @@ module _ {A B : Type 0} {m : Reader A} {F : Format A} where
         rw (append-assoc, s, t, o);
   }
 
-  pub last-returns : (c : A → B) → Reads m F → (a : A) → F .Good a → Returns (λ ws k. after (m ws k) (λ a us i. got (c a) us i)) (c a) (F .words a) (F .draws a)
+  pub last-returns : (c : A → B) → Reads m F → (a : A) → F .Good a → Returns (λ ws k. after (m ws k) (λ a. give (c a))) (c a) (F .words a) (F .draws a)
   last-returns c x a g = record { back = λ rest k h. rw (x .returns a g .back rest k h) }
 
 -- m alone

@@ -11,23 +11,24 @@ use Rattle.refusals.specs.Table.{badWord, notInScope}
 use Rattle.rows.specs.Word.{All}
 use Rattle.rows.specs.Row.{isKey}
 use Rattle.rows.specs.Name.{Polarity, plus, minus, isPolarity, polarityOf, polarityWord}
+use Rattle.rows.proofs.Case.{iff-refl}
 use Rattle.policy.specs.Syntax.{Term, atom, var, Slot, old, new}
 use Rattle.policy.specs.Words.{termWords, each, termRowWords, slotWords, fresh}
 use Rattle.policy.specs.WellFormed.{FitTerm, FitIssuer, FitRow, FitRows, FitSlots}
 use Rattle.policy.specs.Decode.{Reader, after, give, need, word, wordWhere, times, polarity, tagOf, termAs, anyAtom, term, issuer, width, row, rows, Pattern, push, slotAs, slots}
 use Rattle.policy.proofs.Basics.{both-hold}
-use Rattle.policy.proofs.Format.{Format, plain, Made, Takes, Returns, Reads, refuse-takes, give-takes, give-returns, then-takes, last-takes, whole-takes, then-returns, last-returns, word-takes, word-returns}
+use Rattle.policy.proofs.Format.{Format, plain, oneWord, Made, made, Takes, Returns, Reads, refuse-takes, give-takes, give-returns, then-takes, last-takes, whole-takes, then-returns, last-returns, word-takes, word-returns}
 
 -- a word that keeps a rule
-pub where-reads : (n : ℕ) (rule : ℕ → Bool) (Good : ℕ → Type 0) → ((w : ℕ) → T (rule w) ↔ Good w) → Reads (wordWhere n rule) (plain (λ w. w ∷ []) Good)
+pub where-reads : {Good : ℕ → Type 0} (n : ℕ) (rule : ℕ → Bool) → ((w : ℕ) → T (rule w) ↔ Good w) → Reads (wordWhere n rule) (oneWord Good)
 unfolding wordWhere
-where-reads n rule Good same = record {
+where-reads {Good} n rule same = record {
   takes = word-takes (λ w. taking w (rule w) (same w .0));
   returns = λ w g. word-returns w (returning w (rule w) (same w .1 g));
 }
   where
-    taking : (w : ℕ) (b : Bool) → (T b → Good w) → Takes (λ ws k. after (need n b ws k) (λ t. give w)) (λ v u d. Made (plain (λ w. w ∷ []) Good) v (w ∷ u) d)
-    taking w true g = give-takes w (record { spelled = refl; met = refl; good = g tt })
+    taking : (w : ℕ) (b : Bool) → (T b → Good w) → Takes (λ ws k. after (need n b ws k) (λ t. give w)) (λ v u d. Made (oneWord Good) v (w ∷ u) d)
+    taking w true g = give-takes w (made (g tt))
     taking w false g = refuse-takes n
 
     returning : (w : ℕ) (b : Bool) → T b → Returns (λ ws k. after (need n b ws k) (λ t. give w)) w [] 0
@@ -40,7 +41,7 @@ many spelling Good c = plain (each spelling) (λ xs. All Good xs × (length xs �
 pub times-reads : {A : Type 0} {m : Reader A} {spelling : A → List ℕ} {Good : A → Type 0} → Reads m (plain spelling Good) → (c : ℕ) → Reads (times c m) (many spelling Good c)
 unfolding times each All
 times-reads {A} {m} {spelling} {Good} x zero = record {
-  takes = give-takes [] (record { spelled = refl; met = refl; good = (tt, refl) });
+  takes = give-takes [] (made (tt, refl));
   returns = λ xs g. returning xs (g .1);
 }
   where
@@ -50,7 +51,7 @@ times-reads {A} {m} {spelling} {Good} x zero = record {
 times-reads {A} {m} {spelling} {Good} x (suc c) =
     let more = times-reads x c in
     record {
-      takes = then-takes x (λ a g. last-takes (λ xs. a ∷ xs) more (λ xs h. record { spelled = refl; met = refl; good = ((g, h .0), ap suc (h .1)) }));
+      takes = then-takes x (λ a g. last-takes (λ xs. a ∷ xs) more (λ xs h. made ((g, h .0), ap suc (h .1))));
       returns = λ xs g. returning more xs (g .0) (g .1);
     }
   where
@@ -62,12 +63,12 @@ pub polarity-reads : Reads polarity (plain (λ p. polarityWord p ∷ []) (λ p. 
 unfolding polarity polarityOf polarityWord
 polarity-reads = record { takes = last-takes polarityOf word-reads taking; returns = λ p g. returning p }
   where
-    word-reads : Reads (wordWhere badWord isPolarity) (plain (λ w. w ∷ []) (λ w. w ≤ 1))
-    word-reads = where-reads badWord isPolarity (λ w. w ≤ 1) (λ w. (leb→le w 1, le→leb w 1))
+    word-reads : Reads (wordWhere badWord isPolarity) (oneWord (λ w. w ≤ 1))
+    word-reads = where-reads badWord isPolarity (λ w. (leb→le w 1, le→leb w 1))
 
     taking : (w : ℕ) → w ≤ 1 → Made (plain (λ p. polarityWord p ∷ []) (λ p. Unit {0})) (polarityOf w) (w ∷ []) 0
-    taking zero h = record { spelled = refl; met = refl; good = tt }
-    taking (suc zero) h = record { spelled = refl; met = refl; good = tt }
+    taking zero h = made tt
+    taking (suc zero) h = made tt
     taking (suc (suc w)) h = absurd (omega arith)
 
     returning : (p : Polarity) → Returns polarity p (polarityWord p ∷ []) 0
@@ -95,15 +96,15 @@ module _ (rule : ℕ → Bool) (n : ℕ) (Good : Term → Type 0) (atoms : (a : 
   unfolding termAs tagOf tagWord untagged
   termAs-reads w = record { takes = taking w; returns = λ t g. rw (g .1) at (returning t (g .0)) }
     where
-      atom-reads : Reads (wordWhere badWord rule) (plain (λ a. a ∷ []) (λ a. Good (atom a)))
-      atom-reads = where-reads badWord rule (λ a. Good (atom a)) atoms
+      atom-reads : Reads (wordWhere badWord rule) (oneWord (λ a. Good (atom a)))
+      atom-reads = where-reads badWord rule atoms
 
-      var-reads : Reads (wordWhere notInScope (λ i. ltb i n)) (plain (λ i. i ∷ []) (λ i. Good (var i)))
-      var-reads = where-reads notInScope (λ i. ltb i n) (λ i. Good (var i)) vars
+      var-reads : Reads (wordWhere notInScope (λ i. ltb i n)) (oneWord (λ i. Good (var i)))
+      var-reads = where-reads notInScope (λ i. ltb i n) vars
 
       taking : (w : ℕ) → Takes (termAs rule n (tagOf w)) (Made (plain untagged (λ t. Good t × (tagWord t ≡ w))))
-      taking zero = last-takes atom atom-reads (λ a g. record { spelled = refl; met = refl; good = (g, refl) })
-      taking (suc zero) = last-takes var var-reads (λ i g. record { spelled = refl; met = refl; good = (g, refl) })
+      taking zero = last-takes atom atom-reads (λ a g. made (g, refl))
+      taking (suc zero) = last-takes var var-reads (λ i g. made (g, refl))
       taking (suc (suc zero)) = refuse-takes badWord
       taking (suc (suc (suc w))) = refuse-takes badWord
 
@@ -131,11 +132,11 @@ term-reads n = tagged-reads anyAtom n (FitTerm n) (fit-atom n) (fit-var n)
 
 pub issuer-reads : (n : ℕ) → Reads (issuer n) (plain termWords (FitIssuer n))
 unfolding issuer FitIssuer
-issuer-reads n = tagged-reads isKey n (FitIssuer n) (λ a. (λ h. h, λ h. h)) (λ i. (ltb→lt i n, lt→ltb i n))
+issuer-reads n = tagged-reads isKey n (FitIssuer n) (λ a. iff-refl) (λ i. (ltb→lt i n, lt→ltb i n))
 
 -- a count, then so many things
 counted-reads : {A : Type 0} {m : Reader A} {spelling : A → List ℕ} {Good : A → Type 0} {number : Reader ℕ} {Count : ℕ → Type 0} (Fit : List A → Type 0) →
-    ((xs : List A) → (Count (length xs) × All Good xs) ↔ Fit xs) → Reads number (plain (λ c. c ∷ []) Count) → Reads m (plain spelling Good) →
+    ((xs : List A) → (Count (length xs) × All Good xs) ↔ Fit xs) → Reads number (oneWord Count) → Reads m (plain spelling Good) →
     Reads (λ ws k. after (number ws k) (λ c. times c m)) (plain (λ xs. length xs ∷ each spelling xs) Fit)
 counted-reads {Count} Fit fits x y = record {
   takes = then-takes x (λ c g. whole-takes (times-reads y c) (λ xs h. record { spelled = rw (h .1); met = refl; good = fits xs .0 (rw (h .1) g, h .0) }));
@@ -146,9 +147,9 @@ between : (a b w : ℕ) → T (leb a w && leb w b) ↔ ((a ≤ w) × (w ≤ b))
 between a b w =
     (λ t. let h = both-hold (leb a w) (leb w b) .0 t in (leb→le a w (h .0), leb→le w b (h .1)), λ h. both-hold (leb a w) (leb w b) .1 (le→leb a w (h .0), le→leb w b (h .1)))
 
-pub width-reads : Reads width (plain (λ w. w ∷ []) (λ w. (1 ≤ w) × (w ≤ 4)))
+pub width-reads : Reads width (oneWord (λ w. (1 ≤ w) × (w ≤ 4)))
 unfolding width
-width-reads = where-reads badWord (λ w. leb 1 w && leb w 4) (λ w. (1 ≤ w) × (w ≤ 4)) (between 1 4)
+width-reads = where-reads badWord (λ w. leb 1 w && leb w 4) (between 1 4)
 
 pub row-reads : (n : ℕ) → Reads (row n) (plain termRowWords (FitRow n))
 unfolding row termRowWords
@@ -158,7 +159,7 @@ pub rows-reads : (n : ℕ) → Reads (rows n) (plain (λ rs. length rs ∷ each 
 unfolding rows
 rows-reads n =
     counted-reads (FitRows n) (λ rs. (λ h. record { few = h .0; rows = h .1 }, λ h. (h .few, h .rows)))
-    (where-reads badWord (λ c. leb c 128) (λ c. c ≤ 128) (λ c. (leb→le c 128, le→leb c 128))) (row-reads n)
+    (where-reads badWord (λ c. leb c 128) (λ c. (leb→le c 128, le→leb c 128))) (row-reads n)
 
 -- a pattern of c slots, n variables being in scope before it
 pub record FitSlotsOf (c n : ℕ) (p : Pattern) : Type 0 where
@@ -172,7 +173,7 @@ pattern c n = plain (λ p. slotWords n (p .0)) (FitSlotsOf c n)
 no-slots : (n : ℕ) → Reads (slots zero n) (pattern zero n)
 unfolding slots slotWords fresh FitSlots
 no-slots n = record {
-  takes = give-takes ([], n) (record { spelled = refl; met = refl; good = record { slots = tt; size = refl; scope = omega arith } });
+  takes = give-takes ([], n) (made (record { slots = tt; size = refl; scope = omega arith }));
   returns = λ p g. returning (p .0) (p .1) (g .size) (g .scope);
 }
   where
@@ -185,8 +186,8 @@ module _ (c n : ℕ) (more : (m : ℕ) → Reads (slots c m) (pattern c m)) wher
   old-reads : (w : ℕ) → Reads (termAs anyAtom n (tagOf w)) (plain untagged (λ t. FitTerm n t × (tagWord t ≡ w)))
   old-reads = termAs-reads anyAtom n (FitTerm n) (fit-atom n) (fit-var n)
 
-  new-reads : Reads (wordWhere notInScope (λ v. eqb v n && leb v 15)) (plain (λ v. v ∷ []) (λ v. (v ≡ n) × (n ≤ 15)))
-  new-reads = where-reads notInScope (λ v. eqb v n && leb v 15) (λ v. (v ≡ n) × (n ≤ 15)) fits
+  new-reads : Reads (wordWhere notInScope (λ v. eqb v n && leb v 15)) (oneWord (λ v. (v ≡ n) × (n ≤ 15)))
+  new-reads = where-reads notInScope (λ v. eqb v n && leb v 15) fits
     where
       fits : (v : ℕ) → T (eqb v n && leb v 15) ↔ ((v ≡ n) × (n ≤ 15))
       fits v = (
