@@ -42,7 +42,7 @@ pub about-key : (w : List ℕ) → soundRecord w ≡ true → isKey (certificate
 unfolding certificateOf
 about-key w e = sound-record w e .key
 
-row-width : (ws : List ℕ) → soundRow ws ≡ true → (1 ≤ getD ws 0 0) × (getD ws 0 0 ≤ 4)
+pub row-width : (ws : List ℕ) → soundRow ws ≡ true → (1 ≤ getD ws 0 0) × (getD ws 0 0 ≤ 4)
 unfolding soundRow
 row-width ws e =
     let a = and-true (leb 1 (getD ws 0 0)) _ e in

@@ -2,3 +2,4 @@ pub mod Certificate
 pub mod Store
 pub mod Filing
 pub mod NamePart
+pub mod Steps

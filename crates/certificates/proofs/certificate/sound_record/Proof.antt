@@ -1,0 +1,69 @@
+use borrow.Author.Needs.{needs}
+use Prim.Native.Nat.{ℕ, _-_}
+use mathlib.Core.Path.{_∙_, ap}
+use mathlib.Core.List.{List}
+use native.Mathlib.Omega.{arith}
+use lib.ListN.{length, drop}
+use Rattle.rows.specs.Layout.{soundRow}
+use lib.ListN.{length-drop}
+use lib.Seq.{take-all}
+use Rattle.certificates.proofs.Words.{not-eight, no-key, no-name, no-polarity, its-row}
+use Rattle.certificates.proofs.certificate.sound_record.Statement.{statement}
+use Rattle.certificates.proofs.certificate.sound_record.Tie as tie
+
+returns : tie.Need-returns
+returns c = not-eight (c .before .before .args .words .now) (c .if1 .taken)
+
+shared-slice-read-if2 : tie.Need-shared-slice-read-if2
+shared-slice-read-if2 c = search needs
+
+returns-2 : tie.Need-returns-2
+returns-2 c = no-key (c .before .before .before .before .args .words .now) (c .before .before .if1 .left) (c .if2 .taken)
+
+shared-slice-read-if3 : tie.Need-shared-slice-read-if3
+shared-slice-read-if3 c = search needs
+
+returns-3 : tie.Need-returns-3
+returns-3 c = no-name (c .before .before .before .before .before .before .args .words .now) (c .before .before .before .before .if1 .left) (c .before .before .if2 .left) (c .if3 .taken)
+
+shared-slice-read-if4 : tie.Need-shared-slice-read-if4
+shared-slice-read-if4 c = search needs
+
+returns-4 : tie.Need-returns-4
+returns-4 c = no-polarity (c .before .before .before .before .before .before .before .before .args .words .now) (c .before .before .before .before .before .before .if1 .left) (c .before .before .before .before .if2 .left) (c .before .before .if3 .left) (c .if4 .taken)
+
+sub-sound-row : tie.Need-sub-sound-row
+sub-sound-row c = search needs
+
+part-sound-row-start : tie.Need-part-sound-row-start
+part-sound-row-start c = search needs
+
+part-sound-row-end : tie.Need-part-sound-row-end
+part-sound-row-end c = search needs
+
+sound-row-requires : tie.Need-sound-row-requires
+sound-row-requires c κs = search needs
+
+returns-5 : tie.Need-returns-5
+returns-5 c =
+    let w : List ℕ = c .before .before .before .before .before .before .before .before .before .before .args .words .now in
+    c .sound-row .ensures
+    ∙ ap soundRow (take-all (length w - 3) (drop 3 w) (omega (arith, length-drop 3 w)))
+    ∙ its-row w (c .before .before .before .before .before .before .before .before .if1 .left) (c .before .before .before .before .before .before .if2 .left) (c .before .before .before .before .if3 .left) (c .before .before .if4 .left)
+
+pub sound-record-spec : {M : Type 1} → statement M
+sound-record-spec =
+    tie.close
+    (tie.spec
+    returns
+    shared-slice-read-if2
+    returns-2
+    shared-slice-read-if3
+    returns-3
+    shared-slice-read-if4
+    returns-4
+    sub-sound-row
+    part-sound-row-start
+    part-sound-row-end
+    sound-row-requires
+    returns-5)

@@ -1,0 +1,40 @@
+-- What the code's inner functions do, in terms of the store's words. No promise of a public call names any of this.
+use Prim.Native.Nat.{ℕ, suc, _+_, _-_, _*_}
+use mathlib.Core.Bool.{Bool, true, false, not, _&&_}
+use mathlib.Core.List.{List, [], _∷_, _++_}
+use lib.Dec.{ltb, eqb}
+use lib.ListN.{length, getD, take, drop, set}
+use Rattle.certificates.specs.Certificate.{recordWords, soundRecord, recordBefore}
+use Rattle.certificates.specs.Store.{countOf}
+
+unfoldable pub recordAt : List ℕ → ℕ → List ℕ
+recordAt store i = take recordWords (drop (1 + recordWords * i) store)
+
+-- record i, of so many, is sound and comes before the next, if there is one
+unfoldable pub soundAt : List ℕ → ℕ → ℕ → Bool
+soundAt store count i = soundRecord (recordAt store i) && elim (eqb (i + 1) count) [ true ↦ true | false ↦ recordBefore (recordAt store i) (recordAt store (i + 1)) ]
+
+-- how many from the front on pass the test
+unfoldable pub leading : {A : Type 0} → (A → Bool) → List A → ℕ
+leading f [] = 0
+leading f (x ∷ xs) = elim (f x) [ true ↦ suc (leading f xs) | false ↦ 0 ]
+
+-- how many of the records come before these words
+unfoldable pub placeIn : List (List ℕ) → List ℕ → ℕ
+placeIn rs w = leading (λ r. recordBefore r w) rs
+
+-- the record at the place, if there is one, is not past these words
+unfoldable pub heldAt : List ℕ → ℕ → List ℕ → Bool
+heldAt store place w = ltb place (countOf store) && not (recordBefore w (recordAt store place))
+
+-- the words from `start` to `end` moved up by one record
+unfoldable pub movedUp : List ℕ → ℕ → ℕ → List ℕ
+movedUp store start end = take (start + recordWords) store ++ (take (end - start) (drop start store) ++ drop (end + recordWords) store)
+
+-- the words with w put in at `at`, and those from there to `end` moved up
+unfoldable pub putAt : List ℕ → ℕ → ℕ → List ℕ → List ℕ
+putAt store at end w = take at store ++ (w ++ (take (end - at) (drop at store) ++ drop (end + recordWords) store))
+
+-- the store with w put in at a place, and the count raised
+unfoldable pub putIn : List ℕ → ℕ → List ℕ → List ℕ
+putIn store place w = set (putAt store (1 + recordWords * place) (1 + recordWords * countOf store) w) 0 (countOf store + 1)

@@ -1,0 +1,130 @@
+// The store's words: a count, then the records in order.
+ghost use Prim.Native.Nat.{_+_, _*_, _≤_, _<_};
+ghost use mathlib.Core.Path.{_≡_};
+ghost use mathlib.Core.Bool.{true};
+ghost use mathlib.Core.List.{_++_};
+ghost use lib.ListN.{length, take, drop};
+ghost use Rattle.certificates.specs.Certificate.{recordWords};
+ghost use Rattle.certificates.specs.Store.{capacity, countOf, records, soundStore};
+ghost use Rattle.certificates.specs.Steps.{recordAt, soundAt, placeIn, heldAt, movedUp, putIn};
+use crate::certificate::RECORD_WORDS;
+use crate::certificate::sound_record;
+use crate::certificate::words_before;
+
+pub const CAPACITY: u32 = 2000;
+
+// the count and room for every record
+const STORE_WORDS: usize = 16001;
+
+// The words of record `i`.
+fn record_at<'a>(store: &'a [u32], i: usize) -> &'a [u32]
+    requires { ⌜ 1 + recordWords * (i + 1) ≤ length (now store) ⌝ }
+    ensures { λ r. ⌜ now r ≡ recordAt (now (store .entry)) i ⌝ }
+{
+    let start = 1 + RECORD_WORDS * i;
+    let end = start + RECORD_WORDS;
+    &store[start..end]
+}
+
+// Is record `i` of `count` sound, and does it come before the next?
+fn sound_at(store: &[u32], count: usize, i: usize) -> bool
+    requires { ⌜ (i < count) × (1 + recordWords * count ≤ length (now store)) ⌝ }
+    ensures { λ r. ⌜ r ≡ soundAt (now (store .entry)) count i ⌝ }
+{
+    let this = record_at(store, i);
+    if !sound_record(this) {
+        return false;
+    }
+    if i + 1 == count {
+        return true;
+    }
+    words_before(this, record_at(store, i + 1))
+}
+
+// Is the store long enough, its count in range, and each record sound and in order?
+pub fn sound_store(store: &[u32]) -> bool
+    ensures { λ r. ⌜ r ≡ soundStore (now (store .entry)) ⌝ }
+{
+    if store.len() < STORE_WORDS {
+        return false;
+    }
+    if CAPACITY < store[0] {
+        return false;
+    }
+    let count = store[0] as usize;
+    let mut i: usize = 0;
+    while i < count {
+        if !sound_at(store, count, i) {
+            return false;
+        }
+        i += 1;
+    }
+    true
+}
+
+// How many records of a sound store come before these words: their place among them, by binary search.
+pub fn place_of(store: &[u32], words: &[u32]) -> usize
+    requires { ⌜ soundStore (now store) ≡ true ⌝ }
+    ensures { λ r. ⌜ r ≡ placeIn (records (now (store .entry))) (now (words .entry)) ⌝ }
+{
+    let mut low: usize = 0;
+    let mut high = store[0] as usize;
+    while low < high {
+        let middle = low + (high - low) / 2;
+        if words_before(record_at(store, middle), words) {
+            low = middle + 1;
+        } else {
+            high = middle;
+        }
+    }
+    low
+}
+
+// Is the certificate the record at its place?
+pub fn is_held(store: &[u32], place: usize, certificate: &[u32]) -> bool
+    requires { ⌜ 1 + recordWords * countOf (now store) ≤ length (now store) ⌝ }
+    ensures { λ r. ⌜ r ≡ heldAt (now (store .entry)) place (now (certificate .entry)) ⌝ }
+{
+    if place < store[0] as usize {
+        !words_before(certificate, record_at(store, place))
+    } else {
+        false
+    }
+}
+
+// Moves the words from `start` to `end` up by one record.
+fn move_up(store: &mut [u32], start: usize, end: usize)
+    requires { ⌜ (start ≤ end) × (end + recordWords ≤ length (now store)) ⌝ }
+    ensures { λ _. ⌜ now (store .exit) ≡ movedUp (now (store .entry)) start end ⌝ }
+{
+    let mut i = end;
+    while start < i {
+        i -= 1;
+        store[i + RECORD_WORDS] = store[i];
+    }
+}
+
+// Writes a record over the words from `at` on.
+fn write_record(store: &mut [u32], at: usize, certificate: &[u32])
+    requires { ⌜ (length (now certificate) ≡ recordWords) × (at + recordWords ≤ length (now store)) ⌝ }
+    ensures { λ _. ⌜ now (store .exit) ≡ take at (now (store .entry)) ++ (now (certificate .entry) ++ drop (at + recordWords) (now (store .entry))) ⌝ }
+{
+    let mut j: usize = 0;
+    while j < RECORD_WORDS {
+        store[at + j] = certificate[j];
+        j += 1;
+    }
+}
+
+// Puts a record in at its place, moves the later ones up and raises the count.
+pub fn insert(store: &mut [u32], place: usize, certificate: &[u32])
+    requires { ⌜ (length (now certificate) ≡ recordWords) × ((place ≤ countOf (now store)) × ((countOf (now store) < capacity) × (1 + recordWords * (countOf (now store) + 1) ≤ length (now store)))) ⌝ }
+    ensures { λ _. ⌜ now (store .exit) ≡ putIn (now (store .entry)) place (now (certificate .entry)) ⌝ }
+{
+    let count = store[0];
+    let at = 1 + RECORD_WORDS * place;
+    let end = 1 + RECORD_WORDS * count as usize;
+    move_up(store, at, end);
+    write_record(store, at, certificate);
+    store[0] = count + 1;
+}
