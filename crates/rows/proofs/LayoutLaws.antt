@@ -6,15 +6,16 @@ use mathlib.Core.List.{List, [], _∷_, _++_, map, append-assoc}
 use native.Mathlib.Omega.{arith}
 use native.Mathlib.Nat.{mul-suc}
 use lib.Dec.{leb, eqb}
-use lib.ListN.{length, getD, take, drop, replicate, length-append, length-take, length-drop, length-map, length-replicate, take-append-drop}
+use lib.ListN.{length, getD, take, drop, replicate, length-append, length-take, length-drop, length-map, length-replicate, take-append-drop, List·getD-map}
 use lib.Seq.{take-append-seam, drop-append-seam, take-at, drop-at, length-take-le, take-add, drop-drop}
 use borrow.Author.Tests.{leb-true, le-leb, eqb-true}
 use Rattle.rows.specs.Word.{All, Words}
 use Rattle.rows.specs.Ordered.{ascending}
 use Rattle.rows.specs.Row.{Row, IsRow, rowBefore}
 use Rattle.rows.specs.Sets.{RowSet, only, allBut, listing, mostRows}
-use Rattle.rows.specs.Layout.{rowWords, rowIn, zeros, soundRow, flat, pieces, every, formWord, setWords, written, rowsIn, formed, setIn, soundSet}
+use Rattle.rows.specs.Layout.{rowWords, rowIn, fiveAt, zeros, soundRow, flat, pieces, every, formWord, setWords, written, rowsIn, formed, setIn, soundSet}
 use Rattle.rows.proofs.Case.{Case, isTrue, isFalse, split, never, and-true, true-and}
+use Rattle.rows.proofs.Scan.{every-at}
 use Rattle.rows.proofs.Order.{row-order}
 use Rattle.rows.proofs.Ordered.{ascending-true, true-ascending}
 use Rattle.rows.proofs.Sets.{Proper}
@@ -332,3 +333,46 @@ sound-written ws e =
     let u : flat (map rowWords (listing (setIn ws))) ++ drop (length (setWords (setIn ws))) ws ≡ drop 2 ws = cc in
     let v : ws ≡ getD ws 0 0 ∷ getD ws 1 0 ∷ drop 2 ws = two-and-rest ws (s .header) in
     cc
+
+-- ---- piece by piece
+
+pub piece-at : (size n : ℕ) (ws : List ℕ) (i : ℕ) → i < n → getD (pieces size n ws) i [] ≡ take size (drop (size * i) ws)
+unfolding pieces
+piece-at size zero ws i h = absurd (omega arith)
+piece-at size (suc n) ws zero h = let e : 0 ≡ size * 0 = omega arith in ap (λ (k : ℕ). take size (drop k ws)) e
+piece-at size (suc n) ws (suc i) h =
+    let e : size + size * i ≡ size * suc i = omega (arith, mul-suc size i) in
+    piece-at size n (drop size ws) i (omega arith) ∙ ap (take size) (drop-drop (size * i) size ws ∙ ap (λ (k : ℕ). drop k ws) e)
+
+-- row `i` of a set stands at word 2 + 5i
+pub row-piece : (n : ℕ) (ws : List ℕ) (i : ℕ) → i < n → getD (pieces 5 n (drop 2 ws)) i [] ≡ fiveAt ws (2 + 5 * i)
+row-piece n ws i h = piece-at 5 n (drop 2 ws) i h ∙ ap (take 5) (drop-drop (5 * i) 2 ws)
+
+pub row-at : (ws : List ℕ) (i : ℕ) → i < getD ws 1 0 → getD (rowsIn ws) i [] ≡ rowIn (fiveAt ws (2 + 5 * i))
+unfolding rowsIn rowIn
+row-at ws i h = List·getD-map rowIn (pieces 5 (getD ws 1 0) (drop 2 ws)) i [] ∙ ap rowIn (row-piece (getD ws 1 0) ws i h)
+
+pub piece-sound : (n : ℕ) (ws : List ℕ) (i : ℕ) → every soundRow (pieces 5 n (drop 2 ws)) ≡ true → i < n → soundRow (fiveAt ws (2 + 5 * i)) ≡ true
+piece-sound n ws i e h =
+    ap soundRow (sym (row-piece n ws i h)) ∙ every-at soundRow (pieces 5 n (drop 2 ws)) i [] e (omega (arith, length-pieces 5 n (drop 2 ws)))
+
+pub rows-count : (ws : List ℕ) → length (rowsIn ws) ≡ getD ws 1 0
+unfolding rowsIn
+rows-count ws = length-map (pieces 5 (getD ws 1 0) (drop 2 ws)) rowIn ∙ length-pieces 5 (getD ws 1 0) (drop 2 ws)
+
+-- ---- the test, step by step
+
+pub unsound : (ws : List ℕ) → (Sound ws → ⊥) → soundSet ws ≡ false
+unsound ws f = go (split (soundSet ws))
+  where
+    go : Case (soundSet ws) → soundSet ws ≡ false
+    go (isTrue e) = absurd (f (true-sound ws e))
+    go (isFalse e) = e
+
+pub sound-order : (ws : List ℕ) → 2 ≤ length ws → getD ws 0 0 ≤ 1 → getD ws 1 0 ≤ mostRows → 2 + 5 * getD ws 1 0 ≤ length ws →
+    every soundRow (pieces 5 (getD ws 1 0) (drop 2 ws)) ≡ true → soundSet ws ≡ ascending rowBefore (rowsIn ws)
+sound-order ws a b c d e = go (split (ascending rowBefore (rowsIn ws)))
+  where
+    go : Case (ascending rowBefore (rowsIn ws)) → soundSet ws ≡ ascending rowBefore (rowsIn ws)
+    go (isTrue o) = sound-true ws (record { header = a; form = b; count = c; whole = d; pieces = e; order = o }) ∙ sym o
+    go (isFalse o) = unsound ws (λ s. never (s .order) o) ∙ sym o

@@ -5,3 +5,5 @@ pub mod Sets
 pub mod LayoutLaws
 pub mod RowLaws
 pub mod Put
+pub mod Scan
+pub mod SetWords

@@ -6,15 +6,17 @@ use mathlib.Core.List.{List, [], _∷_, _++_}
 use native.Mathlib.Omega.{arith}
 use lib.ListN.{length, getD, take, drop, replicate, length-take, length-drop, getD-replicate, List·getD-append}
 use lib.Seq.{drop-cons, getD-take, getD-drop, getD-append-add, take-suc, take-all, length-take-le}
+use borrow.Author.Tests.{le-leb, lt-leb}
 use Rattle.rows.specs.Ordered.{wordsBefore}
 use Rattle.rows.specs.Row.{Row, rowBefore}
-use Rattle.rows.specs.Layout.{rowIn, rowWords, fiveAt}
+use Rattle.rows.specs.Layout.{rowIn, rowWords, fiveAt, zeros, soundRow}
 use Rattle.rows.specs.Values.{wordsOf, rowOf, orderOf}
 use Rattle.rows.specs.declared.row.Row as Held
 use Rattle.rows.specs.declared.row.Order as Order
 use Rattle.rows.specs.declared.row.Order.the-variants.{Before, Same, After}
 use Rattle.rows.proofs.Case.{Case, isTrue, isFalse, split, never}
 use Rattle.rows.proofs.LayoutLaws.{row-length}
+use Rattle.rows.proofs.Scan.{and-true-left, and-false-left, zeros-next, zeros-fails, zeros-end}
 use Rattle.rows.proofs.Order.{step-less, step-equal, row-order}
 
 -- ---- five words
@@ -49,6 +51,51 @@ pub row-in-atom : (ws : List ℕ) (j : ℕ) → j < getD ws 0 0 → getD (rowIn 
 unfolding rowIn
 row-in-atom ws j h = getD-take (getD ws 0 0) (drop 1 ws) j 0 h ∙ getD-drop 1 ws j 0
 
+-- is it a sound row? the words from `j` on are still to be looked at
+pub record Looked (ws : List ℕ) (at j : ℕ) : Type 0 where
+  pub within : j ≤ 4
+  pub rest : soundRow (fiveAt ws at) ≡ zeros (drop j (drop 1 (fiveAt ws at)))
+
+module _ (ws : List ℕ) (at : ℕ) (room : at + 5 ≤ length ws) where
+  pub no-width : getD ws at 0 < 1 → soundRow (fiveAt ws at) ≡ false
+  unfolding soundRow
+  no-width h = and-false-left _ _ (lt-leb 1 (getD (fiveAt ws at) 0 0) (omega (arith, five-width ws at)))
+
+  pub too-wide : 4 < getD ws at 0 → soundRow (fiveAt ws at) ≡ false
+  unfolding soundRow
+  too-wide h =
+      let w = five-width ws at in
+      and-true-left _ _ (le-leb 1 (getD (fiveAt ws at) 0 0) (omega arith)) ∙ and-false-left _ _ (lt-leb (getD (fiveAt ws at) 0 0) 4 (omega arith))
+
+  pub looked-start : (j : ℕ) → j ≡ getD ws at 0 → 1 ≤ j → j ≤ 4 → Looked ws at j
+  unfolding soundRow
+  looked-start j e a b =
+      let w = five-width ws at in
+      record {
+        within = b;
+        rest = and-true-left _ _ (le-leb 1 (getD (fiveAt ws at) 0 0) (omega arith)) ∙ and-true-left _ _ (le-leb (getD (fiveAt ws at) 0 0) 4 (omega arith))
+            ∙ ap (λ (k : ℕ). zeros (drop k (drop 1 (fiveAt ws at)))) (w ∙ sym e);
+      }
+
+  atoms-length : length (drop 1 (fiveAt ws at)) ≡ 4
+  atoms-length = omega (arith, length-drop 1 (fiveAt ws at), five-length ws at room)
+
+  module _ (j : ℕ) (l : Looked ws at j) where
+    pub looked-end : 4 ≤ j → soundRow (fiveAt ws at) ≡ true
+    looked-end h = l .rest ∙ zeros-end (drop 1 (fiveAt ws at)) j (omega (arith, atoms-length))
+
+    module _ (h : j < 4) where
+      atom-word : getD (drop 1 (fiveAt ws at)) j 0 ≡ getD ws (at + 1 + j) 0
+      atom-word =
+          let e : at + (1 + j) ≡ at + 1 + j = omega arith in
+          getD-drop 1 (fiveAt ws at) j 0 ∙ five-at ws at (1 + j) (omega arith) ∙ ap (λ (k : ℕ). getD ws k 0) e
+
+      pub looked-next : getD ws (at + 1 + j) 0 ≡ 0 → Looked ws at (j + 1)
+      looked-next e = record { within = omega arith; rest = l .rest ∙ zeros-next (drop 1 (fiveAt ws at)) j (omega (arith, atoms-length)) (atom-word ∙ e) }
+
+      pub looked-fails : (getD ws (at + 1 + j) 0 ≡ 0 → ⊥) → soundRow (fiveAt ws at) ≡ false
+      looked-fails e = l .rest ∙ zeros-fails (drop 1 (fiveAt ws at)) j (omega (arith, atoms-length)) (λ z. e (sym atom-word ∙ z))
+
 -- ---- which comes first
 
 pub first-differs : (x y : List ℕ) (j : ℕ) → take j x ≡ take j y → j < length x → j < length y → getD x j 0 < getD y j 0 → wordsBefore x y ≡ true
@@ -81,10 +128,45 @@ module _ (x y : Row) where
       let g : rowBefore y x ≡ false = ap (rowBefore y) e ∙ row-order .irreflexive y in
       rw (f, g, orderOf)
 
+  -- and back
+  pub before-order : orderOf x y ≡ Before → rowBefore x y ≡ true
+  unfolding orderOf
+  before-order e = go (split (rowBefore x y)) (split (rowBefore y x))
+    where
+      go : Case (rowBefore x y) → Case (rowBefore y x) → rowBefore x y ≡ true
+      go (isTrue f) g = f
+      go (isFalse f) (isTrue g) = let h = rw (f, g, orderOf) at e in let z : _≡_ {A = ℕ} 0 1 = cc in absurd (omega arith)
+      go (isFalse f) (isFalse g) = let h = rw (f, g, orderOf) at e in let z : _≡_ {A = ℕ} 0 1 = cc in absurd (omega arith)
+
+  pub after-order : orderOf x y ≡ After → rowBefore y x ≡ true
+  unfolding orderOf
+  after-order e = go (split (rowBefore x y)) (split (rowBefore y x))
+    where
+      go : Case (rowBefore x y) → Case (rowBefore y x) → rowBefore y x ≡ true
+      go (isTrue f) g = let h = rw (f, orderOf) at e in let z : _≡_ {A = ℕ} 0 1 = cc in absurd (omega arith)
+      go (isFalse f) (isTrue g) = g
+      go (isFalse f) (isFalse g) = let h = rw (f, g, orderOf) at e in let z : _≡_ {A = ℕ} 0 1 = cc in absurd (omega arith)
+
+  pub same-order : orderOf x y ≡ Same → x ≡ y
+  unfolding orderOf
+  same-order e = go (split (rowBefore x y)) (split (rowBefore y x))
+    where
+      go : Case (rowBefore x y) → Case (rowBefore y x) → x ≡ y
+      go (isTrue f) g = let h = rw (f, orderOf) at e in let z : _≡_ {A = ℕ} 0 1 = cc in absurd (omega arith)
+      go (isFalse f) (isTrue g) = let h = rw (f, g, orderOf) at e in let z : _≡_ {A = ℕ} 0 1 = cc in absurd (omega arith)
+      go (isFalse f) (isFalse g) = row-order .total x y f g
+
   -- narrower, or wider
   pub narrower : length x < length y → rowBefore x y ≡ true
   unfolding rowBefore
   narrower h = step-less (length x) (length y) (wordsBefore x y) h
+
+pub not-before : (x y : Row) → rowBefore y x ≡ true → rowBefore x y ≡ false
+not-before x y e = go (split (rowBefore x y))
+  where
+    go : Case (rowBefore x y) → rowBefore x y ≡ false
+    go (isTrue f) = never (row-order .transitive x y x f e) (row-order .irreflexive x)
+    go (isFalse f) = f
 
 -- the first atoms of two rows of one width are the same
 pub record Agree (x y : Row) (j : ℕ) : Type 0 where
@@ -125,6 +207,15 @@ held-length r l h = length-take-le (r .width) (r .atoms) (omega arith)
 pub held-atom : (r : Held.Row) (j : ℕ) → j < r .width → getD (rowOf r) j 0 ≡ getD (r .atoms) j 0
 unfolding rowOf
 held-atom r j h = getD-take (r .width) (r .atoms) j 0 h
+
+-- one that was loaded
+pub loaded-row : (r : Held.Row) (ws : List ℕ) (at : ℕ) → wordsOf r ≡ fiveAt ws at → rowOf r ≡ rowIn (fiveAt ws at)
+unfolding rowOf
+loaded-row r ws at e = ap rowIn e
+
+pub loaded-width : (r : Held.Row) (ws : List ℕ) (at : ℕ) → wordsOf r ≡ fiveAt ws at → r .width ≡ getD ws at 0
+unfolding wordsOf
+loaded-width r ws at e = ap (λ (l : List ℕ). getD l 0 0) e ∙ five-width ws at
 
 -- its five words: the width, the atoms, and zeros
 module _ (r : Held.Row) (four : length (r .atoms) ≡ 4) (few : r .width ≤ 4) where

@@ -2,7 +2,7 @@
 ghost use mathlib.Core.Path.{_≡_};
 ghost use Prim.Native.Nat.{_+_, _≤_, _<_};
 ghost use lib.ListN.{length, getD};
-ghost use Rattle.rows.specs.Layout.{rowIn, rowWords, fiveAt, put};
+ghost use Rattle.rows.specs.Layout.{rowIn, rowWords, fiveAt, soundRow, put};
 ghost use Rattle.rows.specs.Values.{wordsOf, rowOf, orderOf};
 
 pub struct Row {
@@ -28,10 +28,32 @@ pub fn load(words: &[u32], at: usize) -> Row
     }
 }
 
-fn wide(x: u32) -> usize
+pub fn wide(x: u32) -> usize
     ensures { λ r. ⌜ r ≡ x ⌝ }
 {
     x as usize
+}
+
+// Are the five words at `at` a row's: a width of 1 to 4, and the unused atoms 0?
+pub fn sound(words: &[u32], at: usize) -> bool
+    requires { ⌜ at + 5 ≤ length (now words) ⌝ }
+    ensures { λ r. ⌜ r ≡ soundRow (fiveAt (now (words .entry)) at) ⌝ }
+{
+    let width = words[at];
+    if width < 1 {
+        return false;
+    }
+    if 4 < width {
+        return false;
+    }
+    let mut j = wide(width);
+    while j < 4 {
+        if words[at + 1 + j] != 0 {
+            return false;
+        }
+        j += 1;
+    }
+    true
 }
 
 // Where `row` stands to the row whose five words stand at `at`: the one place that knows the order of rows.
