@@ -1,26 +1,26 @@
 -- Filing keeps in the store just what was accepted: one filing, a list of them, and what is accepted by such a list.
-use Prim.Native.Nat.{ℕ, zero, suc, _+_, _*_, _≤_, _<_}
+use Prim.Native.Nat.{ℕ, suc, _+_, _*_, _≤_, _<_}
 use mathlib.Core.Path.{_≡_, refl, sym, _∙_, ap, subst}
-use mathlib.Core.Logic.{_⊎_, inl, inr, _↔_}
-use mathlib.Core.Bool.{Bool, true, false}
+use mathlib.Core.Logic.{inl, inr, _↔_}
+use mathlib.Core.Bool.{true, false}
 use mathlib.Core.List.{List, [], _∷_, _++_}
 use native.Mathlib.Omega.{arith}
 use lib.Dec.{T, ltb}
-use lib.ListN.{length, getD, drop, length-append, length-drop}
+use lib.ListN.{length, drop, length-append, length-drop}
 use lib.Seq.{drop-at, drop-drop}
 use borrow.Author.Tests.{ltb-true, ltb-false}
-use Rattle.refusals.specs.Table.{badStore, badCertificate, storeFull}
+use Rattle.refusals.specs.Table.{badCertificate, storeFull}
 use Rattle.rows.specs.Word.{All, Words}
 use Rattle.rows.specs.Ordered.{_∈_, lists, insert}
 use Rattle.rows.specs.Layout.{flat, pieces}
 use Rattle.rows.proofs.Case.{Case, isTrue, isFalse, split, never, T-true, true-T, same-test, _then_, iff-refl, iff-sym, both-or}
 use Rattle.rows.proofs.Order.{words-order}
 use Rattle.rows.proofs.Ordered.{all-in, all-of, lists-iff, insert-∈, insert-ascending, insert-length}
+use Rattle.rows.proofs.LayoutLaws.{pieces-flat, flat-length}
 use Rattle.certificates.specs.Certificate.{recordWords, soundRecord, recordBefore}
-use Rattle.certificates.specs.Store.{capacity, storeWords, countOf, records, soundStore, withRecords}
+use Rattle.certificates.specs.Store.{capacity, countOf, records, soundStore, withRecords}
 use Rattle.certificates.specs.Filing.{FilingReply, filed, held, refused, replyGiven, fileReply, storeBy, storeAfter, storeAt, acceptedBy, acceptedFrom, accepted}
-use Rattle.certificates.proofs.Pieces.{pieces-flat, flat-length}
-use Rattle.certificates.proofs.Sound.{AllSound, SoundStore, sound-store, store-sound, sound-sized, records-length}
+use Rattle.certificates.proofs.Sound.{AllSound, sound-store, store-sound, sound-sized, records-length}
 
 pub listed : (rs : List (List ℕ)) (w : List ℕ) → lists recordBefore rs w ≡ true → w ∈ rs
 listed rs w e = lists-iff recordBefore words-order rs w .0 (T-true e)

@@ -1,26 +1,27 @@
 -- One name's part of a sound store: it is unbroken, and its rows are in order.
-use Prim.Native.Nat.{ℕ, zero, suc, _+_, _-_, _*_, _≤_, _<_}
+use Prim.Native.Nat.{ℕ, suc, _+_, _-_, _*_, _≤_}
 use mathlib.Core.Path.{_≡_, refl, sym, _∙_, ap}
 use mathlib.Core.Bool.{Bool, true, false, not, _&&_, _||_}
-use mathlib.Core.List.{List, [], _∷_, _++_}
+use mathlib.Core.List.{List, [], _∷_}
 use native.Mathlib.Nat.{sub-zero}
 use native.Mathlib.Omega.{arith}
 use lib.Dec.{ltb, eqb}
-use lib.ListN.{length, getD, take, drop}
+use lib.ListN.{take, drop, length-drop}
 use lib.Seq.{drop-drop}
-use borrow.Author.Tests.{lt-ltb, le-ltb, eq-eqb, ne-eqb, ltb-true, ltb-false, eqb-true, eqb-false}
+use borrow.Author.Tests.{lt-ltb, le-ltb, eq-eqb, ltb-true, eqb-true}
 use Rattle.rows.specs.Word.{All}
 use Rattle.rows.specs.Ordered.{StrictTotal, keep, wordsBefore}
-use Rattle.rows.specs.Layout.{flat, pieces, soundRow}
+use Rattle.rows.specs.Layout.{flat}
 use Rattle.rows.proofs.Case.{Case, isTrue, isFalse, split, never}
 use Rattle.rows.proofs.Order.{words-order}
 use Rattle.rows.proofs.Ordered.{Under, Ascending, all-in, all-of}
+use Rattle.rows.proofs.LayoutLaws.{flat-pieces, sound-width}
 use Rattle.certificates.specs.Certificate.{recordWords, soundRecord, recordBefore}
 use Rattle.certificates.specs.Store.{countOf, records, soundStore}
 use Rattle.certificates.specs.NamePart.{ofName, namePart}
 use Rattle.certificates.specs.Steps.{leading, placeIn}
-use Rattle.certificates.proofs.Pieces.{pieces-take, pieces-drop, flat-pieces}
-use Rattle.certificates.proofs.Sound.{AllSound, SoundRecord, sound-record, sound-store, row-width}
+use Rattle.certificates.proofs.Pieces.{pieces-take, pieces-drop}
+use Rattle.certificates.proofs.Sound.{sound-record, sound-store}
 use Rattle.certificates.proofs.Stores.{place-few}
 
 -- the elements of an ascending list from u on and before v
@@ -103,7 +104,7 @@ module _ (key name polarity : ℕ) where
   name-between (a ∷ b ∷ []) s = absurd (omega (arith, sound-record (a ∷ b ∷ []) s .eight))
   name-between (a ∷ b ∷ c ∷ []) s = absurd (omega (arith, sound-record (a ∷ b ∷ c ∷ []) s .eight))
   name-between (a ∷ b ∷ c ∷ d ∷ w) s =
-      let narrow : d ≤ 4 = row-width (d ∷ w) (sound-record (a ∷ b ∷ c ∷ d ∷ w) s .row) .1 in
+      let narrow : d ≤ 4 = sound-width (d ∷ w) (sound-record (a ∷ b ∷ c ∷ d ∷ w) s .row) .few in
       rw (lt-ltb d 5 (omega arith)) (
       ap (λ (t : Bool). eqb a key && (eqb b name && t)) (and-yes (eqb c polarity) ∙ step-between c polarity false true)
       ∙ ap (λ (t : Bool). eqb a key && t) (step-between b name _ _)
@@ -141,7 +142,7 @@ module _ (key name polarity : ℕ) where
           rw (sound, n, k, namePart) (sym (
           ap (λ (rs : List (List ℕ)). flat (take (q - p) rs)) (pieces-drop recordWords p (countOf store) (drop 1 store) l)
           ∙ ap flat (pieces-take recordWords (q - p) (countOf store - p) (drop (recordWords * p) (drop 1 store)) m)
-          ∙ flat-pieces recordWords (q - p) (drop (recordWords * p) (drop 1 store))
+          ∙ flat-pieces recordWords (q - p) (drop (recordWords * p) (drop 1 store)) (omega (arith, length-drop 1 store, length-drop (recordWords * p) (drop 1 store), sound-store store sound .long, sound-store store sound .few))
           ∙ ap (take (recordWords * (q - p))) (drop-drop (recordWords * p) 1 store)))
 
     pub part-none : soundStore store ≡ false → [] ≡ namePart store key name polarity

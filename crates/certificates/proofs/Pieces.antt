@@ -1,15 +1,16 @@
--- Lists cut into pieces of one size, and pieces laid one after the other.
-use Prim.Native.Nat.{ℕ, zero, suc, _+_, _-_, _*_, _≤_, _<_}
+-- Tests that each passes, and lists cut into pieces of one size: what the layout's own laws leave out.
+use Prim.Native.Nat.{ℕ, zero, suc, _-_, _*_, _≤_, _<_}
 use mathlib.Core.Path.{_≡_, refl, sym, _∙_, ap}
-use mathlib.Core.Bool.{Bool, true, false, _&&_}
+use mathlib.Core.Bool.{Bool, true}
 use mathlib.Core.List.{List, [], _∷_, _++_, append-assoc}
 use native.Mathlib.Nat.{mul-zero, mul-suc, add-comm, sub-zero}
 use native.Mathlib.Omega.{arith}
-use lib.ListN.{length, getD, take, drop, length-append}
-use lib.Seq.{take-at, drop-at, take-add, drop-drop}
-use Rattle.rows.specs.Word.{All}
+use lib.ListN.{getD, take, drop}
+use lib.Seq.{drop-drop}
+use Rattle.rows.specs.Word.{All, Words}
 use Rattle.rows.specs.Layout.{flat, pieces, every}
 use Rattle.rows.proofs.Case.{and-true, true-and}
+use Rattle.rows.proofs.LayoutLaws.{take-words, drop-words}
 
 -- a test that each passes, as a type
 pub every-true : {A : Type 0} (f : A → Bool) (xs : List A) → every f xs ≡ true → All (λ x. f x ≡ true) xs
@@ -22,45 +23,10 @@ unfolding every All
 true-every f [] a = refl
 true-every f (x ∷ xs) a = true-and (f x) (every f xs) (a .0) (true-every f xs (a .1))
 
--- what each has, each of a part has
-pub all-take : {A : Type 0} (P : A → Type 0) (n : ℕ) (xs : List A) → All P xs → All P (take n xs)
-unfolding All
-all-take P zero xs a = tt
-all-take P (suc n) [] a = tt
-all-take P (suc n) (x ∷ xs) a = (a .0, all-take P n xs (a .1))
-
-pub all-drop : {A : Type 0} (P : A → Type 0) (n : ℕ) (xs : List A) → All P xs → All P (drop n xs)
-unfolding All
-all-drop P zero xs a = a
-all-drop P (suc n) [] a = tt
-all-drop P (suc n) (x ∷ xs) a = all-drop P n xs (a .1)
-
-pub all-pieces : (P : ℕ → Type 0) (size n : ℕ) (ws : List ℕ) → All P ws → All (All P) (pieces size n ws)
+pub pieces-words : (size n : ℕ) (ws : List ℕ) → Words ws → All Words (pieces size n ws)
 unfolding All pieces
-all-pieces P size zero ws a = tt
-all-pieces P size (suc n) ws a = (all-take P size ws a, all-pieces P size n (drop size ws) (all-drop P size ws a))
-
-pub pieces-length : (size n : ℕ) (ws : List ℕ) → length (pieces size n ws) ≡ n
-unfolding pieces
-pieces-length size zero ws = refl
-pieces-length size (suc n) ws = ap suc (pieces-length size n (drop size ws))
-
--- pieces that all have the size
-unfoldable pub Sized : ℕ → List (List ℕ) → Type 0
-unfolding All
-Sized size = All (λ w. length w ≡ size)
-
-pub flat-length : (size : ℕ) (rs : List (List ℕ)) → Sized size rs → length (flat rs) ≡ size * length rs
-unfolding flat Sized All
-flat-length size [] a = omega arith
-flat-length size (r ∷ rs) a = rw (length-append r (flat rs), a .0, flat-length size rs (a .1), mul-suc size (length rs)) (omega arith)
-
--- laid out and cut again
-pub pieces-flat : (size : ℕ) (rs : List (List ℕ)) (t : List ℕ) → Sized size rs → pieces size (length rs) (flat rs ++ t) ≡ rs
-unfolding pieces flat Sized All
-pieces-flat size [] t a = refl
-pieces-flat size (r ∷ rs) t a =
-    rw (append-assoc r (flat rs) t, take-at r (flat rs ++ t) size (a .0), drop-at r (flat rs ++ t) size (a .0), pieces-flat size rs t (a .1))
+pieces-words size zero ws p = tt
+pieces-words size (suc n) ws p = (take-words size ws p, pieces-words size n (drop size ws) (drop-words size ws p))
 
 -- some of the pieces, and each by itself
 pub pieces-take : (size p n : ℕ) (ws : List ℕ) → p ≤ n → take p (pieces size n ws) ≡ pieces size p ws
@@ -86,12 +52,6 @@ unfolding pieces
 pieces-at size i zero ws h = absurd (omega arith)
 pieces-at size zero (suc n) ws h = rw (mul-zero size)
 pieces-at size (suc i) (suc n) ws h = pieces-at size i n (drop size ws) (omega arith) ∙ ap (take size) (further size i ws)
-
--- cut and laid out again
-pub flat-pieces : (size n : ℕ) (ws : List ℕ) → flat (pieces size n ws) ≡ take (size * n) ws
-unfolding flat pieces
-flat-pieces size zero ws = rw (mul-zero size)
-flat-pieces size (suc n) ws = rw (flat-pieces size n (drop size ws), mul-suc size n, add-comm (size * n) size, take-add size (size * n) ws)
 
 pub flat-append : (xs ys : List (List ℕ)) → flat (xs ++ ys) ≡ flat xs ++ flat ys
 unfolding flat

@@ -1,15 +1,15 @@
 -- A place in an ascending list: how many of its elements come before a given one. What lies below it, what lies there, and what `insert` does.
-use Prim.Native.Nat.{ℕ, zero, suc, _+_, _≤_, _<_}
-use mathlib.Core.Path.{_≡_, refl, sym, _∙_, ap}
-use mathlib.Core.Logic.{_⊎_, inl, inr}
-use mathlib.Core.Bool.{Bool, true, false, not, _&&_, _||_}
+use Prim.Native.Nat.{ℕ, zero, suc, _≤_, _<_}
+use mathlib.Core.Path.{_≡_, refl, sym, ap}
+use mathlib.Core.Logic.{inl, inr}
+use mathlib.Core.Bool.{Bool, true, false, not, _&&_}
 use mathlib.Core.List.{List, [], _∷_, _++_}
 use native.Mathlib.Omega.{arith}
 use lib.Dec.{ltb, leb·suc-suc}
 use lib.ListN.{length, getD, take, drop}
 use borrow.Author.Tests.{lt-ltb, le-ltb}
 use Rattle.rows.specs.Ordered.{_∈_, StrictTotal, same, lists, insert}
-use Rattle.rows.proofs.Case.{Case, isTrue, isFalse, split, never, true-T, T-true}
+use Rattle.rows.proofs.Case.{Case, isTrue, isFalse, split, never, T-true}
 use Rattle.rows.proofs.Ordered.{Under, Ascending, under-in, lists-iff}
 use Rattle.certificates.specs.Steps.{leading}
 

@@ -1,24 +1,24 @@
 -- What soundness says of a record and of a store.
-use Prim.Native.Nat.{ℕ, zero, suc, _+_, _*_, _≤_}
-use mathlib.Core.Path.{_≡_, refl, sym, _∙_, ap, subst}
-use mathlib.Core.Bool.{Bool, true, false, _&&_}
+use Prim.Native.Nat.{ℕ, _≤_}
+use mathlib.Core.Path.{_≡_}
+use mathlib.Core.Bool.{true, _&&_}
 use mathlib.Core.List.{List, [], _∷_}
 use native.Mathlib.Omega.{arith}
 use lib.Dec.{leb, eqb}
-use lib.ListN.{length, getD, take, drop, length-drop, length-take}
-use lib.Seq.{length-take-le}
-use borrow.Author.Tests.{leb-true, leb-false, eqb-true, le-leb}
-use Rattle.rows.specs.Word.{All, IsWord, Words}
-use Rattle.rows.specs.Ordered.{_∈_, ascending}
+use lib.ListN.{length, getD, drop, length-drop}
+use borrow.Author.Tests.{leb-true, eqb-true, le-leb}
+use Rattle.rows.specs.Word.{All, Words}
+use Rattle.rows.specs.Ordered.{ascending}
 use Rattle.rows.specs.Row.{IsRow, isKey}
 use Rattle.rows.specs.Name.{isName, isPolarity}
-use Rattle.rows.specs.Layout.{rowIn, soundRow, zeros, every}
+use Rattle.rows.specs.Layout.{soundRow, every}
 use Rattle.rows.proofs.Case.{Case, isTrue, isFalse, split, never, and-true, true-and}
 use Rattle.rows.proofs.Order.{words-order}
-use Rattle.rows.proofs.Ordered.{Ascending, all-in, all-of, ascending-true, true-ascending}
+use Rattle.rows.proofs.Ordered.{Ascending, ascending-true, true-ascending}
+use Rattle.rows.proofs.LayoutLaws.{Sized, length-pieces, drop-words, row-is}
 use Rattle.certificates.specs.Certificate.{recordWords, soundRecord, certificateOf, recordBefore}
 use Rattle.certificates.specs.Store.{capacity, storeWords, countOf, records, soundStore}
-use Rattle.certificates.proofs.Pieces.{every-true, true-every, all-take, all-drop, all-pieces, pieces-length, Sized}
+use Rattle.certificates.proofs.Pieces.{every-true, true-every, pieces-words}
 
 -- a record, test by test
 pub record SoundRecord (w : List ℕ) : Type 0 where
@@ -42,40 +42,26 @@ pub about-key : (w : List ℕ) → soundRecord w ≡ true → isKey (certificate
 unfolding certificateOf
 about-key w e = sound-record w e .key
 
-pub row-width : (ws : List ℕ) → soundRow ws ≡ true → (1 ≤ getD ws 0 0) × (getD ws 0 0 ≤ 4)
-unfolding soundRow
-row-width ws e =
-    let a = and-true (leb 1 (getD ws 0 0)) _ e in
-    let b = and-true (leb (getD ws 0 0) 4) _ (a .1) in
-    (leb-true 1 (getD ws 0 0) (a .0), leb-true (getD ws 0 0) 4 (b .0))
-
-pub row-in : (ws : List ℕ) → soundRow ws ≡ true → length ws ≡ 5 → Words ws → IsRow (rowIn ws)
-unfolding rowIn
-row-in ws e l p =
-    let t = row-width ws e in
-    let n : length (take (getD ws 0 0) (drop 1 ws)) ≡ getD ws 0 0 = length-take-le (getD ws 0 0) (drop 1 ws) (omega (arith, length-drop 1 ws)) in
-    record { some = omega arith; few = omega arith; words = all-take IsWord (getD ws 0 0) (drop 1 ws) (all-drop IsWord 1 ws p) }
-
 pub about-row : (w : List ℕ) → soundRecord w ≡ true → Words w → IsRow (certificateOf w .row)
 unfolding certificateOf
 about-row w e p =
     let s = sound-record w e in
-    row-in (drop 3 w) (s .row) (omega (arith, length-drop 3 w, s .eight)) (all-drop IsWord 3 w p)
+    row-is (drop 3 w) (omega (arith, length-drop 3 w, s .eight)) (s .row) (drop-words 3 w p)
 
 -- the records of a store
 pub records-length : (store : List ℕ) → length (records store) ≡ countOf store
 unfolding records
-records-length store = pieces-length recordWords (countOf store) (drop 1 store)
+records-length store = length-pieces recordWords (countOf store) (drop 1 store)
 
 pub records-words : (store : List ℕ) → Words store → All Words (records store)
 unfolding records
-records-words store p = all-pieces IsWord recordWords (countOf store) (drop 1 store) (all-drop IsWord 1 store p)
+records-words store p = pieces-words recordWords (countOf store) (drop 1 store) (drop-words 1 store p)
 
 abbrev pub AllSound : List (List ℕ) → Type 0
 AllSound = All (λ w. soundRecord w ≡ true)
 
-pub sound-sized : (rs : List (List ℕ)) → AllSound rs → Sized recordWords rs
-unfolding Sized All
+pub sound-sized : (rs : List (List ℕ)) → AllSound rs → All (Sized recordWords) rs
+unfolding All
 sound-sized [] a = tt
 sound-sized (r ∷ rs) a = (sound-record r (a .0) .eight, sound-sized rs (a .1))
 

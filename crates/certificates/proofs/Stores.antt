@@ -1,24 +1,26 @@
 -- What the code sees of a store, record by record.
-use Prim.Native.Nat.{ℕ, zero, suc, _+_, _-_, _*_, _≤_, _<_}
-use mathlib.Core.Path.{_≡_, refl, sym, _∙_, ap, subst}
+use Prim.Native.Nat.{ℕ, suc, _+_, _-_, _*_, _≤_, _<_}
+use mathlib.Core.Path.{_≡_, refl, sym, _∙_, ap}
 use mathlib.Core.Bool.{Bool, true, false, not, _&&_}
 use mathlib.Core.List.{List, [], _∷_, _++_, append-assoc}
 use native.Mathlib.Numerals.{add-one}
 use native.Mathlib.Omega.{arith}
-use lib.Dec.{leb, ltb, eqb}
-use lib.ListN.{length, getD, take, drop, set, drop-of-length-le, length-append, length-take, length-drop}
-use lib.Seq.{drop-cons, drop-drop}
+use lib.Dec.{ltb, eqb}
+use lib.ListN.{length, getD, take, drop, set, drop-of-length-le, length-append, length-drop}
+use lib.Seq.{drop-cons, drop-drop, length-take-le}
 use borrow.Author.Tests.{lt-ltb, le-ltb, le-leb, lt-leb, eq-eqb, ne-eqb, ltb-true, eqb-true, eqb-false}
 use Rattle.rows.specs.Ordered.{_∈_, lists, insert, beforeFirst, ascending}
-use Rattle.rows.specs.Layout.{flat, pieces, every}
+use Rattle.rows.specs.Layout.{flat, every, put}
 use Rattle.rows.proofs.Case.{Case, isTrue, isFalse, split}
 use Rattle.rows.proofs.Order.{words-order}
 use Rattle.rows.proofs.Ordered.{insert-length}
+use Rattle.rows.proofs.LayoutLaws.{flat-pieces}
+use Rattle.rows.proofs.Put.{put-then-before}
 use Rattle.certificates.specs.Certificate.{recordWords, soundRecord, recordBefore}
 use Rattle.certificates.specs.Store.{capacity, storeWords, countOf, records, soundStore, withRecords}
-use Rattle.certificates.specs.Steps.{recordAt, soundAt, placeIn, heldAt, putAt, putIn}
-use Rattle.certificates.proofs.Pieces.{pieces-at, pieces-take, pieces-drop, flat-pieces, flat-append}
-use Rattle.certificates.proofs.Sound.{SoundStore, sound-store, records-length}
+use Rattle.certificates.specs.Steps.{recordAt, soundAt, placeIn, heldAt, putIn}
+use Rattle.certificates.proofs.Pieces.{pieces-at, pieces-take, pieces-drop, flat-append}
+use Rattle.certificates.proofs.Sound.{sound-store, records-length}
 use Rattle.certificates.proofs.Places.{leading-few, leading-stops, place-past, place-held, place-insert}
 
 -- record i of the store's words is the ith of its records
@@ -150,40 +152,47 @@ set-first [] n v t h = absurd (omega arith)
 set-first (x ∷ ws) n v t h = let e : 1 + n ≡ suc n = omega arith in rw e
 
 -- a record put in at its place
-module _ (store w : List ℕ) (p : ℕ) (few : p ≤ countOf store) where
-  words : List ℕ
-  words = drop 1 store
+module _ (store w : List ℕ) (p : ℕ) (few : p ≤ countOf store) (room : 1 + recordWords * (countOf store + 1) ≤ length store) (eight : length w ≡ recordWords) where
+  abbrev later : List ℕ
+  later = take (recordWords * (countOf store - p)) (drop (1 + recordWords * p) store)
 
-  put-flat : flat (take p (records store) ++ (w ∷ drop p (records store))) ≡
-      take (recordWords * p) words ++ (w ++ take (recordWords * (countOf store - p)) (drop (recordWords * p) words))
-  unfolding records words flat
+  later-length : length later ≡ recordWords * (countOf store - p)
+  later-length = length-take-le (recordWords * (countOf store - p)) (drop (1 + recordWords * p) store) (omega (arith, length-drop (1 + recordWords * p) store))
+
+  -- the records after it are moved up, then it is written before them
+  pub put-is : put (1 + recordWords * p) w (put (1 + recordWords * p + recordWords) later store) ≡ put (1 + recordWords * p) (w ++ later) store
+  put-is =
+      ap (λ (n : ℕ). put (1 + recordWords * p) w (put (1 + recordWords * p + n) later store)) (sym eight)
+      ∙ put-then-before (1 + recordWords * p) w later store (omega (arith, later-length))
+
+  put-flat : flat (take p (records store) ++ (w ∷ drop p (records store))) ≡ take (recordWords * p) (drop 1 store) ++ (w ++ later)
+  unfolding records flat
   put-flat =
+      let words : List ℕ = drop 1 store in
+      let l = length-drop 1 store in
+      let m = length-drop (recordWords * p) words in
       flat-append (take p (records store)) (w ∷ drop p (records store))
       ∙ rw (
         pieces-take recordWords p (countOf store) words few,
         pieces-drop recordWords p (countOf store) words few,
-        flat-pieces recordWords p words,
-        flat-pieces recordWords (countOf store - p) (drop (recordWords * p) words),
+        flat-pieces recordWords p words (omega arith),
+        flat-pieces recordWords (countOf store - p) (drop (recordWords * p) words) (omega arith),
+        drop-drop (recordWords * p) 1 store,
       )
 
-  put-words : 1 ≤ length store → putIn store p w ≡
-      (countOf store + 1) ∷ (take (recordWords * p) words ++ (w ++ take (recordWords * (countOf store - p)) (drop (recordWords * p) words)) ++
-      drop (1 + recordWords * (countOf store + 1)) store)
-  unfolding putIn putAt words
-  put-words h =
-      let c : ℕ = countOf store in
-      let moved : 1 + recordWords * c - (1 + recordWords * p) ≡ recordWords * (c - p) = omega arith in
-      let past : 1 + recordWords * c + recordWords ≡ 1 + recordWords * (c + 1) = omega arith in
-      set-first store (recordWords * p) (c + 1) _ h
-      ∙ rw (moved, past, ← drop-drop (recordWords * p) 1 store)
-      (ap (λ (l : List ℕ). (c + 1) ∷ l) (simp append-assoc))
+  put-words : putIn store p w ≡ (countOf store + 1) ∷ ((take (recordWords * p) (drop 1 store) ++ (w ++ later)) ++ drop (1 + recordWords * (countOf store + 1)) store)
+  unfolding putIn put
+  put-words =
+      let past : 1 + recordWords * p + length (w ++ later) ≡ 1 + recordWords * (countOf store + 1) = omega (arith, length-append w later, later-length) in
+      set-first store (recordWords * p) (countOf store + 1) _ (omega arith)
+      ∙ rw past (ap (λ (l : List ℕ). (countOf store + 1) ∷ l) (sym (append-assoc (take (recordWords * p) (drop 1 store)) (w ++ later) (drop (1 + recordWords * (countOf store + 1)) store))))
 
-  pub put-is-insert : soundStore store ≡ true → p ≡ placeIn (records store) w → (¬ (w ∈ records store)) → putIn store p w ≡ withRecords (insert recordBefore w (records store)) store
+  pub put-is-insert : p ≡ placeIn (records store) w → (¬ (w ∈ records store)) → putIn store p w ≡ withRecords (insert recordBefore w (records store)) store
   unfolding withRecords placeIn
-  put-is-insert sound e new =
+  put-is-insert e new =
       let l : length (insert recordBefore w (records store)) ≡ countOf store + 1 =
       insert-length recordBefore words-order w (records store) new ∙ sym (add-one _) ∙ ap (λ (n : ℕ). n + 1) (records-length store) in
       let i : insert recordBefore w (records store) ≡ take p (records store) ++ (w ∷ drop p (records store)) =
       place-insert recordBefore words-order w (records store) new ∙ ap (λ (n : ℕ). take n (records store) ++ (w ∷ drop n (records store))) (sym e) in
-      put-words (omega (arith, sound-store store sound .long))
+      put-words
       ∙ sym (rw (l, i, put-flat))

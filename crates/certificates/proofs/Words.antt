@@ -1,18 +1,17 @@
 -- The tests of a record's words, a word at a time.
-use Prim.Native.Nat.{ℕ, zero, suc, _+_, _-_, _≤_, _<_}
-use mathlib.Core.Path.{_≡_, refl, sym, _∙_, ap}
-use mathlib.Core.Bool.{Bool, true, false, _&&_, _||_}
-use mathlib.Core.List.{List, [], _∷_}
+use Prim.Native.Nat.{ℕ, _+_, _-_, _≤_, _<_}
+use mathlib.Core.Path.{_≡_, refl, _∙_}
+use mathlib.Core.Bool.{Bool, true, false, _||_}
+use mathlib.Core.List.{List, []}
 use native.Mathlib.Nat.{add-sub-cancel-left}
 use native.Mathlib.Numerals.{add-one}
 use native.Mathlib.Omega.{arith}
-use lib.Dec.{leb, ltb, eqb}
+use lib.Dec.{ltb}
 use lib.ListN.{length, getD, take, drop, drop-of-length-le, List·getD-eq-default}
 use lib.Seq.{drop-cons, drop-drop}
 use borrow.Author.Tests.{ltb-true, ltb-false, le-ltb, le-leb, lt-leb, eq-eqb, ne-eqb}
 use Rattle.rows.specs.Ordered.{wordsBefore}
-use Rattle.rows.specs.Row.{firstKey, isKey}
-use Rattle.rows.specs.Name.{isName, isPolarity}
+use Rattle.rows.specs.Row.{firstKey}
 use Rattle.rows.specs.Layout.{zeros, soundRow}
 use Rattle.rows.proofs.Case.{Case, isTrue, isFalse, split}
 use Rattle.certificates.specs.Certificate.{recordWords, soundRecord}

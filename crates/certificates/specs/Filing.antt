@@ -1,7 +1,7 @@
 -- Document 01, "Store and filing" and "Lists of filings": what filing answers, and what it leaves in the store.
 use Prim.Native.Nat.{ℕ}
-use mathlib.Core.Bool.{Bool, true, false}
-use mathlib.Core.List.{List, [], _∷_, _++_}
+use mathlib.Core.Bool.{true, false}
+use mathlib.Core.List.{List, [], _∷_}
 use lib.Dec.{ltb}
 use lib.ListN.{length}
 use Rattle.refusals.specs.Table.{badStore, badCertificate, storeFull}

@@ -3,7 +3,8 @@ use Prim.Native.Nat.{ℕ, suc, _+_, _-_, _*_}
 use mathlib.Core.Bool.{Bool, true, false, not, _&&_}
 use mathlib.Core.List.{List, [], _∷_, _++_}
 use lib.Dec.{ltb, eqb}
-use lib.ListN.{length, getD, take, drop, set}
+use lib.ListN.{take, drop, set}
+use Rattle.rows.specs.Layout.{put}
 use Rattle.certificates.specs.Certificate.{recordWords, soundRecord, recordBefore}
 use Rattle.certificates.specs.Store.{countOf}
 
@@ -27,14 +28,9 @@ placeIn rs w = leading (λ r. recordBefore r w) rs
 unfoldable pub heldAt : List ℕ → ℕ → List ℕ → Bool
 heldAt store place w = ltb place (countOf store) && not (recordBefore w (recordAt store place))
 
--- the words from `start` to `end` moved up by one record
-unfoldable pub movedUp : List ℕ → ℕ → ℕ → List ℕ
-movedUp store start end = take (start + recordWords) store ++ (take (end - start) (drop start store) ++ drop (end + recordWords) store)
-
--- the words with w put in at `at`, and those from there to `end` moved up
-unfoldable pub putAt : List ℕ → ℕ → ℕ → List ℕ → List ℕ
-putAt store at end w = take at store ++ (w ++ (take (end - at) (drop at store) ++ drop (end + recordWords) store))
-
--- the store with w put in at a place, and the count raised
+-- the store with w put in at a place, the records from there on moved up behind it, and the count raised
 unfoldable pub putIn : List ℕ → ℕ → List ℕ → List ℕ
-putIn store place w = set (putAt store (1 + recordWords * place) (1 + recordWords * countOf store) w) 0 (countOf store + 1)
+putIn store place w =
+    let at : ℕ = 1 + recordWords * place in
+    let later : List ℕ = take (recordWords * (countOf store - place)) (drop at store) in
+    set (put at (w ++ later) store) 0 (countOf store + 1)

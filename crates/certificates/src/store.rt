@@ -2,19 +2,20 @@
 ghost use Prim.Native.Nat.{_+_, _*_, _≤_, _<_};
 ghost use mathlib.Core.Path.{_≡_};
 ghost use mathlib.Core.Bool.{true};
-ghost use mathlib.Core.List.{_++_};
-ghost use lib.ListN.{length, take, drop};
+ghost use lib.ListN.{length};
+ghost use Rattle.rows.specs.Layout.{put};
 ghost use Rattle.certificates.specs.Certificate.{recordWords};
 ghost use Rattle.certificates.specs.Store.{capacity, countOf, records, soundStore};
-ghost use Rattle.certificates.specs.Steps.{recordAt, soundAt, placeIn, heldAt, movedUp, putIn};
+ghost use Rattle.certificates.specs.Steps.{recordAt, soundAt, placeIn, heldAt, putIn};
 use crate::certificate::RECORD_WORDS;
 use crate::certificate::sound_record;
 use crate::certificate::words_before;
+use rows::words::copy_up;
 
 pub const CAPACITY: u32 = 2000;
 
 // the count and room for every record
-const STORE_WORDS: usize = 16001;
+const STORE_WORDS: usize = 1 + RECORD_WORDS * CAPACITY as usize;
 
 // The words of record `i`.
 fn record_at<'a>(store: &'a [u32], i: usize) -> &'a [u32]
@@ -92,26 +93,14 @@ pub fn is_held(store: &[u32], place: usize, certificate: &[u32]) -> bool
     }
 }
 
-// Moves the words from `start` to `end` up by one record.
-fn move_up(store: &mut [u32], start: usize, end: usize)
-    requires { ⌜ (start ≤ end) × (end + recordWords ≤ length (now store)) ⌝ }
-    ensures { λ _. ⌜ now (store .exit) ≡ movedUp (now (store .entry)) start end ⌝ }
-{
-    let mut i = end;
-    while start < i {
-        i -= 1;
-        store[i + RECORD_WORDS] = store[i];
-    }
-}
-
-// Writes a record over the words from `at` on.
-fn write_record(store: &mut [u32], at: usize, certificate: &[u32])
-    requires { ⌜ (length (now certificate) ≡ recordWords) × (at + recordWords ≤ length (now store)) ⌝ }
-    ensures { λ _. ⌜ now (store .exit) ≡ take at (now (store .entry)) ++ (now (certificate .entry) ++ drop (at + recordWords) (now (store .entry))) ⌝ }
+// Writes words over those that stand at `at`.
+fn write(store: &mut [u32], at: usize, words: &[u32])
+    requires { ⌜ at + length (now words) ≤ length (now store) ⌝ }
+    ensures { λ _. ⌜ now (store .exit) ≡ put at (now (words .entry)) (now (store .entry)) ⌝ }
 {
     let mut j: usize = 0;
-    while j < RECORD_WORDS {
-        store[at + j] = certificate[j];
+    while j < words.len() {
+        store[at + j] = words[j];
         j += 1;
     }
 }
@@ -123,8 +112,8 @@ pub fn insert(store: &mut [u32], place: usize, certificate: &[u32])
 {
     let count = store[0];
     let at = 1 + RECORD_WORDS * place;
-    let end = 1 + RECORD_WORDS * count as usize;
-    move_up(store, at, end);
-    write_record(store, at, certificate);
+    let later = RECORD_WORDS * (count as usize - place);
+    copy_up(store, at, at + RECORD_WORDS, later);
+    write(store, at, certificate);
     store[0] = count + 1;
 }

@@ -95,11 +95,15 @@ returns-5 c =
     let s : List ℕ = c .before .before .before .before .before .before .before .before .before .before .before .before .before .before .before .before .before .before .args .store .now in
     let w : List ℕ = c .before .before .before .before .before .before .before .before .before .before .before .before .before .before .before .before .before .before .args .certificate .now in
     let sound = sym (c .before .before .before .before .before .before .before .before .before .before .before .before .before .before .sound-store .ensures) ∙ not-false _ (c .before .before .before .before .before .before .before .before .before .before .before .before .before .if1 .left) in
+    let good = sym (c .before .before .before .before .before .before .before .before .before .before .before .before .sound-record .ensures) ∙ not-false _ (c .before .before .before .before .before .before .before .before .before .before .before .if2 .left) in
     let new = sym (held-is s w sound _ (c .before .before .before .before .before .before .before .before .before .place-of .ensures)) ∙ sym (c .before .before .before .before .before .before .before .is-held .ensures) ∙ c .before .before .before .before .before .before .if3 .left in
-    let few = place-few s w in
     let at = c .before .before .before .before .before .before .before .before .before .place-of .ensures in
-    reply-filed s w sound (sym (c .before .before .before .before .before .before .before .before .before .before .before .before .sound-record .ensures) ∙ not-false _ (c .before .before .before .before .before .before .before .before .before .before .before .if2 .left)) new _ (c .before .before .before .before .if4 .left)
-    (c .before .before .insert .ensures ∙ put-is-insert s w (c .before .before .before .before .before .before .before .before .before .place-of .result) (omega arith) sound at (not-listed (records s) w new))
+    let few = place-few s w in
+    let long = sound-store s sound .long in
+    let most = sound-store s sound .few in
+    let room = c .before .before .before .before .if4 .left in
+    reply-filed s w sound good new _ room
+    (c .before .before .insert .ensures ∙ put-is-insert s w (c .before .before .before .before .before .before .before .before .before .place-of .result) (omega arith) (omega arith) (sound-record w good .eight) at (not-listed (records s) w new))
 
 pub file-spec : {M : Type 1} → statement M
 file-spec =
