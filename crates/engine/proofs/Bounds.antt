@@ -25,7 +25,8 @@ use Rattle.meaning.proofs.Monotone.{Below, Along, along-same, monotone}
 use Rattle.meaning.proofs.Minimal.{held-names-proper, minimal, minimal-is, minimal-true, minimal-below, held-shows}
 use Rattle.meaning.proofs.Exact.{read-same, read-steady}
 use Rattle.engine.specs.Query.{Outcome, answered, declined, readFrom, Call}
-use Rattle.engine.specs.Demand3.{CallWords, InQuery, Bounds}
+use Rattle.engine.specs.Demand2.{CallWords, InQuery}
+use Rattle.engine.specs.Demand3.{Bounds}
 use Rattle.engine.proofs.Definitions.{parsed-sound, no-values, ways, Reached, reached, none-agree, none-tidy}
 
 pub in-query : (c : Call) (es : List Expr) (q : Expr) (v : Verdict) → check (c .policy) (c .query) ≡ checked es q v → (W : World) (r : Row) → InQuery c W r ≡ BelongsTo W es q r

@@ -1,61 +1,36 @@
 -- Demand 3 holds.
-use Prim.Native.Nat.{ℕ, _≤_}
+use Prim.Native.Nat.{ℕ}
 use mathlib.Core.Path.{_≡_, refl, sym, _∙_, ap, subst}
 use mathlib.Core.Logic.{_⊎_, inl, inr, _↔_}
 use mathlib.Core.List.{List, [], _∷_, _++_, map}
-use native.Mathlib.Omega.{arith}
-use lib.ListN.{length, drop}
 use Rattle.rows.specs.Word.{All, Words}
 use Rattle.rows.specs.Ordered.{_∈_}
 use Rattle.rows.specs.Row.{IsRow}
-use Rattle.rows.specs.Sets.{RowSet, listing}
-use Rattle.rows.specs.Layout.{setWords, written}
+use Rattle.rows.specs.Sets.{RowSet}
 use Rattle.rows.proofs.Case.{_then_, iff-sym}
 use Rattle.rows.proofs.Ordered.{all-in}
-use Rattle.rows.proofs.LayoutLaws.{set-length, written-sound, written-reads}
 use Rattle.certificates.specs.Certificate.{Certificate, certificateOf}
 use Rattle.certificates.specs.Store.{records, certificates}
 use Rattle.certificates.specs.Filing.{storeAt, accepted, acceptedFrom}
-use Rattle.certificates.proofs.Sound.{about-row}
 use Rattle.certificates.proofs.Filings.{Keeps, empty-keeps, reply-keeps, at-keeps, acceptedFrom-append, accepted-stays, accepted-sound, accepted-words}
 use Rattle.policy.specs.Syntax.{Expr}
 use Rattle.policy.specs.Polarity.{Verdict}
-use Rattle.policy.specs.Judgement.{check, checked, judge}
-use Rattle.policy.proofs.Judging.{judge-checked}
+use Rattle.policy.specs.Judgement.{check, checked}
 use Rattle.meaning.specs.Evidence.{namesHeld}
 use Rattle.meaning.specs.World.{AboutRows}
+use Rattle.meaning.proofs.Rows.{all-left}
 use Rattle.meaning.proofs.Minimal.{same-names}
-use Rattle.meaning.proofs.Proper.{Tidy}
-use Rattle.engine.specs.Query.{Outcome, answered, declined, readFrom, roomy, Call, outcomeFrom, queryCall, answerArea}
-use Rattle.engine.specs.Demand3.{EmptyStore, Point, Earlier, heldAfter, CallWords, Refusal, Holds, LaidOut, Bounds, Answers, Grows, Demand3, Theorem}
-use Rattle.engine.proofs.Bounds.{answer-tidy, bounds, lower-grows, upper-shrinks, exact-stays}
-use Rattle.engine.proofs.Outcome.{call-reads, AnsweredBy, answered-by, roomy-answer, declined-iff, answered-iff}
-
--- the images of a list's elements
-map-∈ : {A B : Type 0} (f : A → B) (xs : List A) (y : B) → (y ∈ map f xs) ↔ ((x : A) × (x ∈ xs) × (y ≡ f x))
-unfolding _∈_
-map-∈ f [] y = (λ t. absurd t, λ t. t .1)
-map-∈ f (x ∷ xs) y = (
-  λ t. elim t [ inl e ↦ (x, inl refl, e) | inr i ↦ (let z = map-∈ f xs y .0 i in (z .0, inr (z .1), z .2)) ],
-  λ t. back t (t .1) (map-∈ f xs y .1),
-)
-  where
-    back : (t : (z : _) × ((z ≡ x) ⊎ (z ∈ xs)) × (y ≡ f z)) → (t .0 ≡ x) ⊎ (t .0 ∈ xs) → ((z : _) × (z ∈ xs) × (y ≡ f z) → y ∈ map f xs) → (y ≡ f x) ⊎ (y ∈ map f xs)
-    back t (inl e) ih = inl (t .2 ∙ ap f e)
-    back t (inr i) ih = inr (ih (t .0, i, t .2))
-
-part-left : {A : Type 0} (P : A → Type 0) (xs ys : List A) → All P (xs ++ ys) → All P xs
-unfolding All
-part-left P [] ys a = tt
-part-left P (x ∷ xs) ys a = (a .0, part-left P xs ys (a .1))
+use Rattle.engine.specs.Query.{answered, readFrom, Call, outcomeFrom, queryCall}
+use Rattle.engine.specs.Demand2.{CallWords}
+use Rattle.engine.specs.Demand3.{EmptyStore, Point, Earlier, heldAfter, Holds, Bounds, Grows, Demand3, Theorem}
+use Rattle.engine.proofs.Bounds.{bounds, lower-grows, upper-shrinks, exact-stays}
+use Rattle.engine.proofs.Outcome.{call-reads, AnsweredBy, answered-by, outcome-declined, outcome-answered}
+use Rattle.engine.proofs.Demand2.{map-∈, records-about, answer-is}
 
 -- what was accepted is about rows
 held-about : (passed : List (List ℕ)) → All Words passed → AboutRows (heldAfter passed)
 unfolding heldAfter
-held-about passed words c i =
-    let t = map-∈ certificateOf (accepted passed) c .0 i in
-    subst (λ (d : Certificate). IsRow (d .row)) (sym (t .2))
-    (about-row (t .0) (all-in _ (accepted passed) (accepted-sound passed) (t .0) (t .1)) (all-in Words (accepted passed) (accepted-words passed words) (t .0) (t .1)))
+held-about passed words = records-about (accepted passed) (accepted-sound passed) (accepted-words passed words)
 
 -- what the store's records say is what the accepted ones say
 same-held : (now : List ℕ) (passed : List (List ℕ)) → ((w : List ℕ) → (w ∈ records now) ↔ (w ∈ accepted passed)) → (c : Certificate) → (c ∈ certificates now) ↔ (c ∈ heldAfter passed)
@@ -66,7 +41,7 @@ same-held now passed just c =
 
 module _ (store : List ℕ) (empty : EmptyStore store) (filings : List (List ℕ)) (words : All Words filings) where
   passed-words : (p : Point filings) → All Words (p .passed)
-  passed-words p = part-left Words (p .passed) (p .ahead) (subst (All Words) (p .whole) words)
+  passed-words p = all-left Words (p .passed) (p .ahead) (subst (All Words) (p .whole) words)
 
   keeps : (p : Point filings) → Keeps store (storeAt store (p .passed)) (accepted (p .passed))
   unfolding accepted
@@ -79,32 +54,12 @@ module _ (store : List ℕ) (empty : EmptyStore store) (filings : List (List ℕ
   reads : (p : Point filings) (c : Call) → queryCall (storeAt store (p .passed)) c ≡ outcomeFrom (namesHeld (heldAfter (p .passed))) c
   reads p c =
       let same = same-held (storeAt store (p .passed)) (p .passed) (keeps p .just) in
-      call-reads (storeAt store (p .passed)) (heldAfter (p .passed)) (keeps p .sound)
+      call-reads (storeAt store (p .passed)) (namesHeld (heldAfter (p .passed))) (keeps p .sound)
       (same-names (certificates (storeAt store (p .passed))) (heldAfter (p .passed)) (λ x i. about p x (same x .0 i)) (about p) same) c
 
   answer-at : (p : Point filings) (c : Call) (v : Verdict) (k : ℕ) (S : RowSet) → queryCall (storeAt store (p .passed)) c ≡ answered v k S →
       AnsweredBy (namesHeld (heldAfter (p .passed))) c v k S
   answer-at p c v k S h = answered-by (namesHeld (heldAfter (p .passed))) c v k S (sym (reads p c) ∙ h)
-
-  laid-out : (p : Point filings) (c : Call) → CallWords c → (v : Verdict) (k : ℕ) (S : RowSet) → AnsweredBy (namesHeld (heldAfter (p .passed))) c v k S →
-      LaidOut (c .answer) (answerArea (answered v k S) (c .answer)) S
-  unfolding answerArea written
-  laid-out p c w v k S a =
-      let t : Tidy S = answer-tidy c w (a .es) (a .q) v (a .passes) (heldAfter (p .passed)) (about p) v k S (a .reads) in
-      record {
-        words = ap (λ (n : ℕ). setWords S ++ drop n (c .answer)) (set-length S (t .proper .rows));
-        sound = written-sound S (c .answer) (t .proper) (t .few) (roomy-answer c (a .room));
-        reads = written-reads S (c .answer) (t .proper .rows);
-      }
-
-  answers-at : (p : Point filings) (c : Call) → CallWords c → (v : Verdict) (k : ℕ) (S : RowSet) → AnsweredBy (namesHeld (heldAfter (p .passed))) c v k S →
-      Answers (heldAfter (p .passed)) c v k S
-  answers-at p c w v k S a = record {
-    verdictIs = judge-checked (c .policy) (c .query) v .1 (a .es, a .q, a .passes);
-    isRead = (a .es, a .q, a .passes, a .reads);
-    laidOut = laid-out p c w v k S a;
-    bounds = bounds c w (a .es) (a .q) v (a .passes) (heldAfter (p .passed)) (about p) v k S (a .reads);
-  }
 
   -- what was accepted at a point is accepted at a later one
   still-held : (p q : Point filings) → Earlier p q → (c : Certificate) → c ∈ heldAfter (p .passed) → c ∈ heldAfter (q .passed)
@@ -140,9 +95,12 @@ pub demand-3 : Theorem
 demand-3 store empty filings words = record {
   replies = λ p w rest e. reply-keeps (keeps store empty filings words p) w;
   holds = λ p. let k = keeps store empty filings words p in record { sound = k .sound; just = k .just; count = k .count; size = k .size; untouched = k .untouched };
-  refuses = λ p c n part. rw (reads store empty filings words p c) (declined-iff (heldAfter (p .passed)) c n part);
-  answers = λ p c. rw (reads store empty filings words p c) (answered-iff (heldAfter (p .passed)) c);
-  answer = λ p c w v k S h. answers-at store empty filings words p c w v k S (answer-at store empty filings words p c v k S h);
+  refuses = λ p c n part. rw (reads store empty filings words p c) (outcome-declined (namesHeld (heldAfter (p .passed))) c n part);
+  answers = λ p c. rw (reads store empty filings words p c) (outcome-answered (namesHeld (heldAfter (p .passed))) c);
+  answer = λ p c w v k S h. answer-is (heldAfter (p .passed)) (about store empty filings words p) c w v k S (answer-at store empty filings words p c v k S h);
+  bounds = λ p c w v k S h.
+      let a = answer-at store empty filings words p c v k S h in
+      bounds c w (a .es) (a .q) v (a .passes) (heldAfter (p .passed)) (about store empty filings words p) v k S (a .reads);
   later = λ p q e c d w same-policy same-query v v′ k k′ S S′ h h′.
       grows-at store empty filings words p q e c d w same-policy same-query v v′ k k′ S S′
       (answer-at store empty filings words p c v k S h) (answer-at store empty filings words q d v′ k′ S′ h′);

@@ -1,4 +1,5 @@
--- Document 01, "Portal cases" a to l, from the words filed and the words of policy and query to the reply and the set.
+-- Document 01, "Portal cases" a to l, from the words filed and the words of policy and query to the reply and the set. (P and Q are spelled out where they
+-- are judged, in `policy/specs/Judged.antt`.)
 use Prim.Native.Nat.{ℕ}
 use mathlib.Core.Path.{_≡_}
 use mathlib.Core.List.{List, [], _∷_}
@@ -7,6 +8,7 @@ use Rattle.rows.specs.Word.{All}
 use Rattle.rows.specs.Sets.{only, allBut}
 use Rattle.certificates.specs.Filing.{storeAt}
 use Rattle.policy.specs.Polarity.{exact, lower, upper}
+use Rattle.policy.specs.Judged.{k1, P, Q, none as noDefinitions}
 use Rattle.engine.specs.Query.{Outcome, answered, declined, Call, queryCall}
 
 -- "An empty store is a sound one with the count 0, whatever words follow."
@@ -23,21 +25,6 @@ unfoldable pub Holds : Case → Type 0
 unfolding emptyStore
 Holds c =
     queryCall (storeAt emptyStore (c .filings)) (record { policy = c .policy; query = c .query; answer = replicate 642 5; definitions = replicate 10272 6; scratch = replicate 16384 7 }) ≡ c .outcome
-
--- the key k1
-abbrev k1 : ℕ
-k1 = 2147483649
-
--- "P has one definition, name 10, +, offset 6, length 23 .. (released and not withdrawn). Q is 3 0."
-abbrev P : List ℕ
-P = 1 ∷ 1 ∷ 10 ∷ 0 ∷ 6 ∷ 23 ∷ 7 ∷ 2 ∷ 1 ∷ 4 ∷ 0 ∷ k1 ∷ 1 ∷ 0 ∷ 1 ∷ 2 ∷ 0 ∷ 4 ∷ 1 ∷ 1 ∷ 0 ∷ 4 ∷ 0 ∷ k1 ∷ 2 ∷ 1 ∷ 1 ∷ 1 ∷ 0 ∷ []
-
-abbrev Q : List ℕ
-Q = 3 ∷ 0 ∷ []
-
--- the policy of the cases from f on
-abbrev noDefinitions : List ℕ
-noDefinitions = 1 ∷ 0 ∷ []
 
 -- k1, 1, +, row 7; k1, 2, −, row 7; k1, 1, +, row 8
 abbrev b : List ℕ
