@@ -7,12 +7,12 @@ use native.Mathlib.Nat.{add-sub-cancel-left}
 use native.Mathlib.Numerals.{add-one}
 use native.Mathlib.Omega.{arith}
 use lib.Dec.{ltb}
-use lib.ListN.{length, getD, take, drop, drop-of-length-le, List·getD-eq-default}
-use lib.Seq.{drop-cons, drop-drop}
+use lib.ListN.{length, getD, take, drop, drop-of-length-le}
+use lib.Seq.{drop-cons}
 use borrow.Author.Tests.{ltb-true, ltb-false, le-ltb, le-leb, lt-leb, eq-eqb, ne-eqb}
 use Rattle.rows.specs.Ordered.{wordsBefore}
 use Rattle.rows.specs.Row.{firstKey}
-use Rattle.rows.specs.Layout.{zeros, soundRow}
+use Rattle.rows.specs.Layout.{soundRow}
 use Rattle.rows.proofs.Case.{Case, isTrue, isFalse, split}
 use Rattle.certificates.specs.Certificate.{recordWords, soundRecord}
 
@@ -45,37 +45,6 @@ module _ (a b : List ℕ) (i : ℕ) where
   pub before-alike : i < length a → i < length b → getD a i 0 ≡ getD b i 0 → wordsBefore (drop (i + 1) a) (drop (i + 1) b) ≡ wordsBefore (drop i a) (drop i b)
   unfolding wordsBefore
   before-alike p q e = rw (add-one, drop-cons a i 0, drop-cons b i 0, le-ltb (getD a i 0) (getD b i 0) (omega arith), eq-eqb _ _ e)
-
--- zeros from word i on
-module _ (ws : List ℕ) (i : ℕ) where
-  pub zeros-ended : length ws ≤ i → true ≡ zeros (drop i ws)
-  unfolding zeros
-  zeros-ended p = rw (drop-of-length-le ws p)
-
-  pub zeros-not : i < length ws → (getD ws i 0 ≡ 0 → ⊥) → false ≡ zeros (drop i ws)
-  unfolding zeros
-  zeros-not p n = rw (drop-cons ws i 0, ne-eqb _ _ n)
-
-  pub zeros-next : i < length ws → getD ws i 0 ≡ 0 → zeros (drop (i + 1) ws) ≡ zeros (drop i ws)
-  unfolding zeros
-  zeros-next p e = rw (add-one, drop-cons ws i 0, eq-eqb _ _ e)
-
--- a row's five words
-module _ (ws : List ℕ) where
-  pub row-narrow : getD ws 0 0 ≡ 0 → false ≡ soundRow ws
-  unfolding soundRow
-  row-narrow e = rw (lt-leb 1 (getD ws 0 0) (omega arith))
-
-  pub row-none : length ws ≡ 0 → false ≡ soundRow ws
-  row-none e = row-narrow (List·getD-eq-default ws 0 (omega arith))
-
-  pub row-wide : 4 < getD ws 0 0 → false ≡ soundRow ws
-  unfolding soundRow
-  row-wide p = rw (le-leb 1 (getD ws 0 0) (omega arith), lt-leb _ _ p)
-
-  pub row-zeros : (getD ws 0 0 ≡ 0 → ⊥) → getD ws 0 0 ≤ 4 → zeros (drop (1 + getD ws 0 0) ws) ≡ soundRow ws
-  unfolding soundRow
-  row-zeros n p = rw (le-leb 1 (getD ws 0 0) (omega arith), le-leb _ _ p, drop-drop)
 
 -- a record's eight words
 module _ (w : List ℕ) where

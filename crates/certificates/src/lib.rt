@@ -11,7 +11,7 @@ use store::CAPACITY;
 use store::insert;
 use store::is_held;
 use store::place_of;
-use store::sound_store;
+pub use store::sound_store;
 
 pub enum Filing {
     Filed,

@@ -1,9 +1,9 @@
 use borrow.Author.Needs.{needs}
-use Prim.Native.Nat.{ℕ, _-_}
+use Prim.Native.Nat.{ℕ}
 use mathlib.Core.Path.{_∙_, ap}
 use mathlib.Core.List.{List}
 use native.Mathlib.Omega.{arith}
-use lib.ListN.{length, drop}
+use lib.ListN.{drop}
 use Rattle.rows.specs.Layout.{soundRow}
 use lib.ListN.{length-drop}
 use lib.Seq.{take-all}
@@ -32,24 +32,15 @@ shared-slice-read-if4 c = search needs
 returns-4 : tie.Need-returns-4
 returns-4 c = no-polarity (c .before .before .before .before .before .before .before .before .args .words .now) (c .before .before .before .before .before .before .if1 .left) (c .before .before .before .before .if2 .left) (c .before .before .if3 .left) (c .if4 .taken)
 
-sub-sound-row : tie.Need-sub-sound-row
-sub-sound-row c = search needs
-
-part-sound-row-start : tie.Need-part-sound-row-start
-part-sound-row-start c = search needs
-
-part-sound-row-end : tie.Need-part-sound-row-end
-part-sound-row-end c = search needs
-
-sound-row-requires : tie.Need-sound-row-requires
-sound-row-requires c κs = search needs
+sound-requires : tie.Need-sound-requires
+sound-requires c κs = search needs
 
 returns-5 : tie.Need-returns-5
 returns-5 c =
-    let w : List ℕ = c .before .before .before .before .before .before .before .before .before .before .args .words .now in
-    c .sound-row .ensures
-    ∙ ap soundRow (take-all (length w - 3) (drop 3 w) (omega (arith, length-drop 3 w)))
-    ∙ its-row w (c .before .before .before .before .before .before .before .before .if1 .left) (c .before .before .before .before .before .before .if2 .left) (c .before .before .before .before .if3 .left) (c .before .before .if4 .left)
+    let w : List ℕ = c .before .before .before .before .before .before .before .before .before .args .words .now in
+    c .sound .ensures
+    ∙ ap soundRow (take-all 5 (drop 3 w) (omega (arith, length-drop 3 w)))
+    ∙ its-row w (c .before .before .before .before .before .before .before .if1 .left) (c .before .before .before .before .before .if2 .left) (c .before .before .before .if3 .left) (c .before .if4 .left)
 
 pub sound-record-spec : {M : Type 1} → statement M
 sound-record-spec =
@@ -62,8 +53,5 @@ sound-record-spec =
     returns-3
     shared-slice-read-if4
     returns-4
-    sub-sound-row
-    part-sound-row-start
-    part-sound-row-end
-    sound-row-requires
+    sound-requires
     returns-5)
