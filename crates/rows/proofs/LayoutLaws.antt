@@ -299,7 +299,7 @@ sound-proper ws e a =
 pub sound-few : (ws : List ℕ) → soundSet ws ≡ true → length (listing (setIn ws)) ≤ mostRows
 sound-few ws e = let c = true-sound ws e .count in omega (arith, count-in ws)
 
-sound-rows : (ws : List ℕ) → soundSet ws ≡ true → flat (map rowWords (listing (setIn ws))) ≡ take (5 * getD ws 1 0) (drop 2 ws)
+pub sound-rows : (ws : List ℕ) → soundSet ws ≡ true → flat (map rowWords (listing (setIn ws))) ≡ take (5 * getD ws 1 0) (drop 2 ws)
 unfolding rowsIn
 sound-rows ws e =
     let s = true-sound ws e in

@@ -7,3 +7,6 @@ pub mod RowLaws
 pub mod Put
 pub mod Scan
 pub mod SetWords
+pub mod Place
+pub mod Laid
+pub mod Inserting

@@ -91,6 +91,13 @@ pub put-none : (at : ℕ) (area : List ℕ) → put at [] area ≡ area
 unfolding put
 put-none at area = let e : at + 0 ≡ at = omega arith in ap (λ (k : ℕ). take at area ++ drop k area) e ∙ take-append-drop at area
 
+pub put-itself : (at n : ℕ) (area : List ℕ) → at + n ≤ length area → put at (take n (drop at area)) area ≡ area
+unfolding put
+put-itself at n area h =
+    let l : length (take n (drop at area)) ≡ n = length-take-le n (drop at area) (omega (arith, length-drop at area)) in
+    let d : drop (at + length (take n (drop at area))) area ≡ drop n (drop at area) = ap (λ (k : ℕ). drop (at + k) area) l ∙ sym (drop-drop n at area) in
+    ap (λ (m : List ℕ). take at area ++ (take n (drop at area) ++ m)) d ∙ ap (λ (m : List ℕ). take at area ++ m) (take-append-drop n (drop at area)) ∙ take-append-drop at area
+
 -- one word
 pub set-put : (area : List ℕ) (at w : ℕ) → at < length area → set area at w ≡ put at (w ∷ []) area
 unfolding put

@@ -1,12 +1,21 @@
 -- What the values that the code hands about stand for.
-use Prim.Native.Nat.{ℕ}
+use Prim.Native.Nat.{ℕ, _≤_, _<_}
+use mathlib.Core.Path.{_≡_}
 use mathlib.Core.Bool.{Bool, true, false}
-use mathlib.Core.List.{List, _∷_}
+use mathlib.Core.List.{List, [], _∷_, _++_}
+use lib.Dec.{ltb}
+use lib.ListN.{length, getD, take, drop}
+use Rattle.rows.specs.Ordered.{lists, insert}
 use Rattle.rows.specs.Row.{Row, rowBefore}
-use Rattle.rows.specs.Layout.{rowIn}
+use Rattle.rows.specs.Sets.{RowSet, listing, mostRows}
+use Rattle.rows.specs.Layout.{rowIn, rowsIn, formed, written}
 use Rattle.rows.specs.declared.row.Row as Held
 use Rattle.rows.specs.declared.row.Order as Order
 use Rattle.rows.specs.declared.row.Order.the-variants.{Before, Same, After}
+use Rattle.rows.specs.declared.set.Found as Found
+use Rattle.rows.specs.declared.set.Found.the-variants.{At, Missing}
+use Rattle.rows.specs.declared.set.Inserted as Inserted
+use Rattle.rows.specs.declared.set.Inserted.the-variants.{New, Known, Full}
 
 -- a row in hand: its five words, and the row that they are
 unfoldable pub wordsOf : Held.Row → List ℕ
@@ -19,3 +28,18 @@ rowOf r = rowIn (wordsOf r)
 -- which of two rows comes first
 unfoldable pub orderOf : Row → Row → Order.Order
 orderOf x y = elim (rowBefore x y) [ true ↦ Before | false ↦ elim (rowBefore y x) [ true ↦ After | false ↦ Same ] ]
+
+-- where a row stands in an ascending list, or would stand
+unfoldable pub Finds : List Row → Row → Found.Found → Type 0
+Finds xs r (At i) = (lists rowBefore xs r ≡ true) × (i < length xs) × (getD xs i [] ≡ r)
+Finds xs r (Missing i) = (lists rowBefore xs r ≡ false) × (i ≤ length xs) × (insert rowBefore r xs ≡ take i xs ++ (r ∷ drop i xs))
+
+-- what becomes of a row that is to be listed: "repeats count once", and no set lists over 128 rows
+unfoldable pub insertion : RowSet → Row → Inserted.Inserted
+insertion s r = elim (lists rowBefore (listing s) r) [ true ↦ Known | false ↦ elim (ltb (length (listing s)) mostRows) [ true ↦ New | false ↦ Full ] ]
+
+-- the words afterwards
+unfoldable pub afterInsert : Inserted.Inserted → List ℕ → Row → List ℕ
+afterInsert New ws r = written (formed (getD ws 0 0) (insert rowBefore r (rowsIn ws))) ws
+afterInsert Known ws r = written (formed (getD ws 0 0) (insert rowBefore r (rowsIn ws))) ws
+afterInsert Full ws r = ws
