@@ -4,5 +4,8 @@ pub mod Leaves
 pub mod Decoding
 pub mod Decoded
 pub mod Scope
+pub mod Answering
+pub mod TermAnswers
+pub mod RowAnswers
 pub mod Judging
 pub mod Judged

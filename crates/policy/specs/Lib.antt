@@ -8,3 +8,4 @@ pub mod Table
 pub mod Judgement
 pub mod Judged
 pub mod Part
+pub mod Answers

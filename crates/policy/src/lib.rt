@@ -1,1 +1,2 @@
 // Policies and queries: their words, and how they are judged.
+pub mod terms;
