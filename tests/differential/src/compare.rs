@@ -1,0 +1,216 @@
+//! Puts the same words to two engines and compares replies and areas, word for word.
+
+use crate::engine::{Engine, Lent, OF_QUERY};
+use crate::evaluator::{Areas, Evaluator, Set};
+use crate::generate::{Case, Filings, Generator, PORTAL};
+use crate::random::Random;
+use std::collections::BTreeMap;
+
+/// What was seen in a run.
+#[derive(Default)]
+pub struct Tally {
+    pub passed: u64,
+    pub failed: u64,
+    /// Replies to filings by number, to queries by refusal number, and answers by verdict and form.
+    pub filings: BTreeMap<u32, u64>,
+    pub refusals: BTreeMap<u32, u64>,
+    pub answers: BTreeMap<(u32, &'static str), u64>,
+    /// The first few failures, in full.
+    pub reports: Vec<String>,
+}
+
+const MOST_REPORTS: usize = 5;
+
+impl Tally {
+    pub fn count(&mut self, result: Result<(), String>) {
+        match result {
+            Ok(()) => self.passed += 1,
+            Err(report) => {
+                self.failed += 1;
+                if self.reports.len() < MOST_REPORTS {
+                    self.reports.push(report);
+                }
+            }
+        }
+    }
+}
+
+/// Words that the engines have no business with, of which parts serve as areas.
+struct Junk(Vec<u32>);
+
+impl Junk {
+    const WORDS: usize = 40_000;
+
+    fn new(random: &mut Random) -> Junk {
+        Junk((0..Junk::WORDS).map(|_| random.word()).collect())
+    }
+
+    fn area(&self, length: usize, random: &mut Random) -> Vec<u32> {
+        let start = random.below(Junk::WORDS - length);
+        self.0[start..start + length].to_vec()
+    }
+}
+
+fn equal<T: PartialEq + std::fmt::Debug>(what: &str, tested: T, expected: T) -> Result<(), String> {
+    if tested == expected { Ok(()) } else { Err(format!("{what}: the tested engine has {tested:?}, the evaluator {expected:?}")) }
+}
+
+/// The first place where two areas differ.
+fn same_words(what: &str, tested: &[u32], expected: &[u32]) -> Result<(), String> {
+    match tested.iter().zip(expected).position(|(a, b)| a != b) {
+        None => Ok(()),
+        Some(place) => equal(&format!("{what}, word {place}"), tested[place], expected[place]),
+    }
+}
+
+pub struct Comparison<'a> {
+    pub tested: &'a dyn Engine,
+    pub expected: Evaluator,
+    pub tally: Tally,
+    junk: Junk,
+    random: Random,
+}
+
+impl<'a> Comparison<'a> {
+    pub fn new(tested: &'a dyn Engine, expected: Evaluator, seed: u64) -> Comparison<'a> {
+        let mut random = Random::new(!seed);
+        Comparison { tested, expected, tally: Tally::default(), junk: Junk::new(&mut random), random }
+    }
+
+    /// So many cases, or up to the first failure.
+    pub fn run(&mut self, seed: u64, cases: u64, stop_at_failure: bool) {
+        let mut generator = Generator::new(seed, &PORTAL);
+        let mut store = generator.store();
+        for number in 0..cases {
+            let result = self.next(&mut generator, &mut store);
+            self.tally.count(result.map_err(|report| format!("case {number}, {report}")));
+            if stop_at_failure && self.tally.failed > 0 {
+                return;
+            }
+        }
+    }
+
+    /// One case in eight is a list of filings.
+    fn next(&mut self, generator: &mut Generator, store: &mut Vec<u32>) -> Result<(), String> {
+        if generator.random.chance(125) {
+            return self.filings(&generator.filings());
+        }
+        if generator.random.chance(150) {
+            *store = generator.store();
+        }
+        let case = generator.case();
+        let show = |report| format!("{report}\n  policy {:?}\n  query {:?}\n  areas {:?}", case.policy, case.query, case.areas);
+        self.case(&case, store).map_err(show)
+    }
+
+    /// Each filing gets the store as those before it left it.
+    fn filings(&mut self, filings: &Filings) -> Result<(), String> {
+        let (mut tested, mut expected) = (filings.store.clone(), filings.store.clone());
+        for certificate in &filings.certificates {
+            let reply = Engine::file(&self.expected, &mut expected, certificate);
+            *self.tally.filings.entry(reply).or_default() += 1;
+            let filing = || format!("filing {certificate:?} in a store of {} certificates", filings.store.first().unwrap_or(&0));
+            equal(&filing(), self.tested.file(&mut tested, certificate), reply)?;
+            same_words(&filing(), &tested, &expected)?;
+        }
+        Ok(())
+    }
+
+    fn case(&mut self, case: &Case, store: &[u32]) -> Result<(), String> {
+        let Case { policy, query, .. } = case;
+        let reply = self.query(case, store)?;
+        if self.random.chance(100) {
+            equal("the same query with other junk", self.query(case, store)?, reply)?;
+        }
+        equal("judgement", self.tested.judge(policy, query), Engine::judge(&self.expected, policy, query))?;
+        self.part(case)?;
+        let certificates = Engine::certificates_of(&self.expected, store, case.name);
+        equal(&format!("certificates of {:?}", case.name), self.tested.certificates_of(store, case.name), certificates)
+    }
+
+    fn query(&mut self, case: &Case, store: &[u32]) -> Result<u64, String> {
+        let Areas { answer, definitions, scratch } = case.areas;
+        let mut expected = self.junk.area(answer, &mut self.random);
+        let mut tested = expected.clone();
+        let mut definitions = self.junk.area(definitions, &mut self.random);
+        let mut scratch = self.junk.area(scratch, &mut self.random);
+        let mut ask = |engine: &dyn Engine, answer: &mut [u32]| {
+            let lent = Lent { answer, definitions: &mut definitions, scratch: &mut scratch };
+            engine.query(&case.policy, &case.query, store, lent)
+        };
+        let reply = ask(&self.expected, &mut expected);
+        let store_before = store.to_vec();
+        let tested_reply = ask(self.tested, &mut tested);
+        self.tally_reply(reply, &expected);
+        let show = |reply: u64| [reply & 0xFF, reply >> 8 & 0xFF, reply >> 16 & 0xFFFF, reply >> 32];
+        equal("number, part, verdict and draws", show(tested_reply), show(reply))?;
+        same_words("answer area", &tested, &expected)?;
+        same_words("store after a query", store, &store_before)?;
+        Ok(reply)
+    }
+
+    fn tally_reply(&mut self, reply: u64, answer: &[u32]) {
+        let (number, verdict) = ((reply & 0xFF) as u32, (reply >> 16 & 0xFF) as u32);
+        if number > 0 {
+            *self.tally.refusals.entry(number).or_default() += 1;
+            return;
+        }
+        let table = match Set::from_words(answer) {
+            Some(Set::Finite(rows)) if rows.is_empty() => "no rows",
+            Some(Set::Finite(_)) => "some rows",
+            Some(Set::Complement(rows)) if rows.is_empty() => "all rows",
+            Some(Set::Complement(_)) => "all but some",
+            None => "an unsound set", // only with a planted fault
+        };
+        *self.tally.answers.entry((verdict, table)).or_default() += 1;
+    }
+
+    /// Of an empty part only its emptiness is promised, and whose part it is.
+    fn part(&self, case: &Case) -> Result<(), String> {
+        let tested = self.tested.part(&case.policy, &case.query, case.number);
+        let expected = Engine::part(&self.expected, &case.policy, &case.query, case.number);
+        let promised = if expected as u32 == 0 { u64::from(u32::MAX) | OF_QUERY } else { u64::MAX };
+        equal(&format!("part {}", case.number), tested & promised, expected & promised)
+    }
+}
+
+#[cfg(test)]
+mod tests {
+    use super::*;
+    use crate::faults::Fault;
+
+    fn run(expected: Evaluator, cases: u64, stop_at_failure: bool) -> Tally {
+        let sound = Evaluator::default();
+        let mut comparison = Comparison::new(&sound, expected, 7);
+        comparison.run(7, cases, stop_at_failure);
+        comparison.tally
+    }
+
+    #[test]
+    fn every_refusal_and_every_verdict_occurs_often() {
+        let tally = run(Evaluator::default(), 10_000, false);
+        assert_eq!(tally.failed, 0);
+        for number in [0, 1, 8, 9, 10] {
+            assert!(tally.filings.get(&number) > Some(&20), "filing reply {number}: {:?}", tally.filings);
+        }
+        for number in [1, 2, 3, 4, 5, 6, 7, 8, 11, 13] {
+            assert!(tally.refusals.get(&number) > Some(&20), "refusal {number}: {:?}", tally.refusals);
+        }
+        // 14 takes a million draws. 12 is never met: what is not open is always finite.
+        assert!(tally.refusals.contains_key(&14) && !tally.refusals.contains_key(&12));
+        for verdict in 0..=2 {
+            for table in ["some rows", "all but some"] {
+                assert!(tally.answers.get(&(verdict, table)) > Some(&20), "{:?}", tally.answers);
+            }
+        }
+    }
+
+    #[test]
+    fn every_planted_fault_is_noticed() {
+        for fault in Fault::ALL {
+            let tally = run(Evaluator { fault: Some(fault) }, 40_000, true);
+            println!("{fault:?}: noticed by case {}", tally.passed);
+            assert_eq!(tally.failed, 1, "{fault:?} is not noticed");
+        }
+    }
+}

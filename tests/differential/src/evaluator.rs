@@ -1,0 +1,871 @@
+//! Document 01 as a plain program, section by section, to be read with document 01 beside it.
+//!
+//! It is slow and short on purpose: sets are `BTreeSet`s, words are parsed by recursive descent, and nothing is shared with the engine it is compared with.
+//! Places marked `planted` are mistakes that are made only when asked for; without a [`Fault`] they do nothing.
+
+use crate::faults::Fault;
+use std::collections::{BTreeMap, BTreeSet};
+use std::ops::{Range, RangeInclusive};
+
+// ---- Rows, sets ----
+
+/// Atoms from here up are keys, those below are numbers.
+pub const FIRST_KEY: u32 = 2_147_483_648;
+
+/// kN.
+pub const fn key(n: u32) -> u32 {
+    FIRST_KEY + n
+}
+
+pub fn is_key(atom: u32) -> bool {
+    atom >= FIRST_KEY
+}
+
+/// Unused atoms are 0, so that the derived order is by width, then atom by atom.
+#[derive(Clone, Copy, PartialEq, Eq, PartialOrd, Ord, Debug)]
+pub struct Row {
+    pub width: u32,
+    pub atoms: [u32; 4],
+}
+
+impl Row {
+    pub fn new(atoms: &[u32]) -> Row {
+        let mut row = Row { width: atoms.len() as u32, atoms: [0; 4] };
+        row.atoms[..atoms.len()].copy_from_slice(atoms);
+        row
+    }
+
+    /// Width and four atoms, if the width and the unused atoms keep the rules.
+    pub fn from_words(words: &[u32]) -> Option<Row> {
+        let &[width, a, b, c, d] = words else { return None };
+        let row = Row { width, atoms: [a, b, c, d] };
+        let sound = (1..=4).contains(&width) && row.atoms[width as usize..].iter().all(|&atom| atom == 0);
+        sound.then_some(row)
+    }
+
+    pub fn words(&self) -> [u32; 5] {
+        let [a, b, c, d] = self.atoms;
+        [self.width, a, b, c, d]
+    }
+
+    pub fn used(&self) -> &[u32] {
+        &self.atoms[..self.width as usize]
+    }
+}
+
+/// No set lists more rows.
+pub const MOST_ROWS: usize = 128;
+
+/// The words that a set may take.
+pub const SET_WORDS: usize = 642;
+
+#[derive(Clone, PartialEq, Eq, Debug)]
+pub enum Set {
+    Finite(BTreeSet<Row>),
+    /// All rows but these.
+    Complement(BTreeSet<Row>),
+}
+
+impl Set {
+    pub fn listed(&self) -> &BTreeSet<Row> {
+        match self {
+            Set::Finite(rows) | Set::Complement(rows) => rows,
+        }
+    }
+
+    pub fn holds(&self, row: &Row) -> bool {
+        match self {
+            Set::Finite(rows) => rows.contains(row),
+            Set::Complement(rows) => !rows.contains(row),
+        }
+    }
+
+    pub fn union(&self, other: &Set) -> Set {
+        use Set::*;
+        match (self, other) {
+            (Finite(a), Finite(b)) => Finite(a | b),
+            (Finite(a), Complement(b)) => Complement(b - a),
+            (Complement(a), Finite(b)) => Complement(a - b),
+            (Complement(a), Complement(b)) => Complement(a & b),
+        }
+    }
+
+    pub fn minus(&self, other: &Set) -> Set {
+        use Set::*;
+        match (self, other) {
+            (Finite(a), Finite(b)) => Finite(a - b),
+            (Finite(a), Complement(b)) => Finite(a & b),
+            (Complement(a), Finite(b)) => Complement(a | b),
+            (Complement(a), Complement(b)) => Finite(b - a),
+        }
+    }
+
+    /// Form, count, five words a row.
+    pub fn words(&self) -> Vec<u32> {
+        let form = matches!(self, Set::Complement(_)) as u32;
+        let mut words = vec![form, self.listed().len() as u32];
+        words.extend(self.listed().iter().flat_map(Row::words));
+        words
+    }
+
+    /// A set handed in, if it is sound; words past its last row are not looked at.
+    pub fn from_words(words: &[u32]) -> Option<Set> {
+        let (&form, &count) = (words.first()?, words.get(1)?);
+        if form > 1 || count as usize > MOST_ROWS {
+            return None;
+        }
+        let laid_out = words.get(2..2 + 5 * count as usize)?;
+        let rows = laid_out.chunks(5).map(Row::from_words).collect::<Option<Vec<Row>>>()?;
+        if rows.windows(2).any(|pair| pair[0] >= pair[1]) {
+            return None;
+        }
+        let rows = rows.into_iter().collect();
+        Some(if form == 0 { Set::Finite(rows) } else { Set::Complement(rows) })
+    }
+}
+
+// ---- Store and filing ----
+
+pub const STORE_WORDS: usize = 16_001;
+pub const MOST_CERTIFICATES: usize = 2_000;
+pub const LAST_NAME: u32 = 65_535;
+
+/// Key, name, polarity, width, four atoms.
+pub type Record = [u32; 8];
+
+fn sound_record(record: &[u32]) -> bool {
+    is_key(record[0]) && record[1] <= LAST_NAME && record[2] <= 1 && Row::from_words(&record[3..]).is_some()
+}
+
+/// The records of a sound store.
+pub fn certificates(store: &[u32]) -> Option<Vec<Record>> {
+    if store.len() < STORE_WORDS || store[0] as usize > MOST_CERTIFICATES {
+        return None;
+    }
+    let words = &store[1..1 + 8 * store[0] as usize];
+    let records: Vec<Record> = words.chunks(8).map(|record| record.try_into().unwrap()).collect();
+    let sound = records.iter().all(|record| sound_record(record));
+    let ascending = records.windows(2).all(|pair| pair[0] < pair[1]);
+    (sound && ascending).then_some(records)
+}
+
+#[derive(Clone, Copy, PartialEq, Eq, Debug)]
+pub enum Filing {
+    Filed,
+    Held,
+    Refused(u32),
+}
+
+/// The part of the store with one name's certificates, in words; empty if there is none or the store is unsound.
+pub fn certificates_of(store: &[u32], name: [u32; 3]) -> Range<usize> {
+    let Some(records) = certificates(store) else { return 0..0 };
+    let of_name = |record: &Record| record[..3] == name;
+    let Some(first) = records.iter().position(of_name) else { return 0..0 };
+    let count = records.iter().filter(|record| of_name(record)).count();
+    1 + 8 * first..1 + 8 * (first + count)
+}
+
+// ---- Policy words ----
+
+pub const MOST_DEFINITIONS: u32 = 16;
+pub const MOST_POLICY_WORDS: usize = 8_192;
+pub const MOST_QUERY_WORDS: usize = 1_024;
+
+/// A definition's table entry, with its words as a part of the policy.
+#[derive(Clone, PartialEq, Eq, Debug)]
+pub struct Entry {
+    pub name: u32,
+    pub polarity: u32,
+    pub part: Range<usize>,
+}
+
+/// Where one of the engine's expressions stands.
+#[derive(Clone, PartialEq, Eq, Debug)]
+pub enum Part {
+    Policy(Range<usize>),
+    Query(Range<usize>),
+}
+
+// ---- Expressions ----
+
+#[derive(Clone, Copy, PartialEq, Eq, Debug)]
+pub enum Term {
+    Atom(u32),
+    Variable(usize),
+}
+
+#[derive(Clone, Copy, PartialEq, Eq, Debug)]
+pub enum Slot {
+    Term(Term),
+    New,
+}
+
+#[derive(Clone, PartialEq, Eq, Debug)]
+pub enum Expression {
+    Rows(Vec<Vec<Term>>),
+    AllBut(Vec<Vec<Term>>),
+    Definition(usize),
+    List { issuer: Term, name: u32, polarity: u32 },
+    Union(Box<Expression>, Box<Expression>),
+    Difference(Box<Expression>, Box<Expression>),
+    Comprehension { guards: Vec<Guard>, head: Vec<Term> },
+}
+
+#[derive(Clone, PartialEq, Eq, Debug)]
+pub enum Guard {
+    Draw { from: Expression, pattern: Vec<Slot> },
+    Same(Term, Term),
+    Different(Term, Term),
+    Absent { row: Vec<Term>, from: Expression },
+}
+
+/// A refusal's number before its part is known, or the value.
+type Numbered<T> = Result<T, u32>;
+
+const DEEPEST: u32 = 15;
+const MOST_DRAWS_WRITTEN: u32 = 8;
+pub const MOST_VARIABLES: usize = 16;
+
+/// Reads one whole definition or query, word by word; at each word the rules of 3, then 4, then 5.
+struct Parser<'a> {
+    words: &'a [u32],
+    at: usize,
+    /// Definitions that may be used.
+    available: usize,
+    /// Variables in scope.
+    variables: usize,
+    draws: u32,
+    evaluator: Evaluator,
+}
+
+impl Parser<'_> {
+    fn word(&mut self) -> Numbered<u32> {
+        let word = *self.words.get(self.at).ok_or(3u32)?;
+        self.at += 1;
+        Ok(word)
+    }
+
+    fn within(&mut self, rule: RangeInclusive<u32>) -> Numbered<u32> {
+        let word = self.word()?;
+        if rule.contains(&word) { Ok(word) } else { Err(3) }
+    }
+
+    fn times<T>(&mut self, count: u32, mut read: impl FnMut(&mut Self) -> Numbered<T>) -> Numbered<Vec<T>> {
+        (0..count).map(|_| read(self)).collect()
+    }
+
+    fn left_over(&self) -> bool {
+        self.at < self.words.len()
+    }
+
+    fn expression(&mut self, depth: u32) -> Numbered<Expression> {
+        let code = self.within(1..=7)?;
+        let deepest = DEEPEST + self.evaluator.has(Fault::Depth16Passes) as u32; // planted
+        if depth > deepest {
+            return Err(5);
+        }
+        Ok(match code {
+            1 => Expression::Rows(self.rows()?),
+            2 => Expression::AllBut(self.rows()?),
+            3 => Expression::Definition(self.definition()?),
+            4 => self.list()?,
+            5 => Expression::Union(self.inside(depth)?, self.inside(depth)?),
+            6 => Expression::Difference(self.inside(depth)?, self.inside(depth)?),
+            _ => self.comprehension(depth)?,
+        })
+    }
+
+    fn inside(&mut self, depth: u32) -> Numbered<Box<Expression>> {
+        Ok(Box::new(self.expression(depth + 1)?))
+    }
+
+    fn rows(&mut self) -> Numbered<Vec<Vec<Term>>> {
+        let count = self.within(0..=128)?;
+        self.times(count, Self::row)
+    }
+
+    fn row(&mut self) -> Numbered<Vec<Term>> {
+        let width = self.within(1..=4)?;
+        self.times(width, Self::term)
+    }
+
+    fn term(&mut self) -> Numbered<Term> {
+        match self.within(0..=1)? {
+            0 => Ok(Term::Atom(self.word()?)),
+            _ => self.variable(),
+        }
+    }
+
+    fn variable(&mut self) -> Numbered<Term> {
+        let number = self.word()? as usize;
+        if number < self.variables { Ok(Term::Variable(number)) } else { Err(4) }
+    }
+
+    fn definition(&mut self) -> Numbered<usize> {
+        let number = self.word()? as usize;
+        if number < self.available { Ok(number) } else { Err(4) }
+    }
+
+    fn list(&mut self) -> Numbered<Expression> {
+        let issuer = match self.within(0..=1)? {
+            0 => Term::Atom(self.within(FIRST_KEY..=u32::MAX)?),
+            _ => self.variable()?,
+        };
+        let name = self.within(0..=LAST_NAME)?;
+        let polarity = self.within(0..=1)?;
+        Ok(Expression::List { issuer, name, polarity })
+    }
+
+    fn comprehension(&mut self, depth: u32) -> Numbered<Expression> {
+        let outside = self.variables;
+        let count = self.within(0..=8)?;
+        let guards = self.times(count, |parser| parser.guard(depth))?;
+        let head = self.row()?;
+        self.variables = outside;
+        Ok(Expression::Comprehension { guards, head })
+    }
+
+    fn guard(&mut self, depth: u32) -> Numbered<Guard> {
+        match self.within(1..=4)? {
+            1 => self.draw(depth),
+            2 => Ok(Guard::Same(self.term()?, self.term()?)),
+            3 => Ok(Guard::Different(self.term()?, self.term()?)),
+            _ => Ok(Guard::Absent { row: self.row()?, from: self.expression(depth + 1)? }),
+        }
+    }
+
+    fn draw(&mut self, depth: u32) -> Numbered<Guard> {
+        let most = MOST_DRAWS_WRITTEN + self.evaluator.has(Fault::NinthDrawPasses) as u32; // planted
+        self.draws += 1;
+        if self.draws > most {
+            return Err(5);
+        }
+        let from = self.expression(depth + 1)?;
+        let width = self.within(1..=4)?;
+        let pattern = self.times(width, Self::slot)?;
+        Ok(Guard::Draw { from, pattern })
+    }
+
+    fn slot(&mut self) -> Numbered<Slot> {
+        Ok(match self.within(0..=2)? {
+            0 => Slot::Term(Term::Atom(self.word()?)),
+            1 => Slot::Term(self.variable()?),
+            _ => self.new_variable()?,
+        })
+    }
+
+    fn new_variable(&mut self) -> Numbered<Slot> {
+        let most = MOST_VARIABLES + self.evaluator.has(Fault::SeventeenthVariablePasses) as usize; // planted
+        if self.word()? as usize != self.variables || self.variables == most {
+            return Err(4);
+        }
+        self.variables += 1;
+        Ok(Slot::New)
+    }
+}
+
+// ---- Polarity and openness ----
+
+#[derive(Clone, Copy, PartialEq, Eq, Debug)]
+pub struct Polarities {
+    pub plus: bool,
+    pub minus: bool,
+}
+
+impl Polarities {
+    pub const BOTH: Polarities = Polarities { plus: true, minus: true };
+
+    pub fn only(polarity: u32) -> Polarities {
+        Polarities { plus: polarity == 0, minus: polarity == 1 }
+    }
+
+    fn common(self, other: Polarities) -> Polarities {
+        Polarities { plus: self.plus && other.plus, minus: self.minus && other.minus }
+    }
+
+    fn opposite(self) -> Polarities {
+        Polarities { plus: self.minus, minus: self.plus }
+    }
+
+    fn has(self, polarity: u32) -> bool {
+        if polarity == 0 { self.plus } else { self.minus }
+    }
+
+    fn verdict(self) -> Option<Verdict> {
+        match (self.plus, self.minus) {
+            (true, true) => Some(Verdict::Exact),
+            (true, false) => Some(Verdict::Lower),
+            (false, true) => Some(Verdict::Upper),
+            (false, false) => None,
+        }
+    }
+}
+
+#[derive(Clone, Copy, PartialEq, Eq, Debug)]
+pub enum Verdict {
+    Exact = 0,
+    Lower = 1,
+    Upper = 2,
+}
+
+/// A definition that went through 3 to 7.
+#[derive(Clone, Debug)]
+pub struct Definition {
+    pub polarity: u32,
+    pub open: bool,
+    pub expression: Expression,
+}
+
+/// A policy and a query that no refusal from 1 to 7 applies to.
+#[derive(Clone, Debug)]
+pub struct Judged {
+    pub definitions: Vec<Definition>,
+    pub query: Expression,
+    pub verdict: Verdict,
+}
+
+// ---- Reading ----
+
+const MOST_DRAWS_MADE: u32 = 1_000_000;
+
+/// Reads in the minimal model of the certificates held.
+struct Reading {
+    held: BTreeMap<[u32; 3], BTreeSet<Row>>,
+    definitions: Vec<Set>,
+    draws: u32,
+    evaluator: Evaluator,
+}
+
+fn limited(set: Set) -> Numbered<Set> {
+    if set.listed().len() > MOST_ROWS { Err(13) } else { Ok(set) }
+}
+
+pub fn value(term: Term, values: &[u32]) -> u32 {
+    match term {
+        Term::Atom(atom) => atom,
+        Term::Variable(number) => values[number],
+    }
+}
+
+pub fn row_of(terms: &[Term], values: &[u32]) -> Row {
+    let mut row = Row { width: terms.len() as u32, atoms: [0; 4] };
+    for (atom, &term) in row.atoms.iter_mut().zip(terms) {
+        *atom = value(term, values);
+    }
+    row
+}
+
+impl Reading {
+    fn new(records: &[Record], evaluator: Evaluator) -> Reading {
+        let mut held: BTreeMap<[u32; 3], BTreeSet<Row>> = BTreeMap::new();
+        for record in records {
+            let row = Row::from_words(&record[3..]).expect("records are sound");
+            held.entry([record[0], record[1], record[2]]).or_default().insert(row);
+        }
+        Reading { held, definitions: Vec::new(), draws: 0, evaluator }
+    }
+
+    fn read(&mut self, expression: &Expression, values: &mut Vec<u32>) -> Numbered<Set> {
+        match expression {
+            Expression::Rows(rows) => Ok(Set::Finite(written(rows, values))),
+            Expression::AllBut(rows) => Ok(Set::Complement(written(rows, values))),
+            Expression::Definition(number) => Ok(self.definitions[*number].clone()),
+            Expression::List { issuer, name, polarity } => self.list(value(*issuer, values), *name, *polarity),
+            Expression::Union(left, right) => self.union(left, right, values),
+            Expression::Difference(left, right) => self.difference(left, right, values),
+            Expression::Comprehension { guards, head } => {
+                let mut found = BTreeSet::new();
+                self.pass(guards, head, values, &mut found)?;
+                Ok(Set::Finite(found))
+            }
+        }
+    }
+
+    fn list(&self, issuer: u32, name: u32, polarity: u32) -> Numbered<Set> {
+        let rows = self.held.get(&[issuer, name, polarity]).cloned().unwrap_or_default();
+        let number = !is_key(issuer);
+        let empty = (self.evaluator.has(Fault::NumberIssuerHasNoRows) && number) // planted
+            || (self.evaluator.has(Fault::UnknownListTakenAsEmpty) && !number && rows.is_empty()); // planted
+        let set = if polarity == 0 || empty { Set::Finite(rows) } else { Set::Complement(rows) };
+        if self.evaluator.has(Fault::NameOf129RowsRead) && set.listed().len() == MOST_ROWS + 1 {
+            return Ok(set); // planted
+        }
+        limited(set)
+    }
+
+    fn union(&mut self, left: &Expression, right: &Expression, values: &mut Vec<u32>) -> Numbered<Set> {
+        let left = self.read(left, values)?;
+        if let (true, Set::Finite(rows), Expression::Comprehension { guards, head }) =
+            (self.evaluator.has(Fault::UnionBuiltInPlace), &left, right)
+        {
+            let mut found = rows.clone(); // planted
+            self.pass(guards, head, values, &mut found)?;
+            return Ok(Set::Finite(found));
+        }
+        let right = self.read(right, values)?;
+        if let (true, Set::Finite(a), Set::Finite(b)) = (self.evaluator.has(Fault::LimitBeforeRepeats), &left, &right) {
+            if a.len() + b.len() > MOST_ROWS {
+                return Err(13); // planted
+            }
+        }
+        if self.evaluator.has(Fault::ComplementAndFiniteJoined) {
+            if let (Set::Complement(a), Set::Finite(b)) | (Set::Finite(b), Set::Complement(a)) = (&left, &right) {
+                return limited(Set::Complement(a | b)); // planted
+            }
+        }
+        limited(left.union(&right))
+    }
+
+    fn difference(&mut self, left: &Expression, right: &Expression, values: &mut Vec<u32>) -> Numbered<Set> {
+        let left = self.read(left, values)?;
+        let right = self.read(right, values)?;
+        if let (true, Set::Complement(a), Set::Complement(b)) =
+            (self.evaluator.has(Fault::ComplementsSubtractedStraight), &left, &right)
+        {
+            return Ok(Set::Finite(a - b)); // planted
+        }
+        limited(left.minus(&right))
+    }
+
+    /// The head's row for each binding that passes the guards left to do.
+    fn pass(&mut self, guards: &[Guard], head: &[Term], values: &mut Vec<u32>, found: &mut BTreeSet<Row>) -> Numbered<()> {
+        let Some((guard, later)) = guards.split_first() else {
+            found.insert(row_of(head, values));
+            return if found.len() > MOST_ROWS { Err(13) } else { Ok(()) };
+        };
+        let passed = match guard {
+            Guard::Draw { from, pattern } => return self.draw(from, pattern, later, head, values, found),
+            Guard::Same(a, b) => value(*a, values) == value(*b, values),
+            Guard::Different(a, b) => value(*a, values) != value(*b, values),
+            Guard::Absent { row, from } => {
+                let row = row_of(row, values);
+                !self.read(from, values)?.holds(&row)
+            }
+        };
+        if passed {
+            return self.pass(later, head, values, found);
+        }
+        if self.evaluator.has(Fault::GuardsAfterFailedOneRead) {
+            return self.pass(later, head, values, &mut BTreeSet::new()); // planted
+        }
+        Ok(())
+    }
+
+    fn draw(
+        &mut self,
+        from: &Expression,
+        pattern: &[Slot],
+        later: &[Guard],
+        head: &[Term],
+        values: &mut Vec<u32>,
+        found: &mut BTreeSet<Row>,
+    ) -> Numbered<()> {
+        let Set::Finite(rows) = self.read(from, values)? else { return Err(12) };
+        let most = MOST_DRAWS_MADE - self.evaluator.has(Fault::MillionthDrawRefused) as u32; // planted
+        let outside = values.len();
+        for row in &rows {
+            if self.draws == most {
+                return Err(14);
+            }
+            let matched = self.matches(row, pattern, values);
+            if matched || !self.evaluator.has(Fault::DrawsCountedWhenMatching) {
+                self.draws += 1; // the condition is planted
+            }
+            if matched {
+                self.pass(later, head, values, found)?;
+            }
+            values.truncate(outside);
+        }
+        Ok(())
+    }
+
+    /// Whether the row is of the pattern's width and equals its terms; new variables are bound on the way.
+    fn matches(&self, row: &Row, pattern: &[Slot], values: &mut Vec<u32>) -> bool {
+        let outside = values.len();
+        row.width as usize == pattern.len()
+            && pattern.iter().zip(row.used()).all(|(slot, &atom)| match slot {
+                Slot::New => {
+                    values.push(atom);
+                    true
+                }
+                Slot::Term(Term::Variable(number)) if *number >= outside && self.evaluator.has(Fault::PatternVariableNotCompared) => true, // planted
+                Slot::Term(term) => value(*term, values) == atom,
+            })
+    }
+}
+
+fn written(rows: &[Vec<Term>], values: &[u32]) -> BTreeSet<Row> {
+    rows.iter().map(|terms| row_of(terms, values)).collect()
+}
+
+// ---- The calls, in the order of the refusal table ----
+
+/// A refusal with its part: 0 to 15 a definition, 16 the query, 17 neither.
+#[derive(Clone, Copy, PartialEq, Eq, Debug)]
+pub struct Refusal {
+    pub number: u32,
+    pub part: u32,
+}
+
+pub const QUERY: u32 = 16;
+pub const NEITHER: u32 = 17;
+
+fn refused<T>(number: u32) -> Result<T, Refusal> {
+    Err(Refusal { number, part: NEITHER })
+}
+
+fn in_part<T>(result: Numbered<T>, part: u32) -> Result<T, Refusal> {
+    result.map_err(|number| Refusal { number, part })
+}
+
+#[derive(Clone, PartialEq, Eq, Debug)]
+pub struct Answer {
+    pub verdict: Verdict,
+    pub draws: u32,
+    pub set: Set,
+}
+
+/// The lengths of the areas lent to a query.
+#[derive(Clone, Copy, PartialEq, Eq, Debug)]
+pub struct Areas {
+    pub answer: usize,
+    pub definitions: usize,
+    pub scratch: usize,
+}
+
+impl Areas {
+    pub const LEAST: Areas = Areas { answer: SET_WORDS, definitions: 10_272, scratch: 16_384 };
+
+    fn under(self, least: Areas) -> bool {
+        self.answer < least.answer || self.definitions < least.definitions || self.scratch < least.scratch
+    }
+}
+
+/// Document 01, or document 01 with one fault planted.
+#[derive(Clone, Copy, Default, Debug)]
+pub struct Evaluator {
+    pub fault: Option<Fault>,
+}
+
+impl Evaluator {
+    pub fn has(&self, fault: Fault) -> bool {
+        self.fault == Some(fault)
+    }
+
+    /// 8, 9, Held, 10.
+    pub fn file(&self, store: &mut [u32], certificate: &[u32]) -> Filing {
+        let Some(records) = certificates(store) else { return Filing::Refused(8) };
+        let Ok(record) = Record::try_from(certificate) else { return Filing::Refused(9) };
+        if !sound_record(&record) {
+            return Filing::Refused(9);
+        }
+        if self.has(Fault::FullBeforeHeld) && records.len() == MOST_CERTIFICATES {
+            return Filing::Refused(10); // planted
+        }
+        let Err(place) = records.binary_search(&record) else { return Filing::Held };
+        if records.len() == MOST_CERTIFICATES {
+            return Filing::Refused(10);
+        }
+        let (start, end) = (1 + 8 * place, 1 + 8 * records.len());
+        store.copy_within(start..end, start + 8);
+        store[start..start + 8].copy_from_slice(&record);
+        store[0] += 1;
+        if self.has(Fault::FilingClearsPastTheEnd) {
+            store.get_mut(end + 8).map(|word| *word = 0); // planted
+        }
+        Filing::Filed
+    }
+
+    /// 1, 2.
+    pub fn table(&self, policy: &[u32]) -> Numbered<Vec<Entry>> {
+        if !(2..=MOST_POLICY_WORDS).contains(&policy.len()) || policy[0] != 1 || policy[1] > MOST_DEFINITIONS {
+            return Err(1);
+        }
+        let first = 2 + 4 * policy[1] as usize;
+        let table = policy.get(2..first).ok_or(1u32)?;
+        let mut next = first as u64;
+        let mut entries: Vec<Entry> = Vec::new();
+        for entry in table.chunks(4) {
+            let &[name, polarity, offset, length] = entry else { unreachable!() };
+            let twice = entries.iter().any(|other| (other.name, other.polarity) == (name, polarity));
+            if name > LAST_NAME || polarity > 1 || u64::from(offset) != next || length == 0 || twice {
+                return Err(2);
+            }
+            next += u64::from(length);
+            if self.has(Fault::TableSumWraps) {
+                next &= u64::from(u32::MAX); // planted
+            }
+            entries.push(Entry { name, polarity, part: offset as usize..next as usize });
+        }
+        if next == policy.len() as u64 { Ok(entries) } else { Err(2) }
+    }
+
+    pub fn part(&self, policy: &[u32], query: &[u32], number: u32) -> Part {
+        let empty = Part::Policy(0..0);
+        let Ok(entries) = self.table(policy) else { return empty };
+        if number == QUERY {
+            return Part::Query(0..query.len());
+        }
+        entries.get(number as usize).map_or(empty, |entry| Part::Policy(entry.part.clone()))
+    }
+
+    /// 1 to 7: each definition, then the query.
+    pub fn judge(&self, policy: &[u32], query: &[u32]) -> Result<Judged, Refusal> {
+        let entries = self.table(policy).or_else(refused)?;
+        let mut definitions: Vec<Definition> = Vec::new();
+        for (entry, part) in entries.iter().zip(0..) {
+            // A sum that wraps (planted) may give a part that is none.
+            let words = policy.get(entry.part.clone()).unwrap_or(&[]);
+            let definition = self.judge_definition(words, entry.polarity, &definitions);
+            definitions.push(in_part(definition, part)?);
+        }
+        let (query, verdict) = in_part(self.judge_query(query, &definitions), QUERY)?;
+        Ok(Judged { definitions, query, verdict })
+    }
+
+    fn judge_definition(&self, words: &[u32], polarity: u32, earlier: &[Definition]) -> Numbered<Definition> {
+        let (expression, polarities) = self.expression(words, earlier)?;
+        if !polarities.has(polarity) {
+            return Err(6);
+        }
+        self.draws_allowed(&expression, earlier)?;
+        let open = self.open(&expression, earlier);
+        Ok(Definition { polarity, open, expression })
+    }
+
+    fn judge_query(&self, words: &[u32], definitions: &[Definition]) -> Numbered<(Expression, Verdict)> {
+        if !(1..=MOST_QUERY_WORDS).contains(&words.len()) {
+            return Err(3);
+        }
+        let (expression, polarities) = self.expression(words, definitions)?;
+        let verdict = polarities.verdict().ok_or(6u32)?;
+        self.draws_allowed(&expression, definitions)?;
+        Ok((expression, verdict))
+    }
+
+    /// 3, 4, 5 at the first word in order; left-over words last.
+    fn expression(&self, words: &[u32], definitions: &[Definition]) -> Numbered<(Expression, Polarities)> {
+        let mut parser = Parser { words, at: 0, available: definitions.len(), variables: 0, draws: 0, evaluator: *self };
+        let expression = parser.expression(1)?;
+        let polarities = self.polarities(&expression, definitions);
+        if self.has(Fault::LeftOverWordsAfterPolarity) && polarities.verdict().is_none() {
+            return Err(6); // planted
+        }
+        if parser.left_over() {
+            return Err(3);
+        }
+        Ok((expression, polarities))
+    }
+
+    fn polarities(&self, expression: &Expression, definitions: &[Definition]) -> Polarities {
+        let of = |inner: &Expression| self.polarities(inner, definitions);
+        match expression {
+            Expression::Rows(_) | Expression::AllBut(_) => Polarities::BOTH,
+            Expression::Definition(number) => Polarities::only(definitions[*number].polarity),
+            Expression::List { polarity, .. } => Polarities::only(*polarity),
+            Expression::Union(left, right) => of(left).common(of(right)),
+            Expression::Difference(left, right) => of(left).common(of(right).opposite()),
+            Expression::Comprehension { guards, .. } => guards.iter().fold(Polarities::BOTH, |had, guard| match guard {
+                Guard::Draw { from, .. } => had.common(of(from)),
+                Guard::Absent { from, .. } if self.has(Fault::AbsentNotTurnedRound) => had.common(of(from)), // planted
+                Guard::Absent { from, .. } => had.common(of(from).opposite()),
+                _ if self.has(Fault::ComparedTermsCounted) => had.common(Polarities::only(0)), // planted
+                Guard::Same(..) | Guard::Different(..) => had,
+            }),
+        }
+    }
+
+    fn open(&self, expression: &Expression, definitions: &[Definition]) -> bool {
+        let of = |inner: &Expression| self.open(inner, definitions);
+        match expression {
+            Expression::AllBut(_) => true,
+            Expression::List { polarity, .. } => *polarity == 1,
+            Expression::Definition(number) => definitions[*number].open,
+            Expression::Union(left, right) => of(left) || of(right),
+            Expression::Difference(left, right) => of(left) || (self.has(Fault::OpenRightCounts) && of(right)), // the right is planted
+            Expression::Rows(_) | Expression::Comprehension { .. } => false,
+        }
+    }
+
+    /// 7, wherever in the expression the draw stands.
+    fn draws_allowed(&self, expression: &Expression, definitions: &[Definition]) -> Numbered<()> {
+        let inside = |inner: &Expression| self.draws_allowed(inner, definitions);
+        match expression {
+            Expression::Union(left, right) | Expression::Difference(left, right) => inside(left).and(inside(right)),
+            Expression::Comprehension { guards, .. } => guards.iter().try_for_each(|guard| match guard {
+                Guard::Draw { from, .. } if self.open(from, definitions) => Err(7),
+                Guard::Draw { from, .. } | Guard::Absent { from, .. } => inside(from),
+                Guard::Same(..) | Guard::Different(..) => Ok(()),
+            }),
+            _ => Ok(()),
+        }
+    }
+
+    /// 1 to 7; 8; 11; then reading.
+    pub fn query(&self, policy: &[u32], query: &[u32], store: &[u32], areas: Areas) -> Result<Answer, Refusal> {
+        let judged = self.judge(policy, query)?;
+        if self.has(Fault::AreasBeforeStore) && areas.under(Areas::LEAST) {
+            return refused(11); // planted
+        }
+        let Some(records) = certificates(store) else { return refused(8) };
+        if areas.under(Areas::LEAST) {
+            return refused(11);
+        }
+        self.read(&judged, &records)
+    }
+
+    /// Definitions are read once, in file order, then the query.
+    fn read(&self, judged: &Judged, records: &[Record]) -> Result<Answer, Refusal> {
+        let mut reading = Reading::new(records, *self);
+        for (definition, part) in judged.definitions.iter().zip(0..) {
+            let set = if self.has(Fault::UnusedDefinitionNotRead) && !judged.uses(part as usize) {
+                Set::Finite(BTreeSet::new()) // planted
+            } else {
+                in_part(reading.read(&definition.expression, &mut Vec::new()), part)?
+            };
+            reading.definitions.push(set);
+            if self.has(Fault::DrawsStartAgainInEachPart) {
+                reading.draws = 0; // planted
+            }
+        }
+        let set = in_part(reading.read(&judged.query, &mut Vec::new()), QUERY)?;
+        Ok(Answer { verdict: judged.verdict, draws: reading.draws, set })
+    }
+}
+
+impl Judged {
+    /// Every expression written in a definition or in the query, for whoever wants to look at all of them.
+    pub fn expressions(&self) -> Vec<&Expression> {
+        let mut all = Vec::new();
+        for whole in self.definitions.iter().map(|definition| &definition.expression).chain([&self.query]) {
+            gather(whole, &mut all);
+        }
+        all
+    }
+
+    fn uses(&self, definition: usize) -> bool {
+        self.expressions().iter().any(|expression| **expression == Expression::Definition(definition))
+    }
+}
+
+fn gather<'a>(expression: &'a Expression, all: &mut Vec<&'a Expression>) {
+    all.push(expression);
+    match expression {
+        Expression::Union(left, right) | Expression::Difference(left, right) => {
+            gather(left, all);
+            gather(right, all);
+        }
+        Expression::Comprehension { guards, .. } => {
+            for guard in guards {
+                if let Guard::Draw { from, .. } | Guard::Absent { from, .. } = guard {
+                    gather(from, all);
+                }
+            }
+        }
+        _ => {}
+    }
+}
+
+#[cfg(test)]
+#[path = "evaluator_tests.rs"]
+mod tests;

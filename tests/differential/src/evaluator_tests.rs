@@ -1,0 +1,480 @@
+use super::*;
+
+const K1: u32 = key(1);
+const K2: u32 = key(2);
+
+const NOTHING: &[u32] = &[1, 0];
+const Q: &[u32] = &[3, 0];
+
+/// P: released and not withdrawn.
+fn p() -> Vec<u32> {
+    let mut words = vec![1, 1, 10, 0, 6, 23];
+    words.extend([7, 2, 1, 4, 0, K1, 1, 0, 1, 2, 0, 4, 1, 1, 0, 4, 0, K1, 2, 1, 1, 1, 0]);
+    words
+}
+
+fn policy(definitions: &[(u32, u32, &[u32])]) -> Vec<u32> {
+    let mut words = vec![1, definitions.len() as u32];
+    let mut offset = 2 + 4 * definitions.len() as u32;
+    for (name, polarity, part) in definitions {
+        words.extend([*name, *polarity, offset, part.len() as u32]);
+        offset += part.len() as u32;
+    }
+    words.extend(definitions.iter().flat_map(|(_, _, part)| part.iter()));
+    words
+}
+
+fn empty_store() -> Vec<u32> {
+    let mut store = vec![77; STORE_WORDS];
+    store[0] = 0;
+    store
+}
+
+fn certificate(key: u32, name: u32, polarity: u32, row: &[u32]) -> Record {
+    let row = Row::new(row).words();
+    [key, name, polarity, row[0], row[1], row[2], row[3], row[4]]
+}
+
+fn file(store: &mut [u32], record: Record) -> Filing {
+    Evaluator::default().file(store, &record)
+}
+
+fn store_of(records: impl IntoIterator<Item = Record>) -> Vec<u32> {
+    let mut store = empty_store();
+    for record in records {
+        assert_eq!(file(&mut store, record), Filing::Filed);
+    }
+    store
+}
+
+fn ask(policy: &[u32], query: &[u32], store: &[u32]) -> Result<Answer, Refusal> {
+    Evaluator::default().query(policy, query, store, Areas::LEAST)
+}
+
+fn rows<const N: usize>(rows: [&[u32]; N]) -> BTreeSet<Row> {
+    rows.into_iter().map(Row::new).collect()
+}
+
+fn answer(verdict: Verdict, draws: u32, set: Set) -> Result<Answer, Refusal> {
+    Ok(Answer { verdict, draws, set })
+}
+
+fn refusal<T>(number: u32, part: u32) -> Result<T, Refusal> {
+    Err(Refusal { number, part })
+}
+
+/// A query on the policy 1 0 and an empty store.
+fn alone(query: &[u32]) -> Result<Answer, Refusal> {
+    ask(NOTHING, query, &empty_store())
+}
+
+#[track_caller]
+fn refuses(query: &[u32], number: u32) {
+    assert_eq!(alone(query), refusal(number, QUERY), "{query:?}");
+}
+
+/// Code 1 with the numbers 0 to count − 1.
+fn numbers(count: u32) -> Vec<u32> {
+    let mut words = vec![1, count];
+    words.extend((0..count).flat_map(|n| [1, 0, n]));
+    words
+}
+
+fn nested_unions(count: usize) -> Vec<u32> {
+    let mut words = vec![5; count];
+    words.extend([1, 0].repeat(count + 1));
+    words
+}
+
+use Set::{Complement, Finite};
+use Verdict::*;
+
+#[test]
+fn portal_cases_a_to_e() {
+    let mut store = empty_store();
+    assert_eq!(ask(&p(), Q, &store), answer(Lower, 0, Finite(rows([]))));
+    file(&mut store, certificate(K1, 1, 0, &[7]));
+    assert_eq!(ask(&p(), Q, &store), answer(Lower, 1, Finite(rows([]))));
+    file(&mut store, certificate(K1, 2, 1, &[7]));
+    assert_eq!(ask(&p(), Q, &store), answer(Lower, 1, Finite(rows([&[7]]))));
+    file(&mut store, certificate(K1, 1, 0, &[8]));
+    assert_eq!(ask(&p(), Q, &store), answer(Lower, 2, Finite(rows([&[7]]))));
+    assert_eq!(ask(&p(), &[4, 0, K1, 2, 1], &store), answer(Upper, 2, Complement(rows([&[7]]))));
+}
+
+#[test]
+fn portal_cases_f_to_l() {
+    refuses(&[6, 4, 0, K1, 1, 0, 4, 0, K1, 1, 0], 6);
+    refuses(&[7, 1, 1, 4, 0, K1, 2, 1, 1, 2, 0, 1, 1, 0], 7);
+    let h = [6, 2, 1, 1, 0, 7, 2, 2, 1, 0, 7, 1, 0, 8];
+    assert_eq!(alone(&h), answer(Exact, 0, Finite(rows([&[8]]))));
+    let i = [5, 2, 2, 1, 0, 7, 1, 0, 8, 1, 1, 1, 0, 8];
+    assert_eq!(alone(&i), answer(Exact, 0, Complement(rows([&[7]]))));
+    assert_eq!(alone(&[1, 0]), answer(Exact, 0, Finite(rows([]))));
+    assert_eq!(alone(&[7, 0, 1, 0, 7]), answer(Exact, 0, Finite(rows([&[7]]))));
+    let l = [7, 2, 1, 1, 1, 1, 0, 5, 1, 2, 0, 1, 4, 1, 0, 1, 0, 1, 2, 1, 1, 1, 1];
+    assert_eq!(alone(&l), answer(Lower, 1, Finite(rows([]))));
+}
+
+#[test]
+fn fourteen_nested_unions_pass_and_fifteen_do_not() {
+    assert_eq!(alone(&nested_unions(14)), answer(Exact, 0, Finite(rows([]))));
+    refuses(&nested_unions(15), 5);
+}
+
+#[test]
+fn certified_rows_up_to_128_are_read() {
+    for polarity in [0, 1] {
+        let store = |count| store_of((0..count).map(|n| certificate(K1, 1, polarity, &[n])));
+        let query = [4, 0, K1, 1, polarity];
+        assert_eq!(ask(NOTHING, &query, &store(128)).unwrap().set.listed().len(), 128);
+        assert_eq!(ask(NOTHING, &query, &store(129)), refusal(13, QUERY));
+    }
+}
+
+/// A comprehension with a constant head that draws from literals of these sizes.
+fn draws_over(sizes: [u32; 3]) -> Vec<u32> {
+    let mut words = vec![7, 3];
+    for (size, variable) in sizes.into_iter().zip(0..) {
+        words.push(1);
+        words.extend(numbers(size));
+        words.extend([1, 2, variable]);
+    }
+    words.extend([1, 0, 7]);
+    words
+}
+
+#[test]
+fn a_million_draws_are_the_limit() {
+    let seven = Finite(rows([&[7]]));
+    assert_eq!(alone(&draws_over([100, 100, 98])), answer(Exact, 990_100, seven.clone()));
+    refuses(&draws_over([100, 100, 100]), 14);
+    assert_eq!(alone(&draws_over([100, 99, 100])), answer(Exact, 1_000_000, seven));
+    let twice = policy(&[(1, 0, &draws_over([100, 99, 100])), (2, 0, &numbers(1))]);
+    assert_eq!(ask(&twice, &[7, 1, 1, 3, 1, 1, 2, 0, 1, 0, 7], &empty_store()), refusal(14, QUERY));
+}
+
+#[test]
+fn a_full_store_holds_and_refuses() {
+    let mut store = store_of((0..2_000).map(|n| certificate(K1, 1, 0, &[n])));
+    let before = store.clone();
+    assert_eq!(file(&mut store, certificate(K1, 1, 0, &[5])), Filing::Held);
+    assert_eq!(file(&mut store, certificate(K1, 1, 0, &[2_000])), Filing::Refused(10));
+    assert_eq!(store, before);
+}
+
+#[test]
+fn filing_keeps_the_order_and_the_words_past_the_end() {
+    let records = [(K2, 0, 1, [3]), (K1, 9, 0, [4]), (K1, 9, 0, [2]), (K1, 2, 1, [8])];
+    let store = store_of(records.map(|(key, name, polarity, row)| certificate(key, name, polarity, &row)));
+    assert_eq!(store[0], 4);
+    assert!(certificates(&store).is_some());
+    assert!(store[33..].iter().all(|&word| word == 77));
+    assert_eq!(certificates_of(&store, [K1, 9, 0]), 9..25);
+    assert_eq!(certificates_of(&store, [K1, 9, 1]), 0..0);
+}
+
+#[test]
+fn unsound_certificates_get_9() {
+    let sound = certificate(K1, 1, 0, &[7, 8]);
+    let damage: [(usize, u32); 6] = [(0, 5), (1, 65_536), (2, 2), (3, 0), (3, 5), (7, 1)];
+    for (place, word) in damage {
+        let mut record = sound;
+        record[place] = word;
+        assert_eq!(file(&mut empty_store(), record), Filing::Refused(9), "{record:?}");
+    }
+    for length in [0, 7, 9] {
+        let words = [sound.as_slice(), &[0]].concat();
+        assert_eq!(Evaluator::default().file(&mut empty_store(), &words[..length]), Filing::Refused(9));
+    }
+}
+
+#[test]
+fn unsound_stores_get_8_and_empty_parts() {
+    let sound = store_of([certificate(K1, 1, 0, &[7]), certificate(K1, 2, 1, &[7])]);
+    let damage: [(usize, u32); 4] = [(0, 2_001), (1, 3), (9, K1 - 1), (10, 1)];
+    for (place, word) in damage {
+        let mut store = sound.clone();
+        store[place] = word;
+        if place == 10 {
+            store[11] = 0; // the same record twice
+        }
+        assert_eq!(file(&mut store, certificate(K1, 1, 0, &[7])), Filing::Refused(8));
+        assert_eq!(ask(NOTHING, &[1, 0], &store), refusal(8, NEITHER));
+        assert_eq!(certificates_of(&store, [K1, 1, 0]), 0..0);
+    }
+    assert_eq!(ask(NOTHING, &[1, 0], &sound[..16_000]), refusal(8, NEITHER));
+    assert!(ask(NOTHING, &[1, 0], &[sound, vec![9; 5]].concat()).is_ok());
+}
+
+#[test]
+fn policies_refused_with_1() {
+    let seventeen: Vec<(u32, u32, &[u32])> = (0..17).map(|name| (name, 0, &[1, 0][..])).collect();
+    let broken: [Vec<u32>; 6] = [vec![], vec![1], vec![2, 0], policy(&seventeen), vec![1, 1, 10, 0, 6], {
+        let mut long = vec![0; 8_193];
+        long[0] = 1;
+        long
+    }];
+    for words in broken {
+        assert_eq!(ask(&words, &[1, 0], &empty_store()), refusal(1, NEITHER));
+        assert_eq!(Evaluator::default().part(&words, &[1, 0], 16), Part::Policy(0..0));
+    }
+}
+
+#[test]
+fn policies_refused_with_2() {
+    let sound = policy(&[(10, 0, &[1, 0]), (11, 1, &[2, 0])]);
+    assert!(ask(&sound, &[3, 1], &empty_store()).is_ok());
+    let damage: [(usize, u32); 8] = [(2, 65_536), (3, 2), (4, 11), (5, 0), (5, 3), (8, u32::MAX), (9, 1), (9, 3)];
+    for (place, word) in damage {
+        let mut broken = sound.clone();
+        broken[place] = word;
+        assert_eq!(ask(&broken, &[1, 0], &empty_store()), refusal(2, NEITHER), "{broken:?}");
+    }
+    let twice = policy(&[(10, 0, &[1, 0]), (10, 0, &[2, 0])]);
+    assert_eq!(ask(&twice, &[1, 0], &empty_store()), refusal(2, NEITHER));
+    let both = policy(&[(10, 0, &[1, 0]), (10, 1, &[2, 0])]);
+    assert!(ask(&both, &[1, 0], &empty_store()).is_ok());
+    assert_eq!(ask(&[1, 0, 0], &[1, 0], &empty_store()), refusal(2, NEITHER));
+}
+
+#[test]
+fn a_policy_of_8192_words_passes() {
+    let mut row = vec![4];
+    row.extend([0, 9].repeat(4));
+    let full = [vec![1, 128], row.repeat(128)].concat();
+    let rest = numbers(26);
+    let mut definitions: Vec<(u32, u32, &[u32])> = (0..7).map(|name| (name, 0, full.as_slice())).collect();
+    definitions.push((7, 0, &rest));
+    let words = policy(&definitions);
+    assert_eq!(words.len(), 8_192);
+    assert!(ask(&words, &[3, 6], &empty_store()).is_ok());
+}
+
+#[test]
+fn expressions_refused_with_3() {
+    let cases: [&[u32]; 19] = [
+        &[],
+        &[0],
+        &[8],
+        &[1],
+        &[1, 129],
+        &[1, 1],
+        &[1, 1, 0],
+        &[1, 1, 5],
+        &[1, 1, 1, 2, 0],
+        &[1, 1, 1, 0],
+        &[4, 0, 5, 1, 0],
+        &[4, 0, K1, 65_536, 0],
+        &[4, 0, K1, 1, 2],
+        &[5, 1, 0],
+        &[7, 9],
+        &[7, 1, 5],
+        &[7, 1, 1, 1, 0, 1, 3, 0],
+        &[1, 0, 0],
+        &[7, 1, 1, 1, 0, 0],
+    ];
+    for query in cases {
+        refuses(query, 3);
+    }
+    assert!(alone(&[2, 0]).is_ok());
+    refuses(&[1; 1_025], 3);
+    let p_with_3 = policy(&[(1, 0, &[1, 0]), (2, 0, &[1, 0, 0])]);
+    assert_eq!(ask(&p_with_3, &[], &empty_store()), refusal(3, 1));
+}
+
+#[test]
+fn expressions_refused_with_4() {
+    let cases: [&[u32]; 6] = [
+        &[1, 1, 1, 1, 0],
+        &[3, 0],
+        &[4, 1, 0, 1, 0],
+        &[7, 1, 1, 1, 0, 1, 2, 1, 1, 0, 7],
+        &[7, 1, 1, 1, 0, 1, 1, 0, 1, 0, 7],
+        // a variable ends with its comprehension
+        &[5, 7, 1, 1, 1, 0, 1, 2, 0, 1, 1, 0, 1, 1, 1, 1, 0],
+    ];
+    for query in cases {
+        refuses(query, 4);
+    }
+    let own = policy(&[(1, 0, &[3, 0])]);
+    assert_eq!(ask(&own, &[3, 0], &empty_store()), refusal(4, 0));
+    let two = policy(&[(1, 0, &[1, 0]), (2, 0, &[1, 0])]);
+    assert_eq!(ask(&two, &[5, 3, 2, 9], &empty_store()), refusal(4, QUERY));
+}
+
+/// Draws of up to four new variables each, `count` in all.
+fn variables(count: u32) -> Vec<u32> {
+    let mut words = vec![7, count.div_ceil(4)];
+    let mut next = 0;
+    while next < count {
+        let width = (count - next).min(4);
+        words.extend([1, 1, 0, width]);
+        words.extend((next..next + width).flat_map(|variable| [2, variable]));
+        next += width;
+    }
+    words.extend([1, 0, 7]);
+    words
+}
+
+#[test]
+fn sixteen_variables_pass_and_seventeen_do_not() {
+    assert!(alone(&variables(16)).is_ok());
+    refuses(&variables(17), 4);
+}
+
+/// A comprehension of eight draws, the first one from a comprehension of `inner` draws.
+fn many_draws(inner: u32) -> Vec<u32> {
+    let draw = [1, 1, 0, 1, 0, 7];
+    let mut words = vec![7, 8, 1, 7, inner];
+    words.extend(draw.repeat(inner as usize));
+    words.extend([1, 0, 7, 1, 0, 7]);
+    words.extend(draw.repeat(7));
+    words.extend([1, 0, 7]);
+    words
+}
+
+#[test]
+fn expressions_refused_with_5() {
+    assert!(alone(&many_draws(0)).is_ok());
+    refuses(&many_draws(1), 5);
+    // at depth 16 an unknown code is 3, a known one 5
+    let mut deep = vec![5; 15];
+    deep.push(9);
+    refuses(&deep, 3);
+    deep[15] = 1;
+    refuses(&deep, 5);
+    // a ninth draw before the fault in its expression
+    let mut ninth = many_draws(8);
+    ninth.truncate(5 + 7 * 6);
+    ninth.extend([1, 9]);
+    refuses(&ninth, 5);
+}
+
+#[test]
+fn polarity_is_refused_with_6_before_7_and_after_left_over_words() {
+    let stuck = [6, 4, 0, K1, 1, 0, 4, 0, K1, 1, 0];
+    let plus = policy(&[(1, 0, &[4, 0, K1, 2, 1])]);
+    assert_eq!(ask(&plus, &[1, 0], &empty_store()), refusal(6, 0));
+    refuses(&[stuck.as_slice(), &[0]].concat(), 3);
+    // a draw from an open expression inside a query without polarity
+    let both = [5, 4, 0, K1, 1, 0, 7, 1, 1, 4, 0, K1, 2, 1, 1, 2, 0, 1, 1, 0];
+    refuses(&both, 6);
+    // 7 in a definition before 3 in the next
+    let two = policy(&[(1, 1, &[7, 1, 1, 4, 0, K1, 2, 1, 1, 2, 0, 1, 1, 0]), (2, 0, &[9])]);
+    assert_eq!(ask(&two, &[1, 0], &empty_store()), refusal(7, 0));
+}
+
+#[test]
+fn declared_polarity_alone_counts_and_openness_is_passed_on() {
+    let words = policy(&[(1, 0, &[1, 0]), (2, 1, &[2, 0])]);
+    let verdict = |query: &[u32]| ask(&words, query, &empty_store()).map(|answer| answer.verdict);
+    assert_eq!(verdict(&[3, 0]), Ok(Lower));
+    assert_eq!(verdict(&[3, 1]), Ok(Upper));
+    assert_eq!(verdict(&[6, 3, 0, 3, 1]), Ok(Lower));
+    assert_eq!(verdict(&[5, 3, 0, 3, 1]), refusal(6, QUERY));
+    let from = |expression: &[u32]| [&[7, 1, 1], expression, &[1, 2, 0, 1, 1, 0]].concat();
+    assert_eq!(verdict(&from(&[3, 1])), refusal(7, QUERY));
+    assert_eq!(verdict(&from(&[6, 3, 0, 3, 1])), Ok(Lower));
+    // complement minus complement is finite and open all the same
+    assert_eq!(verdict(&from(&[6, 2, 0, 2, 0])), refusal(7, QUERY));
+    assert_eq!(verdict(&from(&[5, 1, 0, 2, 0])), refusal(7, QUERY));
+}
+
+#[test]
+fn short_areas_get_11_after_8() {
+    let mut unsound = empty_store();
+    unsound[0] = 2_001;
+    let shorter = [
+        Areas { answer: 641, ..Areas::LEAST },
+        Areas { definitions: 10_271, ..Areas::LEAST },
+        Areas { scratch: 16_383, ..Areas::LEAST },
+    ];
+    for areas in shorter {
+        let ask = |store: &[u32]| Evaluator::default().query(NOTHING, &[1, 0], store, areas);
+        assert_eq!(ask(&empty_store()), refusal(11, NEITHER));
+        assert_eq!(ask(&unsound), refusal(8, NEITHER));
+    }
+}
+
+#[test]
+fn values_over_128_rows_get_13() {
+    let apart = |from: u32, count: u32| {
+        let mut words = vec![1, count];
+        words.extend((from..from + count).flat_map(|n| [1, 0, n]));
+        words
+    };
+    assert!(alone(&[vec![5], apart(0, 100), apart(50, 78)].concat()).is_ok());
+    refuses(&[vec![5], apart(0, 100), apart(100, 29)].concat(), 13);
+    let mut all_but = apart(0, 128);
+    all_but[0] = 2;
+    refuses(&[vec![6], all_but.clone(), apart(128, 1)].concat(), 13);
+    assert!(alone(&[vec![5], all_but, apart(128, 1)].concat()).is_ok());
+    // 12 × 11 different rows
+    let product = [vec![7, 2, 1], numbers(12), vec![1, 2, 0, 1], numbers(11), vec![1, 2, 1, 2, 1, 0, 1, 1]].concat();
+    refuses(&product, 13);
+    // a name of 129 rows minus all of them
+    let store = store_of((0..129).map(|n| certificate(K1, 1, 0, &[n])));
+    let minus = [4, 0, K1, 1, 0];
+    assert_eq!(ask(NOTHING, &[&[6], &minus[..], &[2, 0]].concat(), &store), refusal(13, QUERY));
+    // a definition that nobody uses
+    let unused = policy(&[(1, 0, &[1, 0]), (2, 0, &minus)]);
+    assert_eq!(ask(&unused, &[1, 0], &store), refusal(13, 1));
+}
+
+#[test]
+fn thirteen_comes_after_both_parts_are_read() {
+    let mut many_heads = draws_over([100, 100, 100]);
+    let end = many_heads.len();
+    many_heads[end - 2..].copy_from_slice(&[1, 1]); // the head is variable 1: 100 rows soon after the start
+    let others: Vec<u32> = (1_000..1_100).flat_map(|n| [1, 0, n]).collect();
+    let union = [vec![5, 1, 100], others, many_heads].concat();
+    // too long for a query, so it stands in a definition
+    let words = policy(&[(1, 0, &union)]);
+    assert_eq!(ask(&words, &[1, 0], &empty_store()), refusal(14, 0));
+}
+
+#[test]
+fn draws_are_counted_matching_or_not() {
+    let store = store_of([certificate(K1, 1, 0, &[7]), certificate(K1, 1, 0, &[8]), certificate(K1, 1, 0, &[7, 8])]);
+    let list = [4, 0, K1, 1, 0];
+    let draw = |pattern: &[u32], head: &[u32]| [&[7, 1, 1], &list[..], pattern, head].concat();
+    assert_eq!(ask(NOTHING, &draw(&[1, 0, 8], &[1, 0, 5]), &store), answer(Lower, 3, Finite(rows([&[5]]))));
+    assert_eq!(ask(NOTHING, &draw(&[2, 2, 0, 1, 0], &[1, 1, 0]), &store), answer(Lower, 3, Finite(rows([]))));
+    assert_eq!(ask(NOTHING, &draw(&[2, 2, 0, 2, 1], &[2, 1, 1, 1, 0]), &store), answer(Lower, 3, Finite(rows([&[8, 7]]))));
+    // a failed guard stops the later draw
+    let stopped = [&[7, 2, 2, 0, 1, 0, 2, 1][..], &list, &[1, 2, 0, 1, 1, 0]].concat();
+    assert_eq!(ask(NOTHING, &stopped, &store), answer(Lower, 0, Finite(rows([]))));
+}
+
+#[test]
+fn a_number_as_issuer_has_no_rows_or_all() {
+    let issuer_5 = |polarity: u32| vec![7, 2, 1, 1, 1, 1, 0, 5, 1, 2, 0, 4, 1, 0, 9, 4, 1, 0, 1, polarity, 1, 1, 0];
+    assert_eq!(alone(&issuer_5(0)), answer(Upper, 1, Finite(rows([&[5]]))));
+    assert_eq!(alone(&issuer_5(1)), answer(Lower, 1, Finite(rows([]))));
+}
+
+#[test]
+fn parts_are_handed_back() {
+    let words = policy(&[(1, 0, &[1, 0]), (2, 0, &[9, 9, 9])]);
+    let part = |number| Evaluator::default().part(&words, &[3, 0, 0], number);
+    assert_eq!(part(0), Part::Policy(10..12));
+    assert_eq!(part(1), Part::Policy(12..15));
+    assert_eq!(part(16), Part::Query(0..3));
+    assert_eq!(part(2), Part::Policy(0..0));
+    assert_eq!(part(17), Part::Policy(0..0));
+}
+
+#[test]
+fn sets_handed_in() {
+    let set = Finite(rows([&[7], &[8], &[1, 2]]));
+    let words = set.words();
+    assert_eq!(words, [0, 3, 1, 7, 0, 0, 0, 1, 8, 0, 0, 0, 2, 1, 2, 0, 0]);
+    assert_eq!(Set::from_words(&words), Some(set));
+    assert_eq!(Set::from_words(&words[..16]), None);
+    for (place, word) in [(0, 2), (1, 129), (2, 0), (2, 5), (4, 1), (3, 8)] {
+        let mut broken = words.clone();
+        broken[place] = word;
+        assert_eq!(Set::from_words(&broken), None, "{broken:?}");
+    }
+}

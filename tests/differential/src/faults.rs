@@ -1,0 +1,92 @@
+//! Mistakes that can be planted in the evaluator, to see that the comparison notices each of them.
+
+/// One mistake. Document 01's "Curators' errors" come first.
+#[derive(Clone, Copy, PartialEq, Eq, Debug)]
+pub enum Fault {
+    UnknownListTakenAsEmpty,
+    ComparedTermsCounted,
+    AbsentNotTurnedRound,
+    ComplementAndFiniteJoined,
+    ComplementsSubtractedStraight,
+    DrawsCountedWhenMatching,
+    DrawsStartAgainInEachPart,
+    GuardsAfterFailedOneRead,
+    UnionBuiltInPlace,
+    LimitBeforeRepeats,
+    NameOf129RowsRead,
+    NinthDrawPasses,
+    Depth16Passes,
+    SeventeenthVariablePasses,
+    OpenRightCounts,
+    UnusedDefinitionNotRead,
+    NumberIssuerHasNoRows,
+    PatternVariableNotCompared,
+    MillionthDrawRefused,
+    LeftOverWordsAfterPolarity,
+    TableSumWraps,
+    AreasBeforeStore,
+    FullBeforeHeld,
+    RefusedQueryClearsAnswer,
+    FilingClearsPastTheEnd,
+}
+
+impl Fault {
+    /// Every fault; `--plant K` plants the one at K, counted from 1.
+    pub const ALL: [Fault; 25] = [
+        Fault::UnknownListTakenAsEmpty,
+        Fault::ComparedTermsCounted,
+        Fault::AbsentNotTurnedRound,
+        Fault::ComplementAndFiniteJoined,
+        Fault::ComplementsSubtractedStraight,
+        Fault::DrawsCountedWhenMatching,
+        Fault::DrawsStartAgainInEachPart,
+        Fault::GuardsAfterFailedOneRead,
+        Fault::UnionBuiltInPlace,
+        Fault::LimitBeforeRepeats,
+        Fault::NameOf129RowsRead,
+        Fault::NinthDrawPasses,
+        Fault::Depth16Passes,
+        Fault::SeventeenthVariablePasses,
+        Fault::OpenRightCounts,
+        Fault::UnusedDefinitionNotRead,
+        Fault::NumberIssuerHasNoRows,
+        Fault::PatternVariableNotCompared,
+        Fault::MillionthDrawRefused,
+        Fault::LeftOverWordsAfterPolarity,
+        Fault::TableSumWraps,
+        Fault::AreasBeforeStore,
+        Fault::FullBeforeHeld,
+        Fault::RefusedQueryClearsAnswer,
+        Fault::FilingClearsPastTheEnd,
+    ];
+
+    pub fn meaning(self) -> &'static str {
+        match self {
+            Fault::UnknownListTakenAsEmpty => "a withdrawn list of which nothing is held is taken as empty",
+            Fault::ComparedTermsCounted => "a comparison of terms counts in the polarity, as if it were +",
+            Fault::AbsentNotTurnedRound => "the polarity is not turned round under an absent guard",
+            Fault::ComplementAndFiniteJoined => "complement united with finite is the complement of both lists joined",
+            Fault::ComplementsSubtractedStraight => "complement A minus complement B is A minus B",
+            Fault::DrawsCountedWhenMatching => "a draw is counted only when its row matches",
+            Fault::DrawsStartAgainInEachPart => "the count of draws starts at 0 in each definition and in the query",
+            Fault::GuardsAfterFailedOneRead => "guards after a failed comparison are read",
+            Fault::UnionBuiltInPlace => "13 is met in a union while its right part is still being read",
+            Fault::LimitBeforeRepeats => "a union's limit is tested before rows in both parts are counted once",
+            Fault::NameOf129RowsRead => "a name may have 129 rows",
+            Fault::NinthDrawPasses => "a ninth draw passes",
+            Fault::Depth16Passes => "an expression at depth 16 passes",
+            Fault::SeventeenthVariablePasses => "a 17th variable passes",
+            Fault::OpenRightCounts => "a difference is open if its right part is",
+            Fault::UnusedDefinitionNotRead => "a definition that nobody uses is not read",
+            Fault::NumberIssuerHasNoRows => "a variable issuer that holds a number reads as no rows with − too",
+            Fault::PatternVariableNotCompared => "a variable that was new earlier in the same pattern is not compared",
+            Fault::MillionthDrawRefused => "the 1,000,000th draw is refused",
+            Fault::LeftOverWordsAfterPolarity => "left-over words are looked for after polarity",
+            Fault::TableSumWraps => "the sums of the policy's table wrap at 2^32",
+            Fault::AreasBeforeStore => "11 comes before 8",
+            Fault::FullBeforeHeld => "10 comes before Held",
+            Fault::RefusedQueryClearsAnswer => "a refused query clears the answer area",
+            Fault::FilingClearsPastTheEnd => "filing clears the word past the last record",
+        }
+    }
+}

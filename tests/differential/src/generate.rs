@@ -1,0 +1,696 @@
+//! Random policies, queries, stores and lists of filings.
+//!
+//! Expressions are written by the grammar, with a polarity and openness in mind, so that most are answered and many answers are not empty: keys, names and
+//! atoms come from a small universe. Then single words are changed, words cut off or added, and each limit of document 01 is approached from both sides.
+
+use crate::evaluator::{key, Areas, Record, Row, LAST_NAME, MOST_CERTIFICATES, MOST_VARIABLES, STORE_WORDS};
+use crate::random::Random;
+use std::collections::BTreeSet;
+
+/// What policies, queries and certificates speak of.
+pub struct Universe {
+    pub keys: &'static [u32],
+    pub names: &'static [u32],
+    pub atoms: &'static [u32],
+    pub widths: &'static [u32],
+    /// How deep grammar-directed expressions go.
+    pub depth: u32,
+    /// The most guards of one comprehension.
+    pub guards: u32,
+}
+
+pub const PORTAL: Universe = Universe {
+    keys: &[key(1), key(2), key(3)],
+    names: &[1, 1, 1, 2, 2, 2, 0, CROWD, LAST_NAME],
+    atoms: &[5, 6, 7, 8, 9, key(1), key(2), 0, u32::MAX],
+    widths: &[1, 1, 1, 1, 1, 1, 2, 2, 2, 3, 4],
+    depth: 5,
+    guards: 4,
+};
+
+/// The name that has about 128 rows in crowded stores.
+const CROWD: u32 = 3;
+
+/// One query call, and what is asked beside it.
+pub struct Case {
+    pub policy: Vec<u32>,
+    pub query: Vec<u32>,
+    pub areas: Areas,
+    /// A part to hand back.
+    pub number: u32,
+    /// A name whose certificates to hand back.
+    pub name: [u32; 3],
+}
+
+pub struct Filings {
+    pub store: Vec<u32>,
+    pub certificates: Vec<Vec<u32>>,
+}
+
+/// A definition's polarity and openness, for those that use it.
+#[derive(Clone, Copy)]
+struct Declared {
+    polarity: u32,
+    open: bool,
+}
+
+/// What an expression should have; `closed` is not open.
+#[derive(Clone, Copy)]
+struct Want {
+    plus: bool,
+    minus: bool,
+    closed: bool,
+}
+
+impl Want {
+    fn polarity(polarity: u32) -> Want {
+        Want { plus: polarity == 0, minus: polarity == 1, closed: false }
+    }
+
+    fn any(random: &mut Random) -> Want {
+        let (plus, minus) = random.pick(&[(true, false), (false, true), (true, true)]);
+        Want { plus, minus, closed: random.chance(300) }
+    }
+
+    fn opposite(self) -> Want {
+        Want { plus: self.minus, minus: self.plus, closed: false }
+    }
+
+    fn exact(self) -> bool {
+        self.plus && self.minus
+    }
+
+    fn fits(self, declared: Declared) -> bool {
+        !self.exact() && (declared.polarity == 0) == self.plus && !(self.closed && declared.open)
+    }
+}
+
+/// Writes one definition or query.
+struct Writer<'a> {
+    random: &'a mut Random,
+    universe: &'a Universe,
+    definitions: &'a [Declared],
+    words: Vec<u32>,
+    variables: u32,
+    draws: u32,
+}
+
+impl<'a> Writer<'a> {
+    fn new(random: &'a mut Random, universe: &'a Universe, definitions: &'a [Declared]) -> Writer<'a> {
+        Writer { random, universe, definitions, words: Vec::new(), variables: 0, draws: 0 }
+    }
+
+    fn expression(&mut self, want: Want, depth: u32) {
+        let slip = self.random.chance(12);
+        let want = if slip { Want::any(self.random) } else { want };
+        let leaf = depth >= self.universe.depth || self.words.len() > 400;
+        let codes: &[u32] = if leaf { &[1, 1, 2, 3, 3, 4, 4, 4] } else { &[1, 2, 3, 3, 4, 4, 5, 6, 7, 7, 7, 7] };
+        loop {
+            let code = self.random.pick(codes);
+            if self.fits(code, want) {
+                self.words.push(code);
+                return self.operands(code, want, depth);
+            }
+        }
+    }
+
+    fn fits(&self, code: u32, want: Want) -> bool {
+        match code {
+            2 => !want.closed,
+            3 => self.definitions.iter().any(|&declared| want.fits(declared)),
+            4 => !want.exact() && (want.plus || !want.closed),
+            7 => self.draws < 6,
+            _ => true,
+        }
+    }
+
+    fn operands(&mut self, code: u32, want: Want, depth: u32) {
+        match code {
+            1 | 2 => self.rows(),
+            3 => self.definition(want),
+            4 => self.list(!want.plus as u32),
+            5 => {
+                self.expression(want, depth + 1);
+                self.expression(want, depth + 1);
+            }
+            6 => {
+                self.expression(want, depth + 1);
+                self.expression(want.opposite(), depth + 1);
+            }
+            _ => self.comprehension(want, depth),
+        }
+    }
+
+    fn rows(&mut self) {
+        let count = self.random.pick(&[0, 1, 1, 1, 2, 2, 3, 4]);
+        self.words.push(count);
+        for _ in 0..count {
+            self.row();
+        }
+    }
+
+    fn row(&mut self) {
+        let width = self.random.pick(self.universe.widths);
+        self.words.push(width);
+        for _ in 0..width {
+            self.term(500);
+        }
+    }
+
+    /// A variable in so many of a thousand cases, where there is one.
+    fn term(&mut self, variable: u32) {
+        let term = if self.variables > 0 && self.random.chance(variable) {
+            [1, self.some_variable()]
+        } else {
+            [0, self.random.pick(self.universe.atoms)]
+        };
+        self.words.extend(term);
+    }
+
+    fn some_variable(&mut self) -> u32 {
+        self.random.below(self.variables as usize) as u32
+    }
+
+    fn definition(&mut self, want: Want) {
+        let fitting: Vec<u32> = (0..).zip(self.definitions).filter(|(_, declared)| want.fits(**declared)).map(|(d, _)| d).collect();
+        let number = self.random.pick(&fitting);
+        self.words.push(number);
+    }
+
+    fn list(&mut self, polarity: u32) {
+        let issuer = if self.variables > 0 && self.random.chance(250) {
+            [1, self.some_variable()]
+        } else {
+            [0, self.random.pick(self.universe.keys)]
+        };
+        self.words.extend(issuer);
+        let name = self.random.pick(self.universe.names);
+        self.words.extend([name, polarity]);
+    }
+
+    fn comprehension(&mut self, want: Want, depth: u32) {
+        let outside = self.variables;
+        let count = self.random.between(0, self.universe.guards);
+        self.words.push(count);
+        for _ in 0..count {
+            self.guard(want, depth);
+        }
+        self.row();
+        self.variables = outside;
+    }
+
+    fn guard(&mut self, want: Want, depth: u32) {
+        let guard = if self.draws < 8 { self.random.pick(&[1, 1, 1, 1, 2, 3, 4, 4]) } else { self.random.between(2, 4) };
+        self.words.push(guard);
+        match guard {
+            1 => {
+                self.draws += 1;
+                self.expression(Want { closed: true, ..want }, depth + 1);
+                self.pattern();
+            }
+            4 => {
+                self.row();
+                self.expression(want.opposite(), depth + 1);
+            }
+            _ => {
+                self.term(800);
+                self.term(600);
+            }
+        }
+    }
+
+    fn pattern(&mut self) {
+        let width = self.random.pick(self.universe.widths);
+        self.words.push(width);
+        for _ in 0..width {
+            if self.variables < MOST_VARIABLES as u32 && self.random.chance(650) {
+                self.words.extend([2, self.variables]);
+                self.variables += 1;
+            } else {
+                self.term(500);
+            }
+        }
+    }
+}
+
+/// Code 1 or 2 with the numbers from `first` on, as rows of one atom.
+fn numbers(code: u32, first: u32, count: u32) -> Vec<u32> {
+    let mut words = vec![code, count];
+    words.extend((first..first + count).flat_map(|n| [1, 0, n]));
+    words
+}
+
+/// A literal of exactly so many words, at most 1,154.
+fn literal_of(length: usize) -> Vec<u32> {
+    let mut left = length - 2;
+    let mut words = vec![1, 0];
+    while left > 0 {
+        // Rows take 3, 5, 7 or 9 words, so that 1, 2 and 4 must not be left.
+        let width = (1..=4).rev().find(|width| left >= 1 + 2 * width && ![1, 2, 4].contains(&(left - 1 - 2 * width)));
+        let width = width.expect("a literal has 2, 5, 7 or more words");
+        words.push(width as u32);
+        words.extend([0, left as u32].repeat(width));
+        words[1] += 1;
+        left -= 1 + 2 * width;
+    }
+    words
+}
+
+/// A comprehension that draws one variable from each of these.
+fn draws_from(sources: &[Vec<u32>], head: &[u32]) -> Vec<u32> {
+    let mut words = vec![7, sources.len() as u32];
+    for (source, variable) in sources.iter().zip(0..) {
+        words.push(1);
+        words.extend(source);
+        words.extend([1, 2, variable]);
+    }
+    words.extend(head);
+    words
+}
+
+/// The policy's table and parts, from name, polarity and words.
+fn assemble(definitions: &[(u32, u32, Vec<u32>)]) -> Vec<u32> {
+    let mut words = vec![1, definitions.len() as u32];
+    let mut offset = 2 + 4 * definitions.len() as u32;
+    for (name, polarity, part) in definitions {
+        words.extend([*name, *polarity, offset, part.len() as u32]);
+        offset += part.len() as u32;
+    }
+    words.extend(definitions.iter().flat_map(|(_, _, part)| part));
+    words
+}
+
+/// A store with these records, and junk past the last one.
+pub fn lay_out(records: &BTreeSet<Record>, length: usize, random: &mut Random) -> Vec<u32> {
+    let junk = random.word() | 1;
+    let mut store = Vec::with_capacity(length);
+    store.push(records.len() as u32);
+    store.extend(records.iter().flatten());
+    store.extend((store.len() as u32..length as u32).map(|n| n.wrapping_mul(junk)));
+    store
+}
+
+pub struct Generator {
+    pub random: Random,
+    universe: &'static Universe,
+}
+
+impl Generator {
+    pub fn new(seed: u64, universe: &'static Universe) -> Generator {
+        Generator { random: Random::new(seed), universe }
+    }
+
+    // ---- certificates, stores, filings ----
+
+    pub fn record(&mut self) -> Record {
+        let width = self.random.pick(self.universe.widths) as usize;
+        let atoms: Vec<u32> = (0..width).map(|_| self.random.pick(self.universe.atoms)).collect();
+        let name = [self.random.pick(self.universe.keys), self.random.pick(self.universe.names), self.random.between(0, 1)];
+        self.of_name(name, &atoms)
+    }
+
+    fn of_name(&self, [key, name, polarity]: [u32; 3], atoms: &[u32]) -> Record {
+        let [width, a, b, c, d] = Row::new(atoms).words();
+        [key, name, polarity, width, a, b, c, d]
+    }
+
+    fn records(&mut self, count: usize) -> BTreeSet<Record> {
+        (0..count).map(|_| self.record()).collect()
+    }
+
+    /// 126 to 130 rows of one name, and some others.
+    fn crowd(&mut self) -> BTreeSet<Record> {
+        let mut records = self.records(20);
+        for polarity in [0, 1] {
+            let name = [self.random.pick(self.universe.keys), CROWD, polarity];
+            records.retain(|record| record[..3] != name);
+            let count = self.random.between(126, 130);
+            records.extend((0..count).map(|n| self.of_name(name, &[n])));
+        }
+        records
+    }
+
+    /// `missing` fewer than 2,000.
+    fn full(&mut self, missing: usize) -> BTreeSet<Record> {
+        let mut records = self.records(60);
+        let mut n = 0;
+        while records.len() < MOST_CERTIFICATES - missing {
+            let name = [self.random.pick(self.universe.keys), n / 64, self.random.between(0, 1)];
+            records.insert(self.of_name(name, &[n]));
+            n += 1;
+        }
+        records
+    }
+
+    pub fn sound_store(&mut self) -> Vec<u32> {
+        let records = match self.random.below(20) {
+            0 => BTreeSet::new(),
+            1..=3 => self.crowd(),
+            4 => self.full(0),
+            5..=9 => self.records(200),
+            _ => self.records(40),
+        };
+        let longer = if self.random.chance(200) { self.random.below(20) } else { 0 };
+        lay_out(&records, STORE_WORDS + longer, &mut self.random)
+    }
+
+    pub fn store(&mut self) -> Vec<u32> {
+        let mut store = self.sound_store();
+        if self.random.chance(120) {
+            self.damage(&mut store);
+        }
+        store
+    }
+
+    fn damage(&mut self, store: &mut Vec<u32>) {
+        let count = store[0] as usize;
+        let word = if count > 0 { 1 + self.random.below(8 * count) } else { 0 };
+        let record = if count > 1 { 1 + 8 * self.random.below(count - 1) } else { 1 };
+        match self.random.below(6) {
+            0 => store.truncate(self.random.pick(&[STORE_WORDS - 1, 0, 1, 9, 8_000])),
+            1 => store[0] = self.random.pick(&[MOST_CERTIFICATES as u32 + 1, u32::MAX, count as u32 + 1]),
+            2 => store.copy_within(record..record + 8, record + 8), // the same twice
+            3 => (0..8).for_each(|place| store.swap(record + place, record + 8 + place)),
+            4 => store[word] = self.random.pick(&[0, 1, 2, 5, 65_536, u32::MAX]),
+            _ => store[word] ^= 1 << self.random.below(32),
+        }
+    }
+
+    pub fn filings(&mut self) -> Filings {
+        let store = match self.random.below(20) {
+            0 => self.store(),
+            1 => {
+                let missing = self.random.below(4);
+                let records = self.full(missing);
+                lay_out(&records, STORE_WORDS, &mut self.random)
+            }
+            2 => {
+                let mut store = self.sound_store();
+                self.damage(&mut store);
+                store
+            }
+            _ => lay_out(&BTreeSet::new(), STORE_WORDS, &mut self.random),
+        };
+        let count = self.random.between(1, 24);
+        let certificates = (0..count).map(|_| self.filed(&store)).collect();
+        Filings { store, certificates }
+    }
+
+    /// Words to file: mostly sound, often there already, sometimes any at all.
+    fn filed(&mut self, store: &[u32]) -> Vec<u32> {
+        let mut words = self.record().to_vec();
+        let records = store.len().saturating_sub(1) / 8;
+        if records > 0 && self.random.chance(150) {
+            let start = 1 + 8 * self.random.below(records.min(store[0] as usize).max(1));
+            words = store[start..start + 8].to_vec();
+        }
+        if self.random.chance(200) {
+            self.mutate(&mut words);
+        }
+        words
+    }
+
+    // ---- policies and queries ----
+
+    pub fn case(&mut self) -> Case {
+        if self.random.chance(1) {
+            return self.many_draws_made();
+        }
+        let (policy, declared) = self.policy();
+        let query = self.query(&declared);
+        self.asked(policy, query)
+    }
+
+    fn asked(&mut self, policy: Vec<u32>, query: Vec<u32>) -> Case {
+        let number = if self.random.chance(900) { self.random.between(0, 18) } else { self.random.word() };
+        let [key, name, polarity, ..] = self.record();
+        Case { policy, query, areas: self.areas(), number, name: [key, name, polarity] }
+    }
+
+    /// A policy and a query over this universe alone, without damage.
+    pub fn sound_pair(&mut self) -> (Vec<u32>, Vec<u32>) {
+        let count = self.random.between(0, 2);
+        let (definitions, declared) = self.definitions(count, 0);
+        (assemble(&definitions), self.expression(Want::any, &declared))
+    }
+
+    fn areas(&mut self) -> Areas {
+        let mut areas = Areas::LEAST;
+        let spare = if self.random.chance(300) { self.random.below(30) } else { 0 };
+        areas.answer += spare;
+        areas.definitions += spare;
+        areas.scratch += spare;
+        if self.random.chance(30) {
+            let area = match self.random.below(3) {
+                0 => &mut areas.answer,
+                1 => &mut areas.definitions,
+                _ => &mut areas.scratch,
+            };
+            *area -= self.random.pick(&[spare + 1, spare + 200, *area]);
+        }
+        areas
+    }
+
+    fn expression(&mut self, want: impl FnOnce(&mut Random) -> Want, declared: &[Declared]) -> Vec<u32> {
+        let want = want(&mut self.random);
+        let mut writer = Writer::new(&mut self.random, self.universe, declared);
+        writer.expression(want, 1);
+        writer.words
+    }
+
+    /// Definitions that use earlier ones; each is damaged in so many of a thousand cases.
+    fn definitions(&mut self, count: u32, damaged: u32) -> (Vec<(u32, u32, Vec<u32>)>, Vec<Declared>) {
+        let mut definitions = Vec::new();
+        let mut declared = Vec::new();
+        for d in 0..count {
+            let polarity = self.random.between(0, 1);
+            let closed = self.random.chance(500);
+            let want = Want { closed, ..Want::polarity(polarity) };
+            let mut words = self.expression(|_| want, &declared);
+            if self.random.chance(damaged) {
+                words = if self.random.chance(300) { self.near_a_limit() } else { words };
+                self.mutate(&mut words);
+            }
+            words.resize(words.len().max(1), 0);
+            definitions.push((10 + d, polarity, words));
+            declared.push(Declared { polarity, open: !closed });
+        }
+        (definitions, declared)
+    }
+
+    fn policy(&mut self) -> (Vec<u32>, Vec<Declared>) {
+        let count = if self.random.chance(20) { self.random.between(14, 17) } else { self.random.pick(&[0, 0, 1, 1, 1, 2, 2, 3, 4]) };
+        if self.random.chance(3) {
+            return (self.long_policy(), Vec::new());
+        }
+        let (mut definitions, declared) = self.definitions(count, 40);
+        if count > 0 && self.random.chance(20) {
+            let unlike = self.random.below(count as usize);
+            definitions[unlike].0 = self.random.pick(&[10, 10, LAST_NAME, LAST_NAME + 1]);
+        }
+        let mut words = assemble(&definitions);
+        if self.random.chance(60) {
+            self.damage_table(&mut words, count as usize);
+        }
+        (words, declared)
+    }
+
+    /// Of 8,190 to 8,194 words.
+    fn long_policy(&mut self) -> Vec<u32> {
+        let mut parts = vec![1_154; 7];
+        parts.push(self.random.between(78, 82) as usize);
+        let definitions: Vec<_> = (0..).zip(parts).map(|(name, length)| (name, 0, literal_of(length))).collect();
+        assemble(&definitions)
+    }
+
+    fn damage_table(&mut self, words: &mut Vec<u32>, count: usize) {
+        let table = 2 + 4 * count;
+        match self.random.below(4) {
+            0 => self.mutate(words),
+            1 if count > 1 => {
+                // The sum wraps to a word of the policy, and the next part goes on from there.
+                let end = self.random.below(words.len()) as u32;
+                words[5] = end.wrapping_sub(words[4]);
+                words[8] = end;
+                words[9] = words[12.min(words.len() - 1)].wrapping_sub(end);
+                if count == 2 {
+                    words[9] = words.len() as u32 - end;
+                }
+            }
+            2 => words.truncate(self.random.below(table + 1)),
+            _ => {
+                let place = self.random.below(table);
+                words[place] = self.odd_word(words[place]);
+            }
+        }
+    }
+
+    fn query(&mut self, declared: &[Declared]) -> Vec<u32> {
+        let mut words = match self.random.below(100) {
+            0..=11 => self.near_a_limit(),
+            12..=13 if !declared.is_empty() => vec![3, self.random.below(declared.len()) as u32],
+            14 => literal_of(self.random.between(1_022, 1_026) as usize),
+            15 => {
+                let polarity = self.random.between(0, 1);
+                vec![4, 0, self.random.pick(self.universe.keys), CROWD, polarity]
+            }
+            _ => self.expression(Want::any, declared),
+        };
+        if self.random.chance(150) {
+            self.mutate(&mut words);
+        }
+        words
+    }
+
+    // ---- limits ----
+
+    /// An expression just under, at or over one of document 01's limits.
+    fn near_a_limit(&mut self) -> Vec<u32> {
+        match self.random.below(9) {
+            0 => self.deep(),
+            1 => self.many_draws_written(),
+            2 => self.many_variables(),
+            3 => self.joined(5, 1, 1),
+            4 => self.joined(6, 2, 1),
+            5 => self.joined(5, 2, 1),
+            6 => self.joined(6, 2, 2),
+            7 => self.joined(5, 2, 2),
+            _ => self.product(),
+        }
+    }
+
+    /// Operands at depth 14 to 17.
+    fn deep(&mut self) -> Vec<u32> {
+        let mut words = Vec::new();
+        let mut after: Vec<u32> = Vec::new();
+        for _ in 0..self.random.between(13, 16) {
+            match self.random.below(4) {
+                0 => words.extend([5, 1, 0]),
+                1 => words.extend([6, 2, 0]),
+                2 => {
+                    words.push(5);
+                    after.splice(0..0, [1, 1, 1, 0, 7]);
+                }
+                _ => {
+                    words.extend([7, 1, 4, 1, 0, 7]);
+                    after.splice(0..0, [1, 0, 7]);
+                }
+            }
+        }
+        words.extend(self.random.pick(&[[1, 0], [2, 0], [9, 0], [7, 9], [4, 0]]));
+        words.extend(after);
+        words
+    }
+
+    /// Seven to nine draws, some in one of the others.
+    fn many_draws_written(&mut self) -> Vec<u32> {
+        let all = self.random.between(7, 9);
+        let inner = self.random.between(1, 3);
+        let draw = [1, 1, 1, 1, 0, 7, 1, 0, 7];
+        let nested = [vec![7, inner], draw.repeat(inner as usize), vec![1, 0, 7]].concat();
+        let outer = all - inner;
+        let first = [vec![1], nested, vec![1, 0, 7]].concat();
+        [vec![7, outer], first, draw.repeat(outer as usize - 1), vec![1, 0, 7]].concat()
+    }
+
+    /// Fifteen to seventeen variables, four in a draw.
+    fn many_variables(&mut self) -> Vec<u32> {
+        let count = self.random.between(15, 17);
+        let mut words = vec![7, count.div_ceil(4)];
+        for first in (0..count).step_by(4) {
+            let width = (count - first).min(4);
+            words.extend([1, 1, 1, width]);
+            words.extend([0, 7].repeat(width as usize));
+            words.push(width);
+            words.extend((first..first + width).flat_map(|variable| [2, variable]));
+        }
+        words.extend([2, 1, count - 1, 1, self.random.between(14, 17)]);
+        words
+    }
+
+    /// Two literals of about 128 rows together, which share some.
+    fn joined(&mut self, code: u32, left: u32, right: u32) -> Vec<u32> {
+        let (a, b) = (self.random.between(60, 128), self.random.between(1, 60));
+        let first = self.random.pick(&[a, a - 1, a - 20, 128u32.saturating_sub(b), 129 - b]);
+        [vec![code], numbers(left, 0, a), numbers(right, first, b)].concat()
+    }
+
+    /// About 128 different rows from two draws.
+    fn product(&mut self) -> Vec<u32> {
+        let (a, b) = self.random.pick(&[(8, 16), (16, 8), (3, 43), (43, 3), (11, 12), (1, 128)]);
+        draws_from(&[numbers(1, 0, a), numbers(1, 0, b)], &[2, 1, 0, 1, 1])
+    }
+
+    /// About 1,000,000 draws, in one part or two.
+    fn many_draws_made(&mut self) -> Case {
+        let sizes = self.random.pick(&[[100, 100, 98], [100, 99, 100], [99, 100, 100], [100, 100, 100], [100, 100, 100]]);
+        let head = self.random.pick(&[[1, 0, 7], [1, 1, 1]]);
+        let sources = sizes.map(|size| numbers(1, 0, size));
+        let comprehension = draws_from(&sources, &head);
+        let part = if self.random.chance(500) { [vec![5], numbers(1, 1_000, 100), comprehension].concat() } else { comprehension };
+        let policy = assemble(&[(1, 0, part), (2, 0, numbers(1, 0, 1))]);
+        let query = self.random.pick(&[&[3, 0][..], &[1, 0], &[7, 1, 1, 3, 1, 1, 2, 0, 1, 1, 0]]).to_vec();
+        self.asked(policy, query)
+    }
+
+    // ---- mutations ----
+
+    fn odd_word(&mut self, word: u32) -> u32 {
+        match self.random.below(8) {
+            0..=2 => self.random.between(0, 9),
+            3 => word.wrapping_add(1),
+            4 => word.wrapping_sub(1),
+            5 => self.random.pick(&[16, 17, 127, 128, 129, 65_535, 65_536, key(0), key(0) - 1, u32::MAX]),
+            6 => word ^ (1 << self.random.below(32)),
+            _ => self.random.word(),
+        }
+    }
+
+    fn mutate(&mut self, words: &mut Vec<u32>) {
+        let place = self.random.below(words.len().max(1));
+        match self.random.below(10) {
+            0 => words.truncate(place),
+            1 => words.extend([0, 1, 7][..self.random.between(1, 3) as usize].iter()),
+            2 if !words.is_empty() => drop(words.remove(place)),
+            3 => {
+                let word = self.odd_word(0);
+                words.insert(place.min(words.len()), word);
+            }
+            _ if words.is_empty() => words.push(1),
+            _ => words[place] = self.odd_word(words[place]),
+        }
+    }
+}
+
+#[cfg(test)]
+mod tests {
+    use super::*;
+    use crate::evaluator::{certificates, Evaluator};
+
+    #[test]
+    fn literals_have_the_length_asked_for() {
+        for length in [2, 5, 7, 8, 78, 82, 1_022, 1_026, 1_154] {
+            assert_eq!(literal_of(length).len(), length);
+        }
+    }
+
+    #[test]
+    fn sound_stores_are_sound() {
+        let mut generator = Generator::new(1, &PORTAL);
+        for _ in 0..300 {
+            assert!(certificates(&generator.sound_store()).is_some());
+        }
+    }
+
+    #[test]
+    fn sound_pairs_are_mostly_answered() {
+        let mut generator = Generator::new(1, &PORTAL);
+        let store = generator.sound_store();
+        let answered = |generator: &mut Generator| {
+            let (policy, query) = generator.sound_pair();
+            Evaluator::default().query(&policy, &query, &store, Areas::LEAST).is_ok()
+        };
+        let count = (0..1_000).filter(|_| answered(&mut generator)).count();
+        assert!(count > 700, "{count}");
+    }
+}

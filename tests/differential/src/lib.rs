@@ -1,0 +1,11 @@
+//! The compiled library beside an independent evaluator, written from document 01 alone.
+
+pub mod compare;
+pub mod engine;
+pub mod evaluator;
+pub mod faults;
+pub mod generate;
+#[cfg(feature = "library")]
+pub mod library;
+pub mod random;
+pub mod worlds;

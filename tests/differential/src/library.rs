@@ -1,0 +1,28 @@
+//! The compiled library.
+
+use crate::engine::{Engine, Lent};
+use txindurbe::calls;
+
+pub struct Library;
+
+impl Engine for Library {
+    fn file(&self, store: &mut [u32], certificate: &[u32]) -> u32 {
+        calls::file(store, certificate)
+    }
+
+    fn query(&self, policy: &[u32], query: &[u32], store: &[u32], lent: Lent) -> u64 {
+        calls::query(policy, query, store, lent.answer, lent.definitions, lent.scratch)
+    }
+
+    fn judge(&self, policy: &[u32], query: &[u32]) -> u32 {
+        calls::judge(policy, query)
+    }
+
+    fn part(&self, policy: &[u32], query: &[u32], number: u32) -> u64 {
+        calls::part(policy, query, number)
+    }
+
+    fn certificates_of(&self, store: &[u32], [key, name, polarity]: [u32; 3]) -> u64 {
+        calls::certificates_of(store, key, name, polarity)
+    }
+}

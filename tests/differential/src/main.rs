@@ -1,0 +1,118 @@
+//! The differential run: the compiled library beside the evaluator, on random and mutated words.
+//!
+//!     differential [CASES] [--seed S] [--worlds LISTS] [--plant K] [--rehearse]
+//!
+//! CASES queries and lists of filings (200,000), and LISTS lists of filings held against worlds (a hundredth of the cases). `--plant K` makes the evaluator
+//! wrong in one way, which the run must notice; it stops there. `--rehearse` puts the evaluator in the library's place.
+
+use differential::compare::{Comparison, Tally};
+use differential::engine::Engine;
+use differential::evaluator::Evaluator;
+use differential::faults::Fault;
+use differential::generate::Generator;
+use differential::worlds::{check, Seen, SMALL};
+use std::process::ExitCode;
+
+struct Options {
+    cases: u64,
+    seed: u64,
+    worlds: Option<u64>,
+    fault: Option<Fault>,
+    rehearse: bool,
+}
+
+fn options(mut words: impl Iterator<Item = String>) -> Result<Options, String> {
+    let mut options = Options { cases: 200_000, seed: 2_026, worlds: None, fault: None, rehearse: false };
+    while let Some(word) = words.next() {
+        let mut number = || -> Result<u64, String> {
+            let next = words.next().ok_or(format!("{word} wants a number"))?;
+            next.parse().map_err(|_| format!("{next} is no number"))
+        };
+        match word.as_str() {
+            "--seed" => options.seed = number()?,
+            "--worlds" => options.worlds = Some(number()?),
+            "--plant" => options.fault = Some(planted(number()?)?),
+            "--rehearse" => options.rehearse = true,
+            cases => options.cases = cases.parse().map_err(|_| format!("{cases} is no count of cases"))?,
+        }
+    }
+    Ok(options)
+}
+
+fn planted(number: u64) -> Result<Fault, String> {
+    let place = (number as usize).checked_sub(1);
+    place.and_then(|place| Fault::ALL.get(place)).copied().ok_or(format!("faults are 1 to {}", Fault::ALL.len()))
+}
+
+#[cfg(feature = "library")]
+fn library() -> Option<Box<dyn Engine>> {
+    Some(Box::new(differential::library::Library))
+}
+
+#[cfg(not(feature = "library"))]
+fn library() -> Option<Box<dyn Engine>> {
+    None
+}
+
+fn tested(options: &Options) -> Result<Box<dyn Engine>, String> {
+    if options.rehearse {
+        println!("a rehearsal: the evaluator stands in for the library");
+        return Ok(Box::new(Evaluator::default()));
+    }
+    library().ok_or("built without the library: use --features library, or --rehearse".into())
+}
+
+fn run(options: &Options) -> Result<Tally, String> {
+    let tested = tested(options)?;
+    println!("seed {}", options.seed);
+    if let Some(fault) = options.fault {
+        println!("planted: {}", fault.meaning());
+    }
+    let mut comparison = Comparison::new(tested.as_ref(), Evaluator { fault: options.fault }, options.seed);
+    comparison.run(options.seed, options.cases, options.fault.is_some());
+    let mut tally = comparison.tally;
+    let seen = against_worlds(tested.as_ref(), options, &mut tally);
+    print_tally(&tally, &seen);
+    Ok(tally)
+}
+
+fn against_worlds(tested: &dyn Engine, options: &Options, tally: &mut Tally) -> Seen {
+    let mut generator = Generator::new(options.seed, &SMALL);
+    let mut seen = Seen::default();
+    for list in 0..options.worlds.unwrap_or(options.cases / 100) {
+        let result = check(tested, &mut generator, &mut seen);
+        tally.count(result.map_err(|report| format!("worlds, list {list}, {report}")));
+    }
+    seen
+}
+
+fn print_tally(tally: &Tally, seen: &Seen) {
+    for (reply, count) in &tally.filings {
+        let reply = ["Filed", "Held"].get(*reply as usize).map_or(format!("refused with {reply}"), |word| word.to_string());
+        println!("filing {reply}: {count}");
+    }
+    for (number, count) in &tally.refusals {
+        println!("query refused with {number}: {count}");
+    }
+    for ((verdict, table), count) in &tally.answers {
+        println!("answer {}, {table}: {count}", ["exact", "lower", "upper"][*verdict as usize]);
+    }
+    let [exact, lower, upper] = seen.points;
+    println!("held against worlds: {exact} exact, {lower} lower and {upper} upper answers, {} worlds, {} rows that worlds differ on", seen.worlds, seen.undecided_rows);
+    for report in &tally.reports {
+        println!("FAILED {report}");
+    }
+}
+
+fn main() -> ExitCode {
+    match options(std::env::args().skip(1)).and_then(|options| run(&options)) {
+        Ok(tally) => {
+            println!("{} passed, {} failed", tally.passed, tally.failed);
+            ExitCode::from((tally.failed > 0) as u8)
+        }
+        Err(report) => {
+            eprintln!("{report}");
+            ExitCode::from(2)
+        }
+    }
+}

@@ -1,0 +1,379 @@
+//! Demand 3 by brute force: answers are held against belonging in every consistent world over a small universe of rows.
+//!
+//! Why a small universe is enough to be worth asking:
+//! - A row that is wrongly left out of a lower answer, or wrongly kept in an upper one, is shown by the minimal model, which is always among the worlds
+//!   tried. A witness found here is a world of document 01: finite sets for + names, and for − names finite sets or complements.
+//! - A row that is wrongly kept in a lower answer, or wrongly left out of an upper one, needs a world with rows that are not certified. Atoms that neither
+//!   policy, query nor certificates mention are interchangeable, so a few unmentioned rows stand for the others.
+//! - The values of variables need be sought only among the atoms written in policy and query and those of the world's listed rows: a draw's rows come from
+//!   an expression that is not open, and such an expression has only rows made of those atoms. Rows past the universe (`rest`) are in − names alone.
+
+use crate::engine::{Engine, Lent};
+use crate::evaluator::{key, row_of, value, Areas, Evaluator, Expression, Guard, Judged, Record, Row, Set, Slot, Term, Verdict, STORE_WORDS};
+use crate::generate::{lay_out, Generator, Universe};
+use crate::random::Random;
+use std::collections::{BTreeMap, BTreeSet};
+
+pub const SMALL: Universe =
+    Universe { keys: &[key(1), key(2)], names: &[1, 2], atoms: &[5, 6, key(1)], widths: &[1, 1, 1, 1, 2], depth: 3, guards: 3 };
+
+/// Rows that worlds may list beside the certified ones; the last three are made of atoms that nothing mentions.
+const ROWS: [&[u32]; 7] = [&[5], &[6], &[key(1)], &[5, key(1)], &[98], &[99], &[98, 5]];
+
+/// Up to so many undecided rows every world is tried, and over it so many worlds.
+const MOST_UNDECIDED: usize = 8;
+const SAMPLE: usize = 96;
+
+// ---- worlds ----
+
+type Name = [u32; 3];
+
+/// A list: the rows of the universe that it holds, and whether it holds all rows past the universe.
+#[derive(Clone)]
+struct List {
+    rows: BTreeSet<Row>,
+    rest: bool,
+}
+
+struct World<'a> {
+    lists: BTreeMap<Name, List>,
+    universe: &'a BTreeSet<Row>,
+}
+
+impl World<'_> {
+    fn gives(&self, name: Name, row: &Row) -> bool {
+        let list = &self.lists[&name];
+        if self.universe.contains(row) { list.rows.contains(row) } else { list.rest }
+    }
+}
+
+/// Worlds in which all certificates accepted so far are true. The first one is the minimal model.
+fn consistent_worlds<'a>(names: &BTreeSet<Name>, universe: &'a BTreeSet<Row>, accepted: &BTreeSet<Record>, random: &mut Random) -> Vec<World<'a>> {
+    let minimal = minimal_model(names, universe, accepted);
+    let undecided = undecided(names, universe, accepted);
+    let turned = |turn: &dyn Fn(usize) -> bool| {
+        let mut lists = minimal.clone();
+        for (_, (name, row)) in undecided.iter().enumerate().filter(|(place, _)| turn(*place)) {
+            turn_round(lists.get_mut(name).expect("every name has a list"), row);
+        }
+        World { lists, universe }
+    };
+    let count = undecided.len();
+    if count <= MOST_UNDECIDED {
+        return (0..1usize << count).map(|chosen| turned(&|place| chosen >> place & 1 == 1)).collect();
+    }
+    let mut worlds = vec![turned(&|_| false), turned(&|_| true)];
+    worlds.extend((0..count).map(|one| turned(&|place| place == one)));
+    while worlds.len() < SAMPLE {
+        let chosen = random.next() & random.next();
+        worlds.push(turned(&|place| chosen >> (place % 64) & 1 == 1));
+    }
+    worlds
+}
+
+/// A + name has just its certified rows; a − name has all rows but its certified ones.
+fn minimal_model(names: &BTreeSet<Name>, universe: &BTreeSet<Row>, accepted: &BTreeSet<Record>) -> BTreeMap<Name, List> {
+    let list = |name: &Name| {
+        let certified = certified(accepted, name);
+        let minus = name[2] == 1;
+        List { rows: if minus { universe - &certified } else { certified }, rest: minus }
+    };
+    names.iter().map(|name| (*name, list(name))).collect()
+}
+
+fn certified(accepted: &BTreeSet<Record>, name: &Name) -> BTreeSet<Row> {
+    let of_name = accepted.iter().filter(|record| record[..3] == *name);
+    of_name.map(|record| Row::from_words(&record[3..]).expect("accepted ones are sound")).collect()
+}
+
+/// What no certificate decides: rows of the universe, and for − names the rest (`None`).
+fn undecided(names: &BTreeSet<Name>, universe: &BTreeSet<Row>, accepted: &BTreeSet<Record>) -> Vec<(Name, Option<Row>)> {
+    let of_name = |name: &Name| {
+        let certified = certified(accepted, name);
+        let mut open: Vec<(Name, Option<Row>)> = universe.difference(&certified).map(|row| (*name, Some(*row))).collect();
+        open.extend((name[2] == 1).then_some((*name, None)));
+        open
+    };
+    names.iter().flat_map(of_name).collect()
+}
+
+fn turn_round(list: &mut List, row: &Option<Row>) {
+    match row {
+        None => list.rest = !list.rest,
+        Some(row) if list.rows.contains(row) => drop(list.rows.remove(row)),
+        Some(row) => drop(list.rows.insert(*row)),
+    }
+}
+
+// ---- belonging, as document 01's section has it ----
+
+struct Belonging<'a> {
+    judged: &'a Judged,
+    world: &'a World<'a>,
+    /// Where values are sought.
+    atoms: &'a BTreeSet<u32>,
+}
+
+impl Belonging<'_> {
+    fn belongs(&self, row: &Row, expression: &Expression, values: &[u32]) -> bool {
+        let written = |rows: &[Vec<Term>]| rows.iter().any(|terms| row_of(terms, values) == *row);
+        match expression {
+            Expression::Rows(rows) => written(rows),
+            Expression::AllBut(rows) => !written(rows),
+            Expression::Definition(number) => self.belongs(row, &self.judged.definitions[*number].expression, &[]),
+            Expression::List { issuer, name, polarity } => match value(*issuer, values) {
+                number if number < key(0) => *polarity == 1,
+                issuer => self.world.gives([issuer, *name, *polarity], row),
+            },
+            Expression::Union(left, right) => self.belongs(row, left, values) || self.belongs(row, right, values),
+            Expression::Difference(left, right) => self.belongs(row, left, values) && !self.belongs(row, right, values),
+            Expression::Comprehension { guards, head } => self.some_values(row, guards, head, values),
+        }
+    }
+
+    /// Some values of the comprehension's own variables pass every guard and make the head this row. They are sought guard by guard, to be quick.
+    fn some_values(&self, row: &Row, guards: &[Guard], head: &[Term], values: &[u32]) -> bool {
+        let Some((guard, others)) = guards.split_first() else { return row_of(head, values) == *row };
+        match guard {
+            Guard::Draw { from, pattern } => self.choices(pattern, values).iter().any(|chosen| {
+                // With these values the pattern matches one row alone.
+                let matched = pattern_row(pattern, values.len(), chosen);
+                self.belongs(&matched, from, values) && self.some_values(row, others, head, chosen)
+            }),
+            guard => self.passes(guard, values) && self.some_values(row, others, head, values),
+        }
+    }
+
+    fn passes(&self, guard: &Guard, values: &[u32]) -> bool {
+        match guard {
+            Guard::Same(a, b) => value(*a, values) == value(*b, values),
+            Guard::Different(a, b) => value(*a, values) != value(*b, values),
+            Guard::Absent { row, from } => !self.belongs(&row_of(row, values), from, values),
+            Guard::Draw { .. } => unreachable!("a draw chooses values"),
+        }
+    }
+
+    /// The values with each choice for the pattern's new variables.
+    fn choices(&self, pattern: &[Slot], values: &[u32]) -> Vec<Vec<u32>> {
+        let new = pattern.iter().filter(|slot| **slot == Slot::New).count();
+        (0..new).fold(vec![values.to_vec()], |choices, _| {
+            choices.iter().flat_map(|chosen| self.atoms.iter().map(move |&atom| [chosen.as_slice(), &[atom]].concat())).collect()
+        })
+    }
+}
+
+fn pattern_row(pattern: &[Slot], outside: usize, values: &[u32]) -> Row {
+    let mut new = outside..;
+    let terms: Vec<Term> = pattern
+        .iter()
+        .map(|slot| match slot {
+            Slot::Term(term) => *term,
+            Slot::New => Term::Variable(new.next().expect("there is always a next number")),
+        })
+        .collect();
+    row_of(&terms, values)
+}
+
+// ---- one list of filings ----
+
+/// The answer at one point, with what was accepted so far.
+struct Point {
+    accepted: BTreeSet<Record>,
+    verdict: Verdict,
+    answer: Set,
+}
+
+/// What a check has looked at.
+#[derive(Default, Clone, Copy)]
+pub struct Seen {
+    /// Queries that are refused before reading have no worlds to be held against.
+    pub refused: u64,
+    pub points: [u64; 3],
+    pub worlds: u64,
+    /// Rows that are in some of a point's worlds and not in others: there the bounds say something.
+    pub undecided_rows: u64,
+}
+
+/// A random policy and query at several points of a random list of filings.
+pub fn check(engine: &dyn Engine, generator: &mut Generator, seen: &mut Seen) -> Result<(), String> {
+    let (policy, query) = generator.sound_pair();
+    let Ok(judged) = Evaluator::default().judge(&policy, &query) else {
+        seen.refused += 1;
+        return Ok(());
+    };
+    let names = names_asked(&judged);
+    let points = points(engine, generator, &names, &policy, &query)?;
+    let universe = universe(&points, &mut generator.random);
+    let atoms = atoms(&judged, &universe);
+    let show = |report| format!("{report}\n  policy {policy:?}\n  query {query:?}");
+    for point in &points {
+        let worlds = consistent_worlds(&names, &universe, &point.accepted, &mut generator.random);
+        let belonging: Vec<Belonging> = worlds.iter().map(|world| Belonging { judged: &judged, world, atoms: &atoms }).collect();
+        for row in rows_asked(&universe, &atoms, &points) {
+            let belongs: Vec<bool> = belonging.iter().map(|world| world.belongs(&row, &judged.query, &[])).collect();
+            seen.undecided_rows += (belongs.contains(&true) && belongs.contains(&false)) as u64;
+            bounded(point, &row, &belongs).map_err(show)?;
+        }
+        seen.points[point.verdict as usize] += 1;
+        seen.worlds += worlds.len() as u64;
+    }
+    points.windows(2).try_for_each(|pair| in_step(&pair[0], &pair[1])).map_err(show)
+}
+
+/// A row is in a lower answer exactly when it belongs in every world, missing from an upper one exactly when it is missing in every world; an exact answer
+/// agrees with each world by itself.
+fn bounded(point: &Point, row: &Row, belongs: &[bool]) -> Result<(), String> {
+    let answered = point.answer.holds(row);
+    let right = match point.verdict {
+        Verdict::Lower => answered == belongs.iter().all(|&in_world| in_world),
+        Verdict::Upper => answered == belongs.iter().any(|&in_world| in_world),
+        Verdict::Exact => belongs.iter().all(|&in_world| in_world == answered),
+    };
+    let held = &point.accepted;
+    let count = belongs.iter().filter(|&&in_world| in_world).count();
+    let report = || format!("{:?} {:?}: row {:?} belongs in {count} of {} worlds; held {held:?}", point.verdict, point.answer, row.used(), belongs.len());
+    if right { Ok(()) } else { Err(report()) }
+}
+
+/// Lower answers grow, upper ones shrink, exact ones stay.
+fn in_step(earlier: &Point, later: &Point) -> Result<(), String> {
+    let within = |a: &Set, b: &Set| a.minus(b) == Set::Finite(BTreeSet::new());
+    let right = earlier.verdict == later.verdict
+        && match earlier.verdict {
+            Verdict::Lower => within(&earlier.answer, &later.answer),
+            Verdict::Upper => within(&later.answer, &earlier.answer),
+            Verdict::Exact => earlier.answer == later.answer,
+        };
+    if right { Ok(()) } else { Err(format!("{:?} {:?} is followed by {:?} {:?}", earlier.verdict, earlier.answer, later.verdict, later.answer)) }
+}
+
+/// Files certificates through the engine, and asks at the first point, in between and at the last.
+fn points(engine: &dyn Engine, generator: &mut Generator, names: &BTreeSet<Name>, policy: &[u32], query: &[u32]) -> Result<Vec<Point>, String> {
+    let mut store = lay_out(&BTreeSet::new(), STORE_WORDS, &mut generator.random);
+    let mut accepted = BTreeSet::new();
+    let mut points = vec![point(engine, policy, query, &store, &accepted)?];
+    for _ in 0..3 {
+        for _ in 0..generator.random.between(1, 4) {
+            let record = filed(generator, names);
+            if engine.file(&mut store, &record) == 0 {
+                accepted.insert(Record::try_from(record).map_err(|words| format!("{words:?} was accepted"))?);
+            }
+        }
+        points.push(point(engine, policy, query, &store, &accepted)?);
+    }
+    Ok(points)
+}
+
+/// Mostly a certificate of a name that the query asks, sometimes words that are none.
+fn filed(generator: &mut Generator, names: &BTreeSet<Name>) -> Vec<u32> {
+    let mut record = generator.record();
+    if !names.is_empty() && generator.random.chance(800) {
+        let name = names.iter().nth(generator.random.below(names.len())).expect("it is one of them");
+        record[..3].copy_from_slice(name);
+    }
+    match generator.random.below(10) {
+        0 => record[..7].to_vec(),
+        1 => [5, 1, 0, 1, 5, 0, 0, 0].to_vec(), // a number as key
+        _ => record.to_vec(),
+    }
+}
+
+fn point(engine: &dyn Engine, policy: &[u32], query: &[u32], store: &[u32], accepted: &BTreeSet<Record>) -> Result<Point, String> {
+    let Areas { answer, definitions, scratch } = Areas::LEAST;
+    let (mut answer, mut definitions, mut scratch) = (vec![9; answer], vec![9; definitions], vec![9; scratch]);
+    let lent = Lent { answer: &mut answer, definitions: &mut definitions, scratch: &mut scratch };
+    let reply = engine.query(policy, query, store, lent);
+    let verdict = match (reply & 0xFF, reply >> 16 & 0xFF) {
+        (0, 0) => Verdict::Exact,
+        (0, 1) => Verdict::Lower,
+        (0, 2) => Verdict::Upper,
+        _ => return Err(format!("no answer where no refusal applies: {reply:#x}\n  policy {policy:?}\n  query {query:?}")),
+    };
+    let answer = Set::from_words(&answer).ok_or("the answer is no sound set")?;
+    Ok(Point { accepted: accepted.clone(), verdict, answer })
+}
+
+/// The names that the expressions may ask a world for; a variable issuer may be any key.
+fn names_asked(judged: &Judged) -> BTreeSet<Name> {
+    let keys = |issuer: Term| match issuer {
+        Term::Atom(atom) => vec![atom],
+        Term::Variable(_) => SMALL.keys.to_vec(),
+    };
+    let mut names = BTreeSet::new();
+    for expression in judged.expressions() {
+        if let Expression::List { issuer, name, polarity } = expression {
+            names.extend(keys(*issuer).into_iter().map(|key| [key, *name, *polarity]));
+        }
+    }
+    names
+}
+
+/// All certified rows, and some of `ROWS`.
+fn universe(points: &[Point], random: &mut Random) -> BTreeSet<Row> {
+    let accepted = &points.last().expect("there is a first point").accepted;
+    let mut universe: BTreeSet<Row> = accepted.iter().filter_map(|record| Row::from_words(&record[3..])).collect();
+    universe.extend(ROWS.iter().filter(|_| random.chance(400)).map(|row| Row::new(row)));
+    universe
+}
+
+/// The atoms written in policy and query, and those of the universe.
+fn atoms(judged: &Judged, universe: &BTreeSet<Row>) -> BTreeSet<u32> {
+    let mut atoms: BTreeSet<u32> = universe.iter().flat_map(|row| row.used().to_vec()).collect();
+    let mut terms: Vec<Term> = Vec::new();
+    for expression in judged.expressions() {
+        match expression {
+            Expression::Rows(rows) | Expression::AllBut(rows) => terms.extend(rows.iter().flatten()),
+            Expression::Comprehension { head, .. } => terms.extend(head),
+            _ => {}
+        }
+    }
+    atoms.extend(terms.iter().filter_map(|term| if let Term::Atom(atom) = term { Some(*atom) } else { None }));
+    atoms
+}
+
+/// The universe, what the answers list, rows of one and two of the atoms, and rows that nothing mentions.
+fn rows_asked(universe: &BTreeSet<Row>, atoms: &BTreeSet<u32>, points: &[Point]) -> BTreeSet<Row> {
+    let mut rows = universe.clone();
+    rows.extend(points.iter().flat_map(|point| point.answer.listed()));
+    rows.extend(atoms.iter().map(|&a| Row::new(&[a])));
+    rows.extend(atoms.iter().flat_map(|&a| atoms.iter().take(3).map(move |&b| Row::new(&[a, b]))));
+    rows.extend([Row::new(&[97]), Row::new(&[97, 96, 95])]);
+    rows
+}
+
+#[cfg(test)]
+mod tests {
+    use super::*;
+    use crate::faults::Fault;
+
+    fn run(engine: Evaluator, lists: usize) -> (Result<(), String>, Seen) {
+        let mut generator = Generator::new(3, &SMALL);
+        let mut seen = Seen::default();
+        let result = (0..lists).try_for_each(|_| check(&engine, &mut generator, &mut seen));
+        (result, seen)
+    }
+
+    #[test]
+    fn demand_3_holds_of_the_evaluator() {
+        let (result, seen) = run(Evaluator::default(), 400);
+        assert_eq!(result, Ok(()));
+        println!("points {:?}, worlds {}, undecided rows {}, refused {}", seen.points, seen.worlds, seen.undecided_rows, seen.refused);
+        assert!(seen.points.iter().all(|&count| count > 100) && seen.undecided_rows > 1_000, "{:?}", seen.points);
+    }
+
+    #[test]
+    fn wrong_meanings_are_noticed_without_a_second_evaluator() {
+        let meanings = [
+            Fault::UnknownListTakenAsEmpty,
+            Fault::ComplementAndFiniteJoined,
+            Fault::ComplementsSubtractedStraight,
+            Fault::NumberIssuerHasNoRows,
+            Fault::PatternVariableNotCompared,
+            Fault::AbsentNotTurnedRound,
+        ];
+        for fault in meanings {
+            let (result, _) = run(Evaluator { fault: Some(fault) }, 4_000);
+            assert!(result.is_err(), "{fault:?} is not noticed");
+        }
+    }
+}
