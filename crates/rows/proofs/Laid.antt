@@ -10,12 +10,13 @@ use Rattle.rows.specs.Word.{All}
 use Rattle.rows.specs.Ordered.{insert}
 use Rattle.rows.specs.Row.{Row, rowBefore}
 use Rattle.rows.specs.Sets.{RowSet, listing}
-use Rattle.rows.specs.Layout.{rowWords, rowIn, flat, pieces, formWord, setWords, written, put, rowsIn, formed, setIn, soundSet}
-use Rattle.rows.proofs.LayoutLaws.{flat-length, row-length, Sized, listing-in, sound-rows, rows-count, formed-word, formed-listing, sound-length, sound-written}
+use Rattle.rows.specs.Layout.{rowWords, rowIn, fiveAt, flat, pieces, formWord, setWords, written, put, rowsIn, formed, setIn, soundSet}
+use Rattle.rows.proofs.LayoutLaws.{flat-length, row-length, Sized, listing-in, sound-rows, rows-count, formed-word, formed-listing, sound-length, sound-written, true-sound, row-written, piece-sound, row-at}
+use Rattle.rows.proofs.RowLaws.{five-length}
 use Rattle.rows.proofs.Put.{put-length, put-before, put-then-after, put-then-before, put-less, put-itself, Writing, writing-next, writing-end}
 use Rattle.rows.proofs.SetWords.{Size, size}
 
-drop-take : (a b : ℕ) (ws : List ℕ) → drop a (take (a + b) ws) ≡ take b (drop a ws)
+pub drop-take : (a b : ℕ) (ws : List ℕ) → drop a (take (a + b) ws) ≡ take b (drop a ws)
 drop-take zero b ws = let e : 0 + b ≡ b = omega arith in ap (λ (k : ℕ). take k ws) e
 drop-take (suc a) b [] = let e : suc a + b ≡ suc (a + b) = omega arith in rw e (sym (take-nil b))
 drop-take (suc a) b (w ∷ ws) = let e : suc a + b ≡ suc (a + b) = omega arith in rw e (drop-take a b ws)
@@ -90,6 +91,20 @@ module _ (ws : List ℕ) (e : soundSet ws ≡ true) where
         let k : 5 * p + 5 * (n - p) ≡ 5 * n = omega arith in
         ap (take (5 * (n - p))) (sym (drop-drop (5 * p) 2 ws)) ∙ sym (drop-take (5 * p) (5 * (n - p)) (drop 2 ws)) ∙ ap (λ (m : ℕ). drop (5 * p) (take m (drop 2 ws))) k
         ∙ ap (drop (5 * p)) both ∙ drop-at (laid (take p (rowsIn ws))) (laid (drop p (rowsIn ws))) (5 * p) front-length
+
+-- one row of them
+pub row-words-at : (ws : List ℕ) (i : ℕ) → soundSet ws ≡ true → i < length (rowsIn ws) → fiveAt ws (2 + 5 * i) ≡ rowWords (getD (rowsIn ws) i [])
+row-words-at ws i e h =
+    let z = size ws e in
+    let c = rows-count ws in
+    sym (row-written (fiveAt ws (2 + 5 * i)) (five-length ws (2 + 5 * i) (omega arith)) (piece-sound (getD ws 1 0) ws i (true-sound ws e .pieces) (omega arith)))
+    ∙ ap rowWords (sym (row-at ws i (omega arith)))
+
+-- a part of a part
+pub inner : (p n m : ℕ) (ws : List ℕ) → p + n ≤ m → take n (drop p (take m ws)) ≡ take n (drop p ws)
+inner p n m ws h =
+    let e : m ≡ p + (m - p) = omega arith in
+    ap (λ (k : ℕ). take n (drop p (take k ws))) e ∙ ap (take n) (drop-take p (m - p) ws) ∙ take-take n (m - p) (drop p ws) (omega arith)
 
 -- the two first words
 pub write-header : (ws area : List ℕ) (f n : ℕ) → 2 + length ws ≤ length area → set (set (put 2 ws area) 1 n) 0 f ≡ put 0 (f ∷ n ∷ ws) area
@@ -186,3 +201,15 @@ module _ (ws area : List ℕ) (e : soundSet ws ≡ true) where
 
   pub copy-end : (now : List ℕ) (i : ℕ) → Writing (setWords (setIn ws)) area 0 now i → length (setWords (setIn ws)) ≤ i → now ≡ written (setIn ws) area
   copy-end now i w h = writing-end (setWords (setIn ws)) area 0 now i w h ∙ written-put (setIn ws) area
+
+-- ---- a set written where another stands, of the same form
+
+module _ (at : ℕ) (S : RowSet) (area : List ℕ) (room : at + 2 + length (laid (listing S)) ≤ length area) where
+  pub count-put : formWord S ≡ getD area at 0 → set (put (at + 2) (laid (listing S)) area) (at + 1) (length (listing S)) ≡ put at (setWords S) area
+  unfolding setWords
+  count-put e =
+      let ws : List ℕ = length (listing S) ∷ laid (listing S) in
+      let now : List ℕ = put (at + 1) (length (listing S) ∷ laid (listing S)) area in
+      let q : getD now at 0 ≡ formWord S = put-before (at + 1) ws area (omega arith) at (omega arith) ∙ sym e in
+      put-less (at + 2) (at + 1) (laid (listing S)) area (length (listing S)) (omega arith) room
+      ∙ sym (set-getD now at 0) ∙ ap (set now at) q ∙ put-less (at + 1) at ws area (formWord S) (omega arith) (omega arith)

@@ -10,3 +10,5 @@ pub mod SetWords
 pub mod Place
 pub mod Laid
 pub mod Inserting
+pub mod Seeking
+pub mod Filtering

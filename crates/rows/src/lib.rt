@@ -1,4 +1,5 @@
 // Rows and sets of rows, in words.
+pub mod combine;
 pub mod row;
 pub mod set;
 pub mod words;
