@@ -1,0 +1,137 @@
+/// + speaks of rows that are in a list, − of rows that are not.
+#[derive(Clone, Copy, PartialEq, Eq, PartialOrd, Ord, Hash, Debug)]
+pub enum Polarity {
+    Plus = 0,
+    Minus = 1,
+}
+
+#[derive(Clone, Copy, PartialEq, Eq, Debug)]
+pub enum Term {
+    Atom(u32),
+    Variable(u32),
+}
+
+/// A place in a draw's pattern: a term that must equal the atom drawn, or the number of a new variable, which is the count of variables in scope.
+#[derive(Clone, Copy, PartialEq, Eq, Debug)]
+pub enum Slot {
+    Atom(u32),
+    Variable(u32),
+    New(u32),
+}
+
+#[derive(Clone, PartialEq, Eq, Debug)]
+pub enum Guard {
+    /// Each row of the expression that matches the pattern.
+    Draw(Expression, Vec<Slot>),
+    Same(Term, Term),
+    Different(Term, Term),
+    /// The row is not in the expression.
+    Absent(Vec<Term>, Expression),
+}
+
+/// An expression in the policy language, as words. Nothing is tested here; the engine refuses what is malformed.
+#[derive(Clone, PartialEq, Eq, Debug)]
+pub struct Expression(Vec<u32>);
+
+impl Expression {
+    /// The finite set of these rows.
+    pub fn rows(rows: &[&[Term]]) -> Expression {
+        Expression::literal(1, rows)
+    }
+
+    /// All rows but these.
+    pub fn all_but(rows: &[&[Term]]) -> Expression {
+        Expression::literal(2, rows)
+    }
+
+    /// An earlier definition; in a query, any.
+    pub fn definition(number: u32) -> Expression {
+        Expression(vec![3, number])
+    }
+
+    /// A key's list.
+    pub fn list(key: u32, name: u16, polarity: Polarity) -> Expression {
+        Expression::list_of(Term::Atom(key), name, polarity)
+    }
+
+    /// The list of a key that a variable holds.
+    pub fn list_of(issuer: Term, name: u16, polarity: Polarity) -> Expression {
+        let mut words = vec![4];
+        term(issuer, &mut words);
+        words.extend([name.into(), polarity as u32]);
+        Expression(words)
+    }
+
+    pub fn union(self, other: Expression) -> Expression {
+        Expression([vec![5], self.0, other.0].concat())
+    }
+
+    pub fn minus(self, other: Expression) -> Expression {
+        Expression([vec![6], self.0, other.0].concat())
+    }
+
+    /// The head's row for each binding that passes all guards.
+    pub fn each(guards: &[Guard], head: &[Term]) -> Expression {
+        let mut words = vec![7, guards.len() as u32];
+        for one in guards {
+            guard(one, &mut words);
+        }
+        row(head, &mut words);
+        Expression(words)
+    }
+
+    pub fn words(&self) -> &[u32] {
+        &self.0
+    }
+
+    fn literal(code: u32, rows: &[&[Term]]) -> Expression {
+        let mut words = vec![code, rows.len() as u32];
+        for terms in rows {
+            row(terms, &mut words);
+        }
+        Expression(words)
+    }
+}
+
+fn term(term: Term, words: &mut Vec<u32>) {
+    words.extend(match term {
+        Term::Atom(atom) => [0, atom],
+        Term::Variable(number) => [1, number],
+    });
+}
+
+fn row(terms: &[Term], words: &mut Vec<u32>) {
+    words.push(terms.len() as u32);
+    for &one in terms {
+        term(one, words);
+    }
+}
+
+fn guard(guard: &Guard, words: &mut Vec<u32>) {
+    match guard {
+        Guard::Draw(from, pattern) => {
+            words.push(1);
+            words.extend(&from.0);
+            words.push(pattern.len() as u32);
+            words.extend(pattern.iter().flat_map(|&slot| match slot {
+                Slot::Atom(atom) => [0, atom],
+                Slot::Variable(number) => [1, number],
+                Slot::New(number) => [2, number],
+            }));
+        }
+        Guard::Same(a, b) => compared(2, [*a, *b], words),
+        Guard::Different(a, b) => compared(3, [*a, *b], words),
+        Guard::Absent(terms, from) => {
+            words.push(4);
+            row(terms, words);
+            words.extend(&from.0);
+        }
+    }
+}
+
+fn compared(code: u32, terms: [Term; 2], words: &mut Vec<u32>) {
+    words.push(code);
+    for one in terms {
+        term(one, words);
+    }
+}

@@ -1,0 +1,79 @@
+use crate::{calls, Expression, Part, Polarity, Refusal, Verdict};
+
+/// A name, the polarity that it is declared with, and what it stands for.
+#[derive(Clone, PartialEq, Eq, Debug)]
+pub struct Definition {
+    pub name: u16,
+    pub polarity: Polarity,
+    pub expression: Expression,
+}
+
+/// A policy's words: a table of definitions, then each one's expression.
+#[derive(Clone, PartialEq, Eq, Debug)]
+pub struct Policy {
+    words: Vec<u32>,
+}
+
+impl Policy {
+    pub fn new(definitions: &[Definition]) -> Policy {
+        let mut words = vec![1, definitions.len() as u32];
+        let mut offset = 2 + 4 * definitions.len() as u32;
+        for Definition { name, polarity, expression } in definitions {
+            let length = expression.words().len() as u32;
+            words.extend([u32::from(*name), *polarity as u32, offset, length]);
+            offset += length;
+        }
+        words.extend(definitions.iter().flat_map(|definition| definition.expression.words()));
+        Policy { words }
+    }
+
+    /// Any words at all; the engine refuses what is malformed.
+    pub fn from_words(words: Vec<u32>) -> Policy {
+        Policy { words }
+    }
+
+    pub fn words(&self) -> &[u32] {
+        &self.words
+    }
+
+    /// The verdict that an answer to this query would have, without a store.
+    pub fn judge(&self, query: &Query) -> Result<Verdict, Refusal> {
+        let reply = calls::judge(&self.words, query.words());
+        Refusal::from_reply(reply.into())?;
+        Ok(Verdict::from_reply(reply.into()))
+    }
+
+    /// The words of the definition or query that a refusal is about; none if there is no such definition or the policy's table is broken.
+    pub fn part<'a>(&'a self, query: &'a Query, part: Part) -> &'a [u32] {
+        let reply = calls::part(&self.words, query.words(), part.number());
+        let whole = if reply >> 63 == 1 { query.words() } else { self.words() };
+        &whole[within(reply & !(1 << 63))]
+    }
+}
+
+/// The range that the library packs as length + start · 2^32.
+pub(crate) fn within(reply: u64) -> std::ops::Range<usize> {
+    let (start, length) = ((reply >> 32) as usize, reply as u32 as usize);
+    start..start + length
+}
+
+/// A query's words: one expression, which may use every definition.
+#[derive(Clone, PartialEq, Eq, Debug)]
+pub struct Query {
+    words: Vec<u32>,
+}
+
+impl Query {
+    pub fn new(expression: &Expression) -> Query {
+        Query { words: expression.words().to_vec() }
+    }
+
+    /// Any words at all; the engine refuses what is malformed.
+    pub fn from_words(words: Vec<u32>) -> Query {
+        Query { words }
+    }
+
+    pub fn words(&self) -> &[u32] {
+        &self.words
+    }
+}
