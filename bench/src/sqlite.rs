@@ -1,0 +1,178 @@
+//! As much of SQLite's C interface as the tasks need, and the tasks as SQL: in memory, indexed by the primary key, prepared once.
+
+use crate::tasks::{LEFT, OBSERVATORY, RELEASED, RIGHT, SIZES, SMALL, WITHDRAWN};
+use crate::Outcome;
+use differential::evaluator::Record;
+use std::ffi::{c_char, c_int, c_void, CStr, CString};
+use std::ptr::null_mut;
+
+type Handle = *mut c_void;
+
+extern "C" {
+    fn sqlite3_open(path: *const c_char, connection: *mut Handle) -> c_int;
+    fn sqlite3_close(connection: Handle) -> c_int;
+    fn sqlite3_errmsg(connection: Handle) -> *const c_char;
+    fn sqlite3_prepare_v2(connection: Handle, sql: *const c_char, length: c_int, statement: *mut Handle, tail: *mut *const c_char) -> c_int;
+    fn sqlite3_bind_int64(statement: Handle, place: c_int, value: i64) -> c_int;
+    fn sqlite3_step(statement: Handle) -> c_int;
+    fn sqlite3_column_int64(statement: Handle, column: c_int) -> i64;
+    fn sqlite3_reset(statement: Handle) -> c_int;
+    fn sqlite3_finalize(statement: Handle) -> c_int;
+    fn sqlite3_libversion() -> *const c_char;
+}
+
+const ROW: c_int = 100;
+const DONE: c_int = 101;
+
+pub fn version() -> String {
+    // SAFETY: SQLite gives a string that lasts.
+    unsafe { CStr::from_ptr(sqlite3_libversion()) }.to_string_lossy().into_owned()
+}
+
+pub struct Database(Handle);
+
+impl Database {
+    fn open() -> Database {
+        let mut connection = null_mut();
+        // SAFETY: the path is a string and the place is good.
+        let status = unsafe { sqlite3_open(c":memory:".as_ptr(), &mut connection) };
+        assert_eq!(status, 0, "SQLite opens a database in memory");
+        Database(connection)
+    }
+
+    fn prepare(&self, sql: &str) -> Statement<'_> {
+        let text = CString::new(sql).expect("SQL has no zero bytes");
+        let mut statement = null_mut();
+        // SAFETY: the connection is open and the text lasts until the call ends; SQLite copies it.
+        let status = unsafe { sqlite3_prepare_v2(self.0, text.as_ptr(), -1, &mut statement, null_mut()) };
+        assert_eq!(status, 0, "{sql}: {}", self.message());
+        Statement { statement, database: self }
+    }
+
+    fn run(&self, sql: &str) {
+        self.prepare(sql).run(&[], 0);
+    }
+
+    fn message(&self) -> String {
+        // SAFETY: the connection is open, and the string is copied at once.
+        unsafe { CStr::from_ptr(sqlite3_errmsg(self.0)) }.to_string_lossy().into_owned()
+    }
+
+    /// The certificates held, under the order that the store has.
+    pub fn holding(certificates: impl IntoIterator<Item = Record>) -> Database {
+        let database = Database::open();
+        database.run(
+            "CREATE TABLE certificate (key INTEGER, name INTEGER, polarity INTEGER, width INTEGER, a INTEGER, b INTEGER, c INTEGER, d INTEGER,
+             PRIMARY KEY (key, name, polarity, width, a, b, c, d)) WITHOUT ROWID",
+        );
+        let mut insert = database.insert();
+        certificates.into_iter().for_each(|record| insert.file(&record));
+        drop(insert);
+        database.run("ANALYZE");
+        database
+    }
+
+    /// The literals of the draws, as tables.
+    pub fn of_literals() -> Database {
+        let database = Database::open();
+        for (table, size) in ["first", "second", "third"].iter().zip(SIZES) {
+            database.run(&format!("CREATE TABLE {table} (n INTEGER PRIMARY KEY)"));
+            let mut insert = database.prepare(&format!("INSERT INTO {table} VALUES (?1)"));
+            for n in 0..size {
+                insert.run(&[n], 0);
+            }
+        }
+        database
+    }
+
+    pub fn insert(&self) -> Statement<'_> {
+        self.prepare("INSERT OR IGNORE INTO certificate VALUES (?1, ?2, ?3, ?4, ?5, ?6, ?7, ?8)")
+    }
+
+    /// Empties the table of certificates and files these.
+    pub fn file_all(&self, insert: &mut Statement, [begin, empty, commit]: &mut [Statement; 3], records: &[Record]) -> Outcome {
+        begin.run(&[], 0);
+        empty.run(&[], 0);
+        records.iter().for_each(|record| insert.file(record));
+        commit.run(&[], 0);
+        Outcome { rows: records.len() as u64, sum: 0 }
+    }
+
+    pub fn transaction(&self) -> [Statement<'_>; 3] {
+        ["BEGIN", "DELETE FROM certificate", "COMMIT"].map(|sql| self.prepare(sql))
+    }
+
+    pub fn public(&self) -> Statement<'_> {
+        self.prepare(&format!(
+            "SELECT r.a FROM certificate r WHERE r.key = {OBSERVATORY} AND r.name = {RELEASED} AND r.polarity = 0 AND r.width = 1
+             AND EXISTS (SELECT 1 FROM certificate w WHERE w.key = {OBSERVATORY} AND w.name = {WITHDRAWN} AND w.polarity = 1
+                         AND w.width = 1 AND w.a = r.a AND w.b = 0 AND w.c = 0 AND w.d = 0) ORDER BY r.a"
+        ))
+    }
+
+    pub fn join(&self) -> Statement<'_> {
+        self.prepare(&format!(
+            "SELECT DISTINCT l.a, r.b FROM certificate l, certificate r WHERE l.key = {OBSERVATORY} AND l.name = {LEFT} AND l.polarity = 0
+             AND l.width = 2 AND r.key = {OBSERVATORY} AND r.name = {RIGHT} AND r.polarity = 0 AND r.width = 2 AND r.a = l.b ORDER BY 1, 2"
+        ))
+    }
+
+    /// The constant head, from every binding.
+    pub fn draws(&self) -> Statement<'_> {
+        self.prepare("SELECT min(7), count(*) FROM first, second, third")
+    }
+
+    pub fn small(&self) -> Statement<'_> {
+        self.prepare(&format!(
+            "SELECT a, b, c, d FROM certificate WHERE key = {OBSERVATORY} AND name = {SMALL} AND polarity = 0 ORDER BY width, a, b, c, d"
+        ))
+    }
+}
+
+impl Drop for Database {
+    fn drop(&mut self) {
+        // SAFETY: statements borrow the database, so that none is left.
+        unsafe { sqlite3_close(self.0) };
+    }
+}
+
+pub struct Statement<'a> {
+    statement: Handle,
+    database: &'a Database,
+}
+
+impl Statement<'_> {
+    /// Counts the rows and adds up the first columns.
+    pub fn run(&mut self, values: &[u32], columns: c_int) -> Outcome {
+        let mut outcome = Outcome::default();
+        // SAFETY: the statement lives as long as `self`, and columns are read only while it stands on a row.
+        unsafe {
+            for (&value, place) in values.iter().zip(1..) {
+                sqlite3_bind_int64(self.statement, place, value.into());
+            }
+            loop {
+                match sqlite3_step(self.statement) {
+                    ROW => {
+                        outcome.rows += 1;
+                        outcome.sum += (0..columns).map(|column| sqlite3_column_int64(self.statement, column) as u64).sum::<u64>();
+                    }
+                    DONE => break,
+                    status => panic!("SQLite stops with {status}: {}", self.database.message()),
+                }
+            }
+            sqlite3_reset(self.statement);
+        }
+        outcome
+    }
+
+    fn file(&mut self, record: &Record) {
+        self.run(record, 0);
+    }
+}
+
+impl Drop for Statement<'_> {
+    fn drop(&mut self) {
+        // SAFETY: nobody else has the statement.
+        unsafe { sqlite3_finalize(self.statement) };
+    }
+}
