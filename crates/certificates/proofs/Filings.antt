@@ -110,7 +110,7 @@ module _ {first now : List ℕ} {rs : List (List ℕ)} (k : Keeps first now rs) 
 
   after-records : records after ≡ placed
   unfolding after records withRecords
-  after-records = pieces-flat recordWords placed (drop (1 + recordWords * length placed) now) (sound-sized placed placed-sound)
+  after-records = pieces-flat recordWords placed _ (sound-sized placed placed-sound)
 
   after-length : length after ≡ length first
   unfolding after withRecords
@@ -118,7 +118,8 @@ module _ {first now : List ℕ} {rs : List (List ℕ)} (k : Keeps first now rs) 
       let n = placed-length in
       let l = sound-store now (k .sound) .long in
       let e = k .size in
-      rw (length-append (flat placed) (drop (1 + recordWords * length placed) now), flat-length recordWords placed (sound-sized placed placed-sound), length-drop (1 + recordWords * length placed) now) (omega arith)
+      let f = flat-length recordWords placed (sound-sized placed placed-sound) in
+      simp (length-append, length-drop) (omega arith)
 
   after-untouched : drop (1 + recordWords * length placed) after ≡ drop (1 + recordWords * length placed) first
   unfolding after withRecords

@@ -3,7 +3,7 @@ use mathlib.Core.Path.{sym, _∙_}
 use native.Mathlib.Omega.{arith}
 use borrow.Author.Tests.{not-true, not-false}
 use Rattle.certificates.proofs.Stores.{place-room}
-use Rattle.certificates.proofs.NameParts.{nameFirst, namePast, part-order, part-words, part-none}
+use Rattle.certificates.proofs.NameParts.{part-order, part-words, part-none}
 use Rattle.certificates.proofs.certificates_of.Statement.{statement}
 use Rattle.certificates.proofs.certificates_of.Tie as tie
 
@@ -23,10 +23,10 @@ place-of-requires : tie.Need-place-of-requires
 place-of-requires c κs = sym (c .before .before .sound-store .ensures) ∙ not-false _ (c .before .if1 .left)
 
 mul-from : tie.Need-mul-from
-mul-from c = omega (arith, place-room (c .before .before .before .before .before .args .store .now) (nameFirst (c .before .before .before .before .before .args .key) (c .before .before .before .before .before .args .name) (c .before .before .before .before .before .args .polarity)) (sym (c .before .before .before .sound-store .ensures) ∙ not-false _ (c .before .before .if1 .left)) _ (c .place-of .ensures))
+mul-from c = omega (arith, place-room (c .before .before .before .before .before .args .store .now) _ (sym (c .before .before .before .sound-store .ensures) ∙ not-false _ (c .before .before .if1 .left)) _ (c .place-of .ensures))
 
 add-from : tie.Need-add-from
-add-from c = omega (arith, place-room (c .before .before .before .before .before .args .store .now) (nameFirst (c .before .before .before .before .before .args .key) (c .before .before .before .before .before .args .name) (c .before .before .before .before .before .args .polarity)) (sym (c .before .before .before .sound-store .ensures) ∙ not-false _ (c .before .before .if1 .left)) _ (c .place-of .ensures))
+add-from c = omega (arith, place-room (c .before .before .before .before .before .args .store .now) _ (sym (c .before .before .before .sound-store .ensures) ∙ not-false _ (c .before .before .if1 .left)) _ (c .place-of .ensures))
 
 slice-aggregate-place-of-2 : tie.Need-slice-aggregate-place-of-2
 slice-aggregate-place-of-2 c = search needs
@@ -35,13 +35,13 @@ place-of-requires-2 : tie.Need-place-of-requires-2
 place-of-requires-2 c κs = sym (c .before .before .before .before .sound-store .ensures) ∙ not-false _ (c .before .before .before .if1 .left)
 
 mul-to : tie.Need-mul-to
-mul-to c = omega (arith, place-room (c .before .before .before .before .before .before .before .args .store .now) (namePast (c .before .before .before .before .before .before .before .args .key) (c .before .before .before .before .before .before .before .args .name) (c .before .before .before .before .before .before .before .args .polarity)) (sym (c .before .before .before .before .before .sound-store .ensures) ∙ not-false _ (c .before .before .before .before .if1 .left)) _ (c .place-of2 .ensures))
+mul-to c = omega (arith, place-room (c .before .before .before .before .before .before .before .args .store .now) _ (sym (c .before .before .before .before .before .sound-store .ensures) ∙ not-false _ (c .before .before .before .before .if1 .left)) _ (c .place-of2 .ensures))
 
 add-to : tie.Need-add-to
-add-to c = omega (arith, place-room (c .before .before .before .before .before .before .before .args .store .now) (namePast (c .before .before .before .before .before .before .before .args .key) (c .before .before .before .before .before .before .before .args .name) (c .before .before .before .before .before .before .before .args .polarity)) (sym (c .before .before .before .before .before .sound-store .ensures) ∙ not-false _ (c .before .before .before .before .if1 .left)) _ (c .place-of2 .ensures))
+add-to c = omega (arith, place-room (c .before .before .before .before .before .before .before .args .store .now) _ (sym (c .before .before .before .before .before .sound-store .ensures) ∙ not-false _ (c .before .before .before .before .if1 .left)) _ (c .place-of2 .ensures))
 
 mul-result : tie.Need-mul-result
-mul-result c = omega (arith, place-room (c .before .before .before .before .before .before .before .args .store .now) (nameFirst (c .before .before .before .before .before .before .before .args .key) (c .before .before .before .before .before .before .before .args .name) (c .before .before .before .before .before .before .before .args .polarity)) (sym (c .before .before .before .before .before .sound-store .ensures) ∙ not-false _ (c .before .before .before .before .if1 .left)) _ (c .before .before .place-of .ensures))
+mul-result c = omega (arith, place-room (c .before .before .before .before .before .before .before .args .store .now) _ (sym (c .before .before .before .before .before .sound-store .ensures) ∙ not-false _ (c .before .before .before .before .if1 .left)) _ (c .before .before .place-of .ensures))
 
 sub-result : tie.Need-sub-result
 sub-result c = omega (arith, c .before .before .place-of .ensures, c .place-of2 .ensures, part-order (c .before .before .before .before .before .before .before .args .key) (c .before .before .before .before .before .before .before .args .name) (c .before .before .before .before .before .before .before .args .polarity) (c .before .before .before .before .before .before .before .args .store .now))
@@ -50,7 +50,7 @@ part-result-start : tie.Need-part-result-start
 part-result-start c = omega (arith, c .before .before .place-of .ensures, c .place-of2 .ensures, part-order (c .before .before .before .before .before .before .before .args .key) (c .before .before .before .before .before .before .before .args .name) (c .before .before .before .before .before .before .before .args .polarity) (c .before .before .before .before .before .before .before .args .store .now))
 
 part-result-end : tie.Need-part-result-end
-part-result-end c = omega (arith, place-room (c .before .before .before .before .before .before .before .args .store .now) (namePast (c .before .before .before .before .before .before .before .args .key) (c .before .before .before .before .before .before .before .args .name) (c .before .before .before .before .before .before .before .args .polarity)) (sym (c .before .before .before .before .before .sound-store .ensures) ∙ not-false _ (c .before .before .before .before .if1 .left)) _ (c .place-of2 .ensures))
+part-result-end c = omega (arith, place-room (c .before .before .before .before .before .before .before .args .store .now) _ (sym (c .before .before .before .before .before .sound-store .ensures) ∙ not-false _ (c .before .before .before .before .if1 .left)) _ (c .place-of2 .ensures))
 
 returns-2 : tie.Need-returns-2
 returns-2 c =

@@ -18,19 +18,19 @@ shared-slice-read-if2 : tie.Need-shared-slice-read-if2
 shared-slice-read-if2 c = search needs
 
 returns-2 : tie.Need-returns-2
-returns-2 c = no-key (c .before .before .before .before .args .words .now) (c .before .before .if1 .left) (c .if2 .taken)
+returns-2 c = no-key (c .before .before .before .before .args .words .now) (c .before .before .if1 .left) (omega arith)
 
 shared-slice-read-if3 : tie.Need-shared-slice-read-if3
 shared-slice-read-if3 c = search needs
 
 returns-3 : tie.Need-returns-3
-returns-3 c = no-name (c .before .before .before .before .before .before .args .words .now) (c .before .before .before .before .if1 .left) (c .before .before .if2 .left) (c .if3 .taken)
+returns-3 c = no-name (c .before .before .before .before .before .before .args .words .now) (c .before .before .before .before .if1 .left) (omega arith) (omega arith)
 
 shared-slice-read-if4 : tie.Need-shared-slice-read-if4
 shared-slice-read-if4 c = search needs
 
 returns-4 : tie.Need-returns-4
-returns-4 c = no-polarity (c .before .before .before .before .before .before .before .before .args .words .now) (c .before .before .before .before .before .before .if1 .left) (c .before .before .before .before .if2 .left) (c .before .before .if3 .left) (c .if4 .taken)
+returns-4 c = no-polarity (c .before .before .before .before .before .before .before .before .args .words .now) (c .before .before .before .before .before .before .if1 .left) (omega arith) (omega arith) (omega arith)
 
 sound-requires : tie.Need-sound-requires
 sound-requires c κs = search needs
@@ -40,7 +40,7 @@ returns-5 c =
     let w : List ℕ = c .before .before .before .before .before .before .before .before .before .args .words .now in
     c .sound .ensures
     ∙ ap soundRow (take-all 5 (drop 3 w) (omega (arith, length-drop 3 w)))
-    ∙ its-row w (c .before .before .before .before .before .before .before .if1 .left) (c .before .before .before .before .before .if2 .left) (c .before .before .before .if3 .left) (c .before .if4 .left)
+    ∙ its-row w (c .before .before .before .before .before .before .before .if1 .left) (omega arith) (omega arith) (omega arith)
 
 pub sound-record-spec : {M : Type 1} → statement M
 sound-record-spec =

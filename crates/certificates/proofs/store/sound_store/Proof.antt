@@ -15,13 +15,13 @@ abbrev μ-loop : tie.MeasureT-loop
 μ-loop store count i₀ i = count - i
 
 returns : tie.Need-returns Inv-loop μ-loop
-returns c = too-short (c .before .before .args .store .now) (c .if1 .taken)
+returns c = too-short (c .before .before .args .store .now) (omega arith)
 
 shared-slice-read-if2 : tie.Need-shared-slice-read-if2 Inv-loop μ-loop
 shared-slice-read-if2 c = search needs
 
 returns-2 : tie.Need-returns-2 Inv-loop μ-loop
-returns-2 c = too-many (c .before .before .before .before .args .store .now) (c .before .before .if1 .left) (c .if2 .taken)
+returns-2 c = too-many (c .before .before .before .before .args .store .now) (omega arith) (omega arith)
 
 shared-slice-read-count : tie.Need-shared-slice-read-count Inv-loop μ-loop
 shared-slice-read-count c = search needs
@@ -30,7 +30,7 @@ cast-count : tie.Need-cast-count Inv-loop μ-loop
 cast-count c = search needs
 
 loop-holds : tie.Need-loop-holds Inv-loop μ-loop
-loop-holds c = (omega arith, sound-all (c .before .before .before .before .before .args .store .now) (c .before .before .before .if1 .left) (c .before .if2 .left))
+loop-holds c = (omega arith, sound-all (c .before .before .before .before .before .args .store .now) (omega arith) (omega arith))
 
 sound-at-requires : tie.Need-sound-at-requires Inv-loop μ-loop
 sound-at-requires c κs = search needs
