@@ -11,7 +11,7 @@ use Rattle.rows.specs.Word.{All}
 use Rattle.rows.specs.Ordered.{lists, keep, common, without}
 use Rattle.rows.specs.Row.{Row, rowBefore}
 use Rattle.rows.specs.Sets.{RowSet, listing}
-use Rattle.rows.specs.Layout.{rowWords, rowIn, fiveAt, flat, formWord, setWords, put, rowsIn, formed, soundSet}
+use Rattle.rows.specs.Layout.{rowWords, rowIn, fiveAt, flat, laid, formWord, setWords, put, rowsIn, formed, soundSet}
 use Rattle.rows.specs.Values.{wordsOf, rowOf, roomAt, Apart, Rooms, Passed, Sought, keeps, picked}
 use Rattle.rows.specs.declared.row.Row as Held
 use Rattle.rows.specs.declared.combine.Place as Place
@@ -22,7 +22,7 @@ use Rattle.rows.proofs.Put.{put-length, part-after, part-before, put-th
 use Rattle.rows.proofs.LayoutLaws.{row-reads, row-length, formed-listing, formed-word}
 use Rattle.rows.proofs.RowLaws.{loaded-row, loaded-width, five-width}
 use Rattle.rows.proofs.SetWords.{Size, size, width-in, sound-ascending}
-use Rattle.rows.proofs.Laid.{laid, Narrow, laid-length, laid-append, narrow-in, narrow-take, row-words-at, inner, count-put}
+use Rattle.rows.proofs.Laid.{Narrow, laid-length, laid-append, narrow-in, narrow-take, row-words-at, inner, count-put}
 
 -- ---- what is kept
 

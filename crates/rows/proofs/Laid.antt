@@ -10,7 +10,7 @@ use Rattle.rows.specs.Word.{All}
 use Rattle.rows.specs.Ordered.{insert}
 use Rattle.rows.specs.Row.{Row, rowBefore}
 use Rattle.rows.specs.Sets.{RowSet, listing}
-use Rattle.rows.specs.Layout.{rowWords, rowIn, fiveAt, flat, pieces, formWord, setWords, written, put, rowsIn, formed, setIn, soundSet}
+use Rattle.rows.specs.Layout.{rowWords, rowIn, fiveAt, flat, laid, pieces, formWord, setWords, written, put, rowsIn, formed, setIn, soundSet}
 use Rattle.rows.proofs.LayoutLaws.{flat-length, row-length, Sized, listing-in, sound-rows, rows-count, formed-word, formed-listing, sound-length, sound-written, true-sound, row-written, piece-sound, row-at}
 use Rattle.rows.proofs.RowLaws.{five-length}
 use Rattle.rows.proofs.Put.{put-length, put-before, put-then-after, put-then-before, put-less, put-itself, Writing, writing-next, writing-end}
@@ -20,9 +20,6 @@ pub drop-take : (a b : ℕ) (ws : List ℕ) → drop a (take (a + b) ws) ≡ tak
 drop-take zero b ws = let e : 0 + b ≡ b = omega arith in ap (λ (k : ℕ). take k ws) e
 drop-take (suc a) b [] = let e : suc a + b ≡ suc (a + b) = omega arith in rw e (sym (take-nil b))
 drop-take (suc a) b (w ∷ ws) = let e : suc a + b ≡ suc (a + b) = omega arith in rw e (drop-take a b ws)
-
-abbrev pub laid : List Row → List ℕ
-laid xs = flat (map rowWords xs)
 
 -- no more than four atoms each, so five words each
 abbrev pub Narrow : List Row → Type 0

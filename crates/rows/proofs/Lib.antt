@@ -12,3 +12,5 @@ pub mod Laid
 pub mod Inserting
 pub mod Seeking
 pub mod Filtering
+pub mod Joining
+pub mod Merging

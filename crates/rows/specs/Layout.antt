@@ -48,9 +48,13 @@ unfoldable pub formWord : RowSet → ℕ
 formWord (only xs) = 0
 formWord (allBut xs) = 1
 
+-- rows one after the other, five words each
+abbrev pub laid : List Row → List ℕ
+laid xs = flat (map rowWords xs)
+
 unfoldable pub setWords : RowSet → List ℕ
 unfolding formWord listing flat rowWords
-setWords s = formWord s ∷ length (listing s) ∷ flat (map rowWords (listing s))
+setWords s = formWord s ∷ length (listing s) ∷ laid (listing s)
 
 -- words written over those that stand at a place
 unfoldable pub put : ℕ → List ℕ → List ℕ → List ℕ

@@ -1,5 +1,5 @@
 -- What the values that the code hands about stand for.
-use Prim.Native.Nat.{ℕ, _+_, _≤_, _<_}
+use Prim.Native.Nat.{ℕ, zero, suc, _+_, _≤_, _<_}
 use mathlib.Core.Path.{_≡_}
 use mathlib.Core.Logic.{_⊎_}
 use mathlib.Core.Bool.{Bool, true, false, not}
@@ -30,6 +30,12 @@ rowOf r = rowIn (wordsOf r)
 -- which of two rows comes first
 unfoldable pub orderOf : Row → Row → Order.Order
 orderOf x y = elim (rowBefore x y) [ true ↦ Before | false ↦ elim (rowBefore y x) [ true ↦ After | false ↦ Same ] ]
+
+-- the same of the last of `n` rows, which comes before all if there is none
+unfoldable pub lastOrder : ℕ → Row → Row → Order.Order
+unfolding orderOf
+lastOrder zero x y = Before
+lastOrder (suc n) x y = orderOf x y
 
 -- where a row stands in an ascending list, or would stand
 unfoldable pub Finds : List Row → Row → Found.Found → Type 0

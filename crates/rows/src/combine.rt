@@ -2,12 +2,12 @@
 ghost use mathlib.Core.Path.{_≡_};
 ghost use mathlib.Core.Bool.{true};
 ghost use mathlib.Core.List.{_∷_, _++_};
-ghost use Prim.Native.Nat.{_+_, _*_, _≤_, _<_};
+ghost use Prim.Native.Nat.{_+_, _*_, _-_, _≤_, _<_};
 ghost use lib.ListN.{length, getD, take, drop};
 ghost use Rattle.rows.specs.Ordered.{join};
 ghost use Rattle.rows.specs.Row.{rowBefore};
-ghost use Rattle.rows.specs.Layout.{rowsIn, formed, setIn, setWords, soundSet, written, put};
-ghost use Rattle.rows.specs.Values.{rowOf, roomAt, Rooms, Passed, Sought, keeps, picked};
+ghost use Rattle.rows.specs.Layout.{rowIn, fiveAt, laid, rowsIn, formed, setIn, setWords, soundSet, written, put};
+ghost use Rattle.rows.specs.Values.{rowOf, lastOrder, roomAt, Rooms, Passed, Sought, keeps, picked};
 use crate::row::Order;
 use crate::row::Row;
 use crate::row::compare;
@@ -75,4 +75,69 @@ fn filter(area: &mut [u32], from: usize, other: usize, listed: bool)
         }
     }
     area[from + 1] = kept as u32;
+}
+
+// Where the last of the left's first `i` rows stands to the last of the right's first `j`. Where the left has none left, the right's comes last.
+fn last(area: &[u32], i: usize, j: usize) -> Order
+    requires { ⌜ (2 + 5 * i ≤ length (now area)) × (0 < j) × (644 + 5 * j ≤ length (now area)) × (0 < i → getD (now area) (2 + 5 * (i - 1)) 0 ≤ 4) × (getD (now area) (644 + 5 * (j - 1)) 0 ≤ 4) ⌝ }
+    ensures { λ r. ⌜ r ≡ lastOrder i (rowIn (fiveAt (now (area .entry)) (2 + 5 * (i - 1)))) (rowIn (fiveAt (now (area .entry)) (644 + 5 * (j - 1)))) ⌝ }
+{
+    if i == 0 {
+        return Order::Before;
+    }
+    let row = load(area, 2 + 5 * (i - 1));
+    compare(row, area, 644 + 5 * (j - 1))
+}
+
+// How many rows the two lists have together: from their ends, each row once.
+fn joint(area: &[u32]) -> usize
+    requires { ⌜ Rooms (now area) 0 642 ⌝ }
+    ensures { λ r. ⌜ r ≡ length (join rowBefore (rowsIn (roomAt 0 (now (area .entry)))) (rowsIn (roomAt 642 (now (area .entry))))) ⌝ }
+{
+    let mut i = wide(area[1]);
+    let mut j = wide(area[643]);
+    let mut total: usize = 0;
+    while 0 < j {
+        let order = last(area, i, j);
+        total += 1;
+        match order {
+            Order::Before => j -= 1,
+            Order::Same => {
+                i -= 1;
+                j -= 1;
+            }
+            Order::After => i -= 1,
+        }
+    }
+    total + i
+}
+
+// Merges the right's rows into the left's place, from the end: what is written there has been read.
+fn merge(area: &mut [u32], total: usize)
+    requires { ⌜ (Rooms (now area) 0 642) × (total ≡ length (join rowBefore (rowsIn (roomAt 0 (now area))) (rowsIn (roomAt 642 (now area))))) × (total ≤ 128) ⌝ }
+    ensures { λ _. ⌜ now (area .exit) ≡ put 2 (laid (join rowBefore (rowsIn (roomAt 0 (now (area .entry)))) (rowsIn (roomAt 642 (now (area .entry)))))) (now (area .entry)) ⌝ }
+{
+    let mut i = wide(area[1]);
+    let mut j = wide(area[643]);
+    let mut k = total;
+    while 0 < j {
+        let order = last(area, i, j);
+        k -= 1;
+        let to = 2 + 5 * k;
+        match order {
+            Order::Before => {
+                j -= 1;
+                copy_down(area, 644 + 5 * j, to, 5);
+            }
+            Order::Same => {
+                i -= 1;
+                j -= 1;
+                copy_up(area, 2 + 5 * i, to, 5);
+            }
+            Order::After => {
+                i -= 1;
+                copy_up(area, 2 + 5 * i, to, 5);
+            }
+        }
+    }
 }
