@@ -7,5 +7,6 @@ pub mod Scope
 pub mod Answering
 pub mod TermAnswers
 pub mod RowAnswers
+pub mod CheckAnswers
 pub mod Judging
 pub mod Judged

@@ -9,3 +9,4 @@ pub mod Judgement
 pub mod Judged
 pub mod Part
 pub mod Answers
+pub mod Checks

@@ -1,2 +1,3 @@
 // Policies and queries: their words, and how they are judged.
+pub mod checking;
 pub mod terms;
