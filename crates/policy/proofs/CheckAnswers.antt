@@ -181,8 +181,8 @@ module _ (ws : List ℕ) (at n k : ℕ) (x : Earlier) where
     unfolding kept
     definition-found l = shows
         (defined (read-then (factsOf (knownIn x)) _
-            (here (wordWhere notInScope (available x)) ws at k h ∙ where-passes notInScope (available x) (getD ws at 0) (drop (at + 1) ws) k (lt-ltb (getD ws at 0) (length (knownIn x)) (omega (arith, known-count x, l))))
-            (ap (λ f. got f (drop (at + 1) ws) k) (definition-facts x (getD ws at 0) l))))
+        (here (wordWhere notInScope (available x)) ws at k h ∙ where-passes notInScope (available x) (getD ws at 0) (drop (at + 1) ws) k (lt-ltb (getD ws at 0) (length (knownIn x)) (omega (arith, known-count x, l))))
+        (ap (λ f. got f (drop (at + 1) ws) k) (definition-facts x (getD ws at 0) l))))
         (omega arith) (omega arith)
 
 -- code 4
@@ -190,7 +190,7 @@ most-only : (most w : ℕ) → leb w most ≡ between 0 most w
 unfolding between
 most-only most w = rw (le-leb 0 w (omega arith))
 
-at-most : (most : ℕ) (us : List ℕ) (k : ℕ) → wordWhere badWord (λ w. leb w most) us k ≡ wordWhere badWord (between 0 most) us k
+pub at-most : (most : ℕ) (us : List ℕ) (k : ℕ) → wordWhere badWord (λ w. leb w most) us k ≡ wordWhere badWord (between 0 most) us k
 at-most most = same-rule badWord (λ w. leb w most) (between 0 most) (most-only most)
 
 abbrev nameFacts : ℕ → Facts

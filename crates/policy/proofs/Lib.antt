@@ -8,5 +8,6 @@ pub mod Answering
 pub mod TermAnswers
 pub mod RowAnswers
 pub mod CheckAnswers
+pub mod CycleAnswers
 pub mod Judging
 pub mod Judged

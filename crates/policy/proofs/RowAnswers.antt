@@ -125,7 +125,7 @@ module _ (ws : List ℕ) (at n : ℕ) {r : WordRead.WordRead} where
   }
 
 -- a pattern: one slot, then the slots after it
-after-after : {A B C : Type 0} (x : Read A) (f : A → Reader B) (g : B → Reader C) → after (after x f) g ≡ after x (λ a us k. after (f a us k) g)
+pub after-after : {A B C : Type 0} (x : Read A) (f : A → Reader B) (g : B → Reader C) → after (after x f) g ≡ after x (λ a us k. after (f a us k) g)
 after-after (got a us k) f g = refl
 after-after (refused n) f g = refl
 

@@ -108,7 +108,14 @@ fn absent_of(lacking: Facts, rest: Facts) -> Facts
 }
 
 // Codes 1 and 2: the rows.
-fn check_literal(words: &[u32], at: usize, variables: u32, draws: u32, earlier: Earlier, code: u32) -> Checking
+fn check_literal(
+    words: &[u32],
+    at: usize,
+    variables: u32,
+    draws: u32,
+    earlier: Earlier,
+    code: u32,
+) -> Checking
     requires { ⌜ (1 ≤ code) × (code ≤ 2) ⌝ }
     ensures { λ r. ⌜ Answers (now (words .entry)) at (checkingIs r) (codeFacts (knownIn earlier) noneInside variables code (drop at (now (words .entry))) draws) ⌝ }
 {
@@ -127,7 +134,13 @@ fn check_literal(words: &[u32], at: usize, variables: u32, draws: u32, earlier: 
 }
 
 // Code 3: an earlier definition.
-fn check_definition(words: &[u32], at: usize, variables: u32, draws: u32, earlier: Earlier) -> Checking
+fn check_definition(
+    words: &[u32],
+    at: usize,
+    variables: u32,
+    draws: u32,
+    earlier: Earlier,
+) -> Checking
     requires { ⌜ earlier .count ≤ 16 ⌝ }
     ensures { λ r. ⌜ Answers (now (words .entry)) at (checkingIs r) (codeFacts (knownIn earlier) noneInside variables 3 (drop at (now (words .entry))) draws) ⌝ }
 {
@@ -169,6 +182,242 @@ fn check_name(words: &[u32], at: usize, variables: u32, draws: u32, earlier: Ear
                     };
                     Checking::Found(facts, name + 2, draws)
                 }
+            },
+        },
+    }
+}
+
+// The head of a comprehension.
+fn check_head(words: &[u32], at: usize, variables: u32, draws: u32, earlier: Earlier) -> Checking
+    ensures { λ r. ⌜ Answers (now (words .entry)) at (checkingIs r) (bodyFacts (knownIn earlier) noneInside 0 variables (drop at (now (words .entry))) draws) ⌝ }
+{
+    match read_row(words, at, variables) {
+        Passed::Refused(n) => Checking::Refused(n),
+        Passed::To(next) => {
+            let facts = Facts {
+                plus: true,
+                minus: true,
+                open: false,
+                draws_closed: true,
+            };
+            Checking::Found(facts, next, draws)
+        }
+    }
+}
+
+// An expression, with so many levels of depth left; with none left it is refused at its code word.
+pub fn check_expr(
+    words: &[u32],
+    at: usize,
+    levels: u32,
+    variables: u32,
+    draws: u32,
+    earlier: Earlier,
+) -> Checking
+    requires { ⌜ earlier .count ≤ 16 ⌝ }
+    ensures { λ r. ⌜ Answers (now (words .entry)) at (checkingIs r) (exprFacts (knownIn earlier) levels variables (drop at (now (words .entry))) draws) ⌝ }
+{
+    match word_between(words, at, 1, LAST_CODE) {
+        WordRead::Refused(n) => Checking::Refused(n),
+        WordRead::Found(code) => {
+            if levels == 0 {
+                Checking::Refused(refusals::TOO_DEEP)
+            } else {
+                check_code(words, at + 1, levels - 1, variables, draws, earlier, code)
+            }
+        }
+    }
+}
+
+// What follows a code.
+fn check_code(
+    words: &[u32],
+    at: usize,
+    levels: u32,
+    variables: u32,
+    draws: u32,
+    earlier: Earlier,
+    code: u32,
+) -> Checking
+    requires { ⌜ (earlier .count ≤ 16) × (1 ≤ code) × (code ≤ 7) ⌝ }
+    ensures { λ r. ⌜ Answers (now (words .entry)) at (checkingIs r) (codeFacts (knownIn earlier) (inside (knownIn earlier) levels) variables code (drop at (now (words .entry))) draws) ⌝ }
+{
+    if code <= 2 {
+        return check_literal(words, at, variables, draws, earlier, code);
+    }
+    if code == 3 {
+        return check_definition(words, at, variables, draws, earlier);
+    }
+    if code == 4 {
+        return check_name(words, at, variables, draws, earlier);
+    }
+    if code <= 6 {
+        return check_two(words, at, levels, variables, draws, earlier, code);
+    }
+    match word_between(words, at, 0, MOST_GUARDS) {
+        WordRead::Refused(n) => Checking::Refused(n),
+        WordRead::Found(count) => check_guards(
+            words,
+            at + 1,
+            levels,
+            variables,
+            draws,
+            earlier,
+            count,
+        ),
+    }
+}
+
+// The two parts of a union, code 5, or of a difference, code 6.
+fn check_two(
+    words: &[u32],
+    at: usize,
+    levels: u32,
+    variables: u32,
+    draws: u32,
+    earlier: Earlier,
+    code: u32,
+) -> Checking
+    requires { ⌜ (earlier .count ≤ 16) × (5 ≤ code) × (code ≤ 6) ⌝ }
+    ensures { λ r. ⌜ Answers (now (words .entry)) at (checkingIs r) (codeFacts (knownIn earlier) (inside (knownIn earlier) levels) variables code (drop at (now (words .entry))) draws) ⌝ }
+{
+    match check_expr(words, at, levels, variables, draws, earlier) {
+        Checking::Refused(n) => Checking::Refused(n),
+        Checking::Found(left, middle, met) => match check_expr(
+            words,
+            middle,
+            levels,
+            variables,
+            met,
+            earlier,
+        ) {
+            Checking::Refused(n) => Checking::Refused(n),
+            Checking::Found(right, next, total) => {
+                if code == 5 {
+                    Checking::Found(union_of(left, right), next, total)
+                } else {
+                    Checking::Found(difference_of(left, right), next, total)
+                }
+            }
+        },
+    }
+}
+
+// The guards that are left, and then the head.
+fn check_guards(
+    words: &[u32],
+    at: usize,
+    levels: u32,
+    variables: u32,
+    draws: u32,
+    earlier: Earlier,
+    left: u32,
+) -> Checking
+    requires { ⌜ earlier .count ≤ 16 ⌝ }
+    ensures { λ r. ⌜ Answers (now (words .entry)) at (checkingIs r) (bodyFacts (knownIn earlier) (inside (knownIn earlier) levels) left variables (drop at (now (words .entry))) draws) ⌝ }
+{
+    if left == 0 {
+        return check_head(words, at, variables, draws, earlier);
+    }
+    match read_guard(words, at, variables) {
+        GuardRead::Refused(n) => Checking::Refused(n),
+        GuardRead::Found(guard, next) => match guard {
+            Guard::Draw => check_draw(words, next, levels, variables, draws, earlier, left - 1),
+            Guard::Same(_, _) => check_guards(
+                words,
+                next,
+                levels,
+                variables,
+                draws,
+                earlier,
+                left - 1,
+            ),
+            Guard::Different(_, _) => check_guards(
+                words,
+                next,
+                levels,
+                variables,
+                draws,
+                earlier,
+                left - 1,
+            ),
+            Guard::Absent => check_absent(words, next, levels, variables, draws, earlier, left - 1),
+        },
+    }
+}
+
+// A draw, counted where it begins: its expression, its pattern, and the guards after it.
+fn check_draw(
+    words: &[u32],
+    at: usize,
+    levels: u32,
+    variables: u32,
+    draws: u32,
+    earlier: Earlier,
+    left: u32,
+) -> Checking
+    requires { ⌜ earlier .count ≤ 16 ⌝ }
+    ensures { λ r. ⌜ Answers (now (words .entry)) at (checkingIs r) (guardFacts (knownIn earlier) (inside (knownIn earlier) levels) left variables isDraw (drop at (now (words .entry))) draws) ⌝ }
+{
+    if MOST_DRAWS <= draws {
+        return Checking::Refused(refusals::TOO_DEEP);
+    }
+    match check_expr(words, at, levels, variables, draws + 1, earlier) {
+        Checking::Refused(n) => Checking::Refused(n),
+        Checking::Found(drawn, pattern, met) => match read_pattern(words, pattern, variables) {
+            PatternRead::Refused(n) => Checking::Refused(n),
+            PatternRead::Found(scope, rest) => match check_guards(
+                words,
+                rest,
+                levels,
+                scope,
+                met,
+                earlier,
+                left,
+            ) {
+                Checking::Refused(n) => Checking::Refused(n),
+                Checking::Found(others, next, total) => Checking::Found(
+                    draw_of(drawn, others),
+                    next,
+                    total,
+                ),
+            },
+        },
+    }
+}
+
+// An absent guard: its row, its expression, and the guards after it.
+fn check_absent(
+    words: &[u32],
+    at: usize,
+    levels: u32,
+    variables: u32,
+    draws: u32,
+    earlier: Earlier,
+    left: u32,
+) -> Checking
+    requires { ⌜ earlier .count ≤ 16 ⌝ }
+    ensures { λ r. ⌜ Answers (now (words .entry)) at (checkingIs r) (guardFacts (knownIn earlier) (inside (knownIn earlier) levels) left variables isAbsent (drop at (now (words .entry))) draws) ⌝ }
+{
+    match read_row(words, at, variables) {
+        Passed::Refused(n) => Checking::Refused(n),
+        Passed::To(set) => match check_expr(words, set, levels, variables, draws, earlier) {
+            Checking::Refused(n) => Checking::Refused(n),
+            Checking::Found(lacking, rest, met) => match check_guards(
+                words,
+                rest,
+                levels,
+                variables,
+                met,
+                earlier,
+                left,
+            ) {
+                Checking::Refused(n) => Checking::Refused(n),
+                Checking::Found(others, next, total) => Checking::Found(
+                    absent_of(lacking, others),
+                    next,
+                    total,
+                ),
             },
         },
     }
