@@ -199,13 +199,23 @@ pub fn readable(seconds: f64) -> String {
         s if s < 1e-3 => (s * 1e6, "µs"),
         s => (s * 1e3, "ms"),
     };
-    let digits = if value < 10.0 { 2 } else if value < 100.0 { 1 } else { 0 };
+    let digits = if value < 10.0 {
+        2
+    } else if value < 100.0 {
+        1
+    } else {
+        0
+    };
     format!("{value:.digits$} {unit}")
 }
 
 /// With two digits, or as a whole number where that is enough.
 pub fn ratio(of: f64) -> String {
-    if of < 10.0 { format!("{of:.2} ×") } else { format!("{of:.0} ×") }
+    if of < 10.0 {
+        format!("{of:.2} ×")
+    } else {
+        format!("{of:.0} ×")
+    }
 }
 
 fn cell(measured: &Measured, contestant: &str) -> String {
@@ -245,5 +255,15 @@ fn main() {
         let path = concat!(env!("CARGO_MANIFEST_DIR"), "/../docs/benchmark.svg");
         std::fs::write(path, picture::draw(&measured)).expect("the folder docs is there");
         println!("drawn to docs/benchmark.svg");
+    }
+}
+
+#[cfg(test)]
+mod tests {
+    #[test]
+    fn all_contestants_find_the_same() {
+        for mut task in super::tasks() {
+            super::measure::agree(task.name, &mut task.contestants);
+        }
     }
 }

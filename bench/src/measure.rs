@@ -55,7 +55,7 @@ fn median(mut samples: Vec<f64>) -> f64 {
 }
 
 /// All contestants must find the same rows before any is measured.
-fn agree(task: &str, contestants: &mut [Contestant]) {
+pub fn agree(task: &str, contestants: &mut [Contestant]) {
     let expected = (contestants[0].run)();
     for contestant in &mut contestants[1..] {
         assert_eq!((contestant.run)(), expected, "{task}: {} finds something else than the first", contestant.name);

@@ -37,7 +37,8 @@ pub fn draw(measured: &[Measured]) -> String {
         y = draw_task(&mut body, task, &scale, y);
     }
     let height = y + TITLE + MARGIN;
-    let foot = format!("median processor time of one run, logarithmic from {}; × is against the hand-tuned program", readable(10f64.powf(scale.least)));
+    let foot =
+        format!("median processor time of one run, logarithmic from {}; × is against the hand-tuned program", readable(10f64.powf(scale.least)));
     text(&mut body, MARGIN, y + TITLE / 2.0, "foot", &foot);
     format!(
         "<svg xmlns=\"http://www.w3.org/2000/svg\" viewBox=\"0 0 {WIDTH} {height}\" font-family=\"sans-serif\" font-size=\"12\">\n\

@@ -68,6 +68,10 @@ impl Rows {
     /// From an answer: form, count, five words a row.
     pub(crate) fn from_words(words: &[u32]) -> Rows {
         let rows = words[2..].chunks_exact(5).take(words[1] as usize).map(Row::from_words).collect();
-        if words[0] == 0 { Rows::Only(rows) } else { Rows::AllBut(rows) }
+        if words[0] == 0 {
+            Rows::Only(rows)
+        } else {
+            Rows::AllBut(rows)
+        }
     }
 }

@@ -1,7 +1,8 @@
 //! Document 01's portal cases through the safe types. Needs the compiled library: `cargo test --features library`.
 
 use txindurbe::{
-    key, Certificate, Definition, Engine, Expression, Filing, Guard, Part, Policy, Polarity, Query, Refusal, Row, Rows, Slot, Store, Table, Term, Verdict,
+    key, Certificate, Definition, Engine, Expression, Filing, Guard, Part, Polarity, Policy, Query, Refusal, Row, Rows, Slot, Store, Table, Term,
+    Verdict,
 };
 
 const RELEASED: u16 = 1;

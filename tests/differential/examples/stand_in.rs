@@ -8,11 +8,19 @@ const ENGINE: Evaluator = Evaluator { fault: None };
 
 /// A length of 0 comes with any pointer.
 unsafe fn words<'a>(at: *const u32, count: usize) -> &'a [u32] {
-    if count == 0 { &[] } else { from_raw_parts(at, count) }
+    if count == 0 {
+        &[]
+    } else {
+        from_raw_parts(at, count)
+    }
 }
 
 unsafe fn area<'a>(at: *mut u32, count: usize) -> &'a mut [u32] {
-    if count == 0 { &mut [] } else { from_raw_parts_mut(at, count) }
+    if count == 0 {
+        &mut []
+    } else {
+        from_raw_parts_mut(at, count)
+    }
 }
 
 #[no_mangle]
@@ -35,11 +43,7 @@ pub unsafe extern "C" fn txb_query(
     scratch: *mut u32,
     scratch_words: usize,
 ) -> u64 {
-    let lent = Lent {
-        answer: area(answer, answer_words),
-        definitions: area(definitions, definitions_words),
-        scratch: area(scratch, scratch_words),
-    };
+    let lent = Lent { answer: area(answer, answer_words), definitions: area(definitions, definitions_words), scratch: area(scratch, scratch_words) };
     Engine::query(&ENGINE, words(policy, policy_words), words(query, query_words), words(store, store_words), lent)
 }
 

@@ -52,7 +52,11 @@ impl Junk {
 }
 
 fn equal<T: PartialEq + std::fmt::Debug>(what: &str, tested: T, expected: T) -> Result<(), String> {
-    if tested == expected { Ok(()) } else { Err(format!("{what}: the tested engine has {tested:?}, the evaluator {expected:?}")) }
+    if tested == expected {
+        Ok(())
+    } else {
+        Err(format!("{what}: the tested engine has {tested:?}, the evaluator {expected:?}"))
+    }
 }
 
 /// The first place where two areas differ.

@@ -1,6 +1,6 @@
 //! The C interface as a trait: the compiled library has it, and so has the evaluator, so that the comparison can be rehearsed without the library.
 
-use crate::evaluator::{certificates_of, Areas, Answer, Evaluator, Filing, Part, Refusal, Verdict};
+use crate::evaluator::{certificates_of, Answer, Areas, Evaluator, Filing, Part, Refusal, Verdict};
 use crate::faults::Fault;
 use std::ops::Range;
 

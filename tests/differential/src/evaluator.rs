@@ -1,9 +1,9 @@
 //! Document 01 as a plain program, section by section, to be read with document 01 beside it.
 //!
 //! It is slow and short on purpose: sets are `BTreeSet`s, words are parsed by recursive descent, and nothing is shared with the engine it is compared with.
-//! Places marked `planted` are mistakes that are made only when asked for; without a [`Fault`] they do nothing.
+//! Places marked `planted`, and calls of [`faults`], are mistakes that are made only when asked for; without a [`Fault`] they do nothing.
 
-use crate::faults::Fault;
+use crate::faults::{self, Fault};
 use std::collections::{BTreeMap, BTreeSet};
 use std::ops::{Range, RangeInclusive};
 
@@ -220,7 +220,7 @@ pub enum Guard {
 }
 
 /// A refusal's number before its part is known, or the value.
-type Numbered<T> = Result<T, u32>;
+pub type Numbered<T> = Result<T, u32>;
 
 const DEEPEST: u32 = 15;
 const MOST_DRAWS_WRITTEN: u32 = 8;
@@ -247,7 +247,11 @@ impl Parser<'_> {
 
     fn within(&mut self, rule: RangeInclusive<u32>) -> Numbered<u32> {
         let word = self.word()?;
-        if rule.contains(&word) { Ok(word) } else { Err(3) }
+        if rule.contains(&word) {
+            Ok(word)
+        } else {
+            Err(3)
+        }
     }
 
     fn times<T>(&mut self, count: u32, mut read: impl FnMut(&mut Self) -> Numbered<T>) -> Numbered<Vec<T>> {
@@ -298,12 +302,20 @@ impl Parser<'_> {
 
     fn variable(&mut self) -> Numbered<Term> {
         let number = self.word()? as usize;
-        if number < self.variables { Ok(Term::Variable(number)) } else { Err(4) }
+        if number < self.variables {
+            Ok(Term::Variable(number))
+        } else {
+            Err(4)
+        }
     }
 
     fn definition(&mut self) -> Numbered<usize> {
         let number = self.word()? as usize;
-        if number < self.available { Ok(number) } else { Err(4) }
+        if number < self.available {
+            Ok(number)
+        } else {
+            Err(4)
+        }
     }
 
     fn list(&mut self) -> Numbered<Expression> {
@@ -388,7 +400,11 @@ impl Polarities {
     }
 
     fn has(self, polarity: u32) -> bool {
-        if polarity == 0 { self.plus } else { self.minus }
+        if polarity == 0 {
+            self.plus
+        } else {
+            self.minus
+        }
     }
 
     fn verdict(self) -> Option<Verdict> {
@@ -436,8 +452,12 @@ struct Reading {
     evaluator: Evaluator,
 }
 
-fn limited(set: Set) -> Numbered<Set> {
-    if set.listed().len() > MOST_ROWS { Err(13) } else { Ok(set) }
+pub fn limited(set: Set) -> Numbered<Set> {
+    if set.listed().len() > MOST_ROWS {
+        Err(13)
+    } else {
+        Ok(set)
+    }
 }
 
 pub fn value(term: Term, values: &[u32]) -> u32 {
@@ -470,7 +490,7 @@ impl Reading {
             Expression::Rows(rows) => Ok(Set::Finite(written(rows, values))),
             Expression::AllBut(rows) => Ok(Set::Complement(written(rows, values))),
             Expression::Definition(number) => Ok(self.definitions[*number].clone()),
-            Expression::List { issuer, name, polarity } => self.list(value(*issuer, values), *name, *polarity),
+            Expression::List { issuer, name, polarity } => self.list(*issuer, *name, *polarity, values),
             Expression::Union(left, right) => self.union(left, right, values),
             Expression::Difference(left, right) => self.difference(left, right, values),
             Expression::Comprehension { guards, head } => {
@@ -481,50 +501,31 @@ impl Reading {
         }
     }
 
-    fn list(&self, issuer: u32, name: u32, polarity: u32) -> Numbered<Set> {
-        let rows = self.held.get(&[issuer, name, polarity]).cloned().unwrap_or_default();
-        let number = !is_key(issuer);
-        let empty = (self.evaluator.has(Fault::NumberIssuerHasNoRows) && number) // planted
-            || (self.evaluator.has(Fault::UnknownListTakenAsEmpty) && !number && rows.is_empty()); // planted
-        let set = if polarity == 0 || empty { Set::Finite(rows) } else { Set::Complement(rows) };
-        if self.evaluator.has(Fault::NameOf129RowsRead) && set.listed().len() == MOST_ROWS + 1 {
-            return Ok(set); // planted
+    /// A + name has just its certified rows, a − name all but those. Nothing is certified under a number.
+    fn list(&self, issuer: Term, name: u32, polarity: u32, values: &[u32]) -> Numbered<Set> {
+        let rows = self.held.get(&[value(issuer, values), name, polarity]).cloned().unwrap_or_default();
+        let set = if polarity == 0 { Set::Finite(rows) } else { Set::Complement(rows) };
+        match faults::wrong_list(self.evaluator.fault, issuer, values, &set) {
+            Some(planted) => Ok(planted),
+            None => limited(set),
         }
-        limited(set)
     }
 
     fn union(&mut self, left: &Expression, right: &Expression, values: &mut Vec<u32>) -> Numbered<Set> {
         let left = self.read(left, values)?;
-        if let (true, Set::Finite(rows), Expression::Comprehension { guards, head }) =
-            (self.evaluator.has(Fault::UnionBuiltInPlace), &left, right)
-        {
+        if let (true, Set::Finite(rows), Expression::Comprehension { guards, head }) = (self.evaluator.has(Fault::UnionBuiltInPlace), &left, right) {
             let mut found = rows.clone(); // planted
             self.pass(guards, head, values, &mut found)?;
             return Ok(Set::Finite(found));
         }
         let right = self.read(right, values)?;
-        if let (true, Set::Finite(a), Set::Finite(b)) = (self.evaluator.has(Fault::LimitBeforeRepeats), &left, &right) {
-            if a.len() + b.len() > MOST_ROWS {
-                return Err(13); // planted
-            }
-        }
-        if self.evaluator.has(Fault::ComplementAndFiniteJoined) {
-            if let (Set::Complement(a), Set::Finite(b)) | (Set::Finite(b), Set::Complement(a)) = (&left, &right) {
-                return limited(Set::Complement(a | b)); // planted
-            }
-        }
-        limited(left.union(&right))
+        faults::wrong_union(self.evaluator.fault, &left, &right).unwrap_or_else(|| limited(left.union(&right)))
     }
 
     fn difference(&mut self, left: &Expression, right: &Expression, values: &mut Vec<u32>) -> Numbered<Set> {
         let left = self.read(left, values)?;
         let right = self.read(right, values)?;
-        if let (true, Set::Complement(a), Set::Complement(b)) =
-            (self.evaluator.has(Fault::ComplementsSubtractedStraight), &left, &right)
-        {
-            return Ok(Set::Finite(a - b)); // planted
-        }
-        limited(left.minus(&right))
+        faults::wrong_difference(self.evaluator.fault, &left, &right).unwrap_or_else(|| limited(left.minus(&right)))
     }
 
     /// The head's row for each binding that passes the guards left to do.
@@ -539,7 +540,12 @@ impl Reading {
             Guard::Different(a, b) => value(*a, values) != value(*b, values),
             Guard::Absent { row, from } => {
                 let row = row_of(row, values);
-                !self.read(from, values)?.holds(&row)
+                let draws = self.draws;
+                let absent = !self.read(from, values)?.holds(&row);
+                if self.evaluator.has(Fault::OperandReadOnce) && draws > 0 {
+                    self.draws = draws; // planted
+                }
+                absent
             }
         };
         if passed {
@@ -582,7 +588,8 @@ impl Reading {
     /// Whether the row is of the pattern's width and equals its terms; new variables are bound on the way.
     fn matches(&self, row: &Row, pattern: &[Slot], values: &mut Vec<u32>) -> bool {
         let outside = values.len();
-        row.width as usize == pattern.len()
+        let wider = row.width as usize > pattern.len() && self.evaluator.has(Fault::WidthIgnored); // planted
+        (row.width as usize == pattern.len() || wider)
             && pattern.iter().zip(row.used()).all(|(slot, &atom)| match slot {
                 Slot::New => {
                     values.push(atom);
@@ -697,7 +704,11 @@ impl Evaluator {
             }
             entries.push(Entry { name, polarity, part: offset as usize..next as usize });
         }
-        if next == policy.len() as u64 { Ok(entries) } else { Err(2) }
+        if next == policy.len() as u64 {
+            Ok(entries)
+        } else {
+            Err(2)
+        }
     }
 
     pub fn part(&self, policy: &[u32], query: &[u32], number: u32) -> Part {
@@ -712,6 +723,12 @@ impl Evaluator {
     /// 1 to 7: each definition, then the query.
     pub fn judge(&self, policy: &[u32], query: &[u32]) -> Result<Judged, Refusal> {
         let entries = self.table(policy).or_else(refused)?;
+        if self.has(Fault::QueryLengthFirst) && !(1..=MOST_QUERY_WORDS).contains(&query.len()) {
+            return Err(Refusal { number: 3, part: QUERY }); // planted
+        }
+        if self.has(Fault::ParsedBeforeJudged) {
+            self.parse_all(policy, &entries)?; // planted
+        }
         let mut definitions: Vec<Definition> = Vec::new();
         for (entry, part) in entries.iter().zip(0..) {
             // A sum that wraps (planted) may give a part that is none.
@@ -721,6 +738,18 @@ impl Evaluator {
         }
         let (query, verdict) = in_part(self.judge_query(query, &definitions), QUERY)?;
         Ok(Judged { definitions, query, verdict })
+    }
+
+    /// Planted with `ParsedBeforeJudged`.
+    fn parse_all(&self, policy: &[u32], entries: &[Entry]) -> Result<(), Refusal> {
+        for (entry, part) in entries.iter().zip(0..) {
+            in_part(self.parser(&policy[entry.part.clone()], part as usize).expression(1), part)?;
+        }
+        Ok(())
+    }
+
+    fn parser<'a>(&self, words: &'a [u32], available: usize) -> Parser<'a> {
+        Parser { words, at: 0, available, variables: 0, draws: 0, evaluator: *self }
     }
 
     fn judge_definition(&self, words: &[u32], polarity: u32, earlier: &[Definition]) -> Numbered<Definition> {
@@ -745,7 +774,7 @@ impl Evaluator {
 
     /// 3, 4, 5 at the first word in order; left-over words last.
     fn expression(&self, words: &[u32], definitions: &[Definition]) -> Numbered<(Expression, Polarities)> {
-        let mut parser = Parser { words, at: 0, available: definitions.len(), variables: 0, draws: 0, evaluator: *self };
+        let mut parser = self.parser(words, definitions.len());
         let expression = parser.expression(1)?;
         let polarities = self.polarities(&expression, definitions);
         if self.has(Fault::LeftOverWordsAfterPolarity) && polarities.verdict().is_none() {

@@ -385,11 +385,7 @@ fn declared_polarity_alone_counts_and_openness_is_passed_on() {
 fn short_areas_get_11_after_8() {
     let mut unsound = empty_store();
     unsound[0] = 2_001;
-    let shorter = [
-        Areas { answer: 641, ..Areas::LEAST },
-        Areas { definitions: 10_271, ..Areas::LEAST },
-        Areas { scratch: 16_383, ..Areas::LEAST },
-    ];
+    let shorter = [Areas { answer: 641, ..Areas::LEAST }, Areas { definitions: 10_271, ..Areas::LEAST }, Areas { scratch: 16_383, ..Areas::LEAST }];
     for areas in shorter {
         let ask = |store: &[u32]| Evaluator::default().query(NOTHING, &[1, 0], store, areas);
         assert_eq!(ask(&empty_store()), refusal(11, NEITHER));

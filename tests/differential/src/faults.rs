@@ -1,5 +1,8 @@
 //! Mistakes that can be planted in the evaluator, to see that the comparison notices each of them.
 
+use crate::evaluator::{is_key, limited, value, Numbered, Set, Term, MOST_ROWS};
+use std::collections::BTreeSet;
+
 /// One mistake. Document 01's "Curators' errors" come first.
 #[derive(Clone, Copy, PartialEq, Eq, Debug)]
 pub enum Fault {
@@ -28,11 +31,16 @@ pub enum Fault {
     FullBeforeHeld,
     RefusedQueryClearsAnswer,
     FilingClearsPastTheEnd,
+    VariableIssuerUnknown,
+    WidthIgnored,
+    ParsedBeforeJudged,
+    QueryLengthFirst,
+    OperandReadOnce,
 }
 
 impl Fault {
     /// Every fault; `--plant K` plants the one at K, counted from 1.
-    pub const ALL: [Fault; 25] = [
+    pub const ALL: [Fault; 30] = [
         Fault::UnknownListTakenAsEmpty,
         Fault::ComparedTermsCounted,
         Fault::AbsentNotTurnedRound,
@@ -58,6 +66,11 @@ impl Fault {
         Fault::FullBeforeHeld,
         Fault::RefusedQueryClearsAnswer,
         Fault::FilingClearsPastTheEnd,
+        Fault::VariableIssuerUnknown,
+        Fault::WidthIgnored,
+        Fault::ParsedBeforeJudged,
+        Fault::QueryLengthFirst,
+        Fault::OperandReadOnce,
     ];
 
     pub fn meaning(self) -> &'static str {
@@ -87,6 +100,44 @@ impl Fault {
             Fault::FullBeforeHeld => "10 comes before Held",
             Fault::RefusedQueryClearsAnswer => "a refused query clears the answer area",
             Fault::FilingClearsPastTheEnd => "filing clears the word past the last record",
+            Fault::VariableIssuerUnknown => "a list whose issuer is a variable is read as if nothing were held of it",
+            Fault::WidthIgnored => "a row that is wider than the pattern is matched by its first atoms",
+            Fault::ParsedBeforeJudged => "all definitions are parsed before any is judged",
+            Fault::QueryLengthFirst => "the query's length is tested before the definitions",
+            Fault::OperandReadOnce => "the draws of an absent guard's operand are counted the first time only",
         }
+    }
+}
+
+/// What a name is wrongly read as, in place of this set.
+pub fn wrong_list(fault: Option<Fault>, issuer: Term, values: &[u32], set: &Set) -> Option<Set> {
+    let nothing = || Set::Finite(BTreeSet::new());
+    let unknown = matches!(set, Set::Complement(rows) if rows.is_empty());
+    let key = is_key(value(issuer, values));
+    match fault? {
+        Fault::NumberIssuerHasNoRows if !key => Some(nothing()),
+        Fault::UnknownListTakenAsEmpty if key && unknown => Some(nothing()),
+        Fault::NameOf129RowsRead if set.listed().len() == MOST_ROWS + 1 => Some(set.clone()),
+        Fault::VariableIssuerUnknown if matches!(issuer, Term::Variable(_)) => Some(match set {
+            Set::Finite(_) => nothing(),
+            Set::Complement(_) => Set::Complement(BTreeSet::new()),
+        }),
+        _ => None,
+    }
+}
+
+pub fn wrong_union(fault: Option<Fault>, left: &Set, right: &Set) -> Option<Numbered<Set>> {
+    match (fault?, left, right) {
+        (Fault::LimitBeforeRepeats, Set::Finite(a), Set::Finite(b)) => (a.len() + b.len() > MOST_ROWS).then_some(Err(13)),
+        (Fault::ComplementAndFiniteJoined, Set::Complement(a), Set::Finite(b)) => Some(limited(Set::Complement(a | b))),
+        (Fault::ComplementAndFiniteJoined, Set::Finite(a), Set::Complement(b)) => Some(limited(Set::Complement(a | b))),
+        _ => None,
+    }
+}
+
+pub fn wrong_difference(fault: Option<Fault>, left: &Set, right: &Set) -> Option<Numbered<Set>> {
+    match (fault?, left, right) {
+        (Fault::ComplementsSubtractedStraight, Set::Complement(a), Set::Complement(b)) => Some(Ok(Set::Finite(a - b))),
+        _ => None,
     }
 }

@@ -159,11 +159,8 @@ impl<'a> Writer<'a> {
 
     /// A variable in so many of a thousand cases, where there is one.
     fn term(&mut self, variable: u32) {
-        let term = if self.variables > 0 && self.random.chance(variable) {
-            [1, self.some_variable()]
-        } else {
-            [0, self.random.pick(self.universe.atoms)]
-        };
+        let term =
+            if self.variables > 0 && self.random.chance(variable) { [1, self.some_variable()] } else { [0, self.random.pick(self.universe.atoms)] };
         self.words.extend(term);
     }
 
@@ -178,11 +175,8 @@ impl<'a> Writer<'a> {
     }
 
     fn list(&mut self, polarity: u32) {
-        let issuer = if self.variables > 0 && self.random.chance(250) {
-            [1, self.some_variable()]
-        } else {
-            [0, self.random.pick(self.universe.keys)]
-        };
+        let issuer =
+            if self.variables > 0 && self.random.chance(250) { [1, self.some_variable()] } else { [0, self.random.pick(self.universe.keys)] };
         self.words.extend(issuer);
         let name = self.random.pick(self.universe.names);
         self.words.extend([name, polarity]);
@@ -530,7 +524,7 @@ impl Generator {
             0..=11 => self.near_a_limit(),
             12..=13 if !declared.is_empty() => vec![3, self.random.below(declared.len()) as u32],
             14 => literal_of(self.random.between(1_022, 1_026) as usize),
-            15 => {
+            15..=17 => {
                 let polarity = self.random.between(0, 1);
                 vec![4, 0, self.random.pick(self.universe.keys), CROWD, polarity]
             }
@@ -646,7 +640,15 @@ impl Generator {
         }
     }
 
+    /// Mostly one change, so that the rest is still read; two, to see which fault is met first.
     fn mutate(&mut self, words: &mut Vec<u32>) {
+        self.change(words);
+        if self.random.chance(300) {
+            self.change(words);
+        }
+    }
+
+    fn change(&mut self, words: &mut Vec<u32>) {
         let place = self.random.below(words.len().max(1));
         match self.random.below(10) {
             0 => words.truncate(place),

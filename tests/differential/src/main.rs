@@ -98,7 +98,10 @@ fn print_tally(tally: &Tally, seen: &Seen) {
         println!("answer {}, {table}: {count}", ["exact", "lower", "upper"][*verdict as usize]);
     }
     let [exact, lower, upper] = seen.points;
-    println!("held against worlds: {exact} exact, {lower} lower and {upper} upper answers, {} worlds, {} rows that worlds differ on", seen.worlds, seen.undecided_rows);
+    println!(
+        "held against worlds: {exact} exact, {lower} lower and {upper} upper answers, {} worlds, {} rows that worlds differ on",
+        seen.worlds, seen.undecided_rows
+    );
     for report in &tally.reports {
         println!("FAILED {report}");
     }

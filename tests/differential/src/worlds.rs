@@ -43,7 +43,11 @@ struct World<'a> {
 impl World<'_> {
     fn gives(&self, name: Name, row: &Row) -> bool {
         let list = &self.lists[&name];
-        if self.universe.contains(row) { list.rows.contains(row) } else { list.rest }
+        if self.universe.contains(row) {
+            list.rows.contains(row)
+        } else {
+            list.rest
+        }
     }
 }
 
@@ -231,8 +235,13 @@ fn bounded(point: &Point, row: &Row, belongs: &[bool]) -> Result<(), String> {
     };
     let held = &point.accepted;
     let count = belongs.iter().filter(|&&in_world| in_world).count();
-    let report = || format!("{:?} {:?}: row {:?} belongs in {count} of {} worlds; held {held:?}", point.verdict, point.answer, row.used(), belongs.len());
-    if right { Ok(()) } else { Err(report()) }
+    let report =
+        || format!("{:?} {:?}: row {:?} belongs in {count} of {} worlds; held {held:?}", point.verdict, point.answer, row.used(), belongs.len());
+    if right {
+        Ok(())
+    } else {
+        Err(report())
+    }
 }
 
 /// Lower answers grow, upper ones shrink, exact ones stay.
@@ -244,7 +253,11 @@ fn in_step(earlier: &Point, later: &Point) -> Result<(), String> {
             Verdict::Upper => within(&later.answer, &earlier.answer),
             Verdict::Exact => earlier.answer == later.answer,
         };
-    if right { Ok(()) } else { Err(format!("{:?} {:?} is followed by {:?} {:?}", earlier.verdict, earlier.answer, later.verdict, later.answer)) }
+    if right {
+        Ok(())
+    } else {
+        Err(format!("{:?} {:?} is followed by {:?} {:?}", earlier.verdict, earlier.answer, later.verdict, later.answer))
+    }
 }
 
 /// Files certificates through the engine, and asks at the first point, in between and at the last.
