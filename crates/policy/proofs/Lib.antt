@@ -10,4 +10,5 @@ pub mod RowAnswers
 pub mod CheckAnswers
 pub mod CycleAnswers
 pub mod Judging
+pub mod Tables
 pub mod Judged

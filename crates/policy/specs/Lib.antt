@@ -8,5 +8,6 @@ pub mod Table
 pub mod Judgement
 pub mod Judged
 pub mod Part
+pub mod Tables
 pub mod Answers
 pub mod Checks
