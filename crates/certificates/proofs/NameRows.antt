@@ -1,24 +1,27 @@
--- The records of one name: their words are cut back into them, and their rows are in the order of rows.
-use Prim.Native.Nat.{ℕ, _-_}
+-- The records of one name: their words are cut back into them, their rows lie there as five sound words each, and in the order of rows.
+use Prim.Native.Nat.{ℕ, _+_, _-_, _*_, _<_}
 use mathlib.Core.Path.{_≡_, refl, sym, _∙_, ap}
 use mathlib.Core.Bool.{Bool, true, _&&_, _||_}
 use mathlib.Core.List.{List, [], _∷_, _++_, map, append-nil}
 use native.Mathlib.Omega.{arith}
 use lib.Dec.{ltb, eqb}
-use lib.ListN.{length, drop, replicate, length-drop}
+use lib.ListN.{length, getD, take, drop, replicate, length-drop}
+use lib.Seq.{take-add, drop-at, drop-drop, length-take-le}
 use borrow.Author.Tests.{ltb-true, eqb-true}
 use Rattle.rows.specs.Word.{All}
 use Rattle.rows.specs.Ordered.{StrictTotal, keep, wordsBefore}
 use Rattle.rows.specs.Row.{Row, rowBefore}
-use Rattle.rows.specs.Layout.{flat, pieces, rowIn, rowWords}
+use Rattle.rows.specs.Layout.{flat, pieces, rowIn, rowWords, fiveAt, soundRow}
 use Rattle.rows.proofs.Case.{Case, isTrue, isFalse, split, never, and-true, true-T}
 use Rattle.rows.proofs.Order.{step-less, step-equal, words-order, row-order}
 use Rattle.rows.proofs.Ordered.{Under, Ascending, all-in, all-of, keep-∈, keep-ascending}
-use Rattle.rows.proofs.LayoutLaws.{pieces-flat, row-written}
+use Rattle.rows.proofs.LayoutLaws.{Sized, flat-length, pieces-flat, row-written}
 use Rattle.certificates.specs.Certificate.{recordWords, soundRecord, recordBefore}
 use Rattle.certificates.specs.Store.{records, soundStore}
 use Rattle.certificates.specs.NamePart.{ofName, namePart}
-use Rattle.certificates.proofs.Sound.{AllSound, sound-record, sound-sized, sound-store}
+use Rattle.certificates.proofs.Sound.{sound-record, sound-sized, sound-store}
+use Rattle.certificates.proofs.Pieces.{pieces-at}
+use Rattle.certificates.proofs.Places.{element}
 use Rattle.certificates.proofs.NameParts.{nameFirst}
 
 -- an ascending list is mapped to one where the map keeps the order
@@ -104,10 +107,37 @@ module _ (key name polarity : ℕ) where
     name-rows = map-ascending words-order row-order (λ w. rowIn (drop 3 w)) OfName row-order-kept (keep (ofName key name polarity) (records store)) of-name
         (keep-ascending recordBefore words-order (ofName key name polarity) (records store) (sound-store store sound .order))
 
-    -- the part's words are just the name's records
-    pub name-pieces : pieces recordWords (length (keep (ofName key name polarity) (records store))) (namePart store key name polarity) ≡ keep (ofName key name polarity) (records store)
+    -- the part's words are those of the name's records, one after the other
+    part-flat : namePart store key name polarity ≡ flat (keep (ofName key name polarity) (records store))
     unfolding namePart
+    part-flat = rw (sound, namePart)
+
+    sized : All (Sized recordWords) (keep (ofName key name polarity) (records store))
+    sized = sound-sized _ (all-of _ _ (λ w i. all-in OfName _ of-name w i .sound))
+
+    pub name-length : length (namePart store key name polarity) ≡ recordWords * length (keep (ofName key name polarity) (records store))
+    name-length = rw part-flat (flat-length recordWords (keep (ofName key name polarity) (records store)) sized)
+
+    pub name-pieces : pieces recordWords (length (keep (ofName key name polarity) (records store))) (namePart store key name polarity) ≡ keep (ofName key name polarity) (records store)
     name-pieces =
         let rs : List (List ℕ) = keep (ofName key name polarity) (records store) in
-        let s : AllSound rs = all-of _ rs (λ w i. all-in OfName rs of-name w i .sound) in
-        rw (sound, namePart, ← append-nil (flat rs)) (pieces-flat recordWords rs [] (sound-sized rs s))
+        rw (part-flat, ← append-nil (flat rs)) (pieces-flat recordWords rs [] sized)
+
+    -- the row of its ith record, as its five words stand in the part
+    module _ (i : ℕ) (below : i < length (keep (ofName key name polarity) (records store))) where
+      ith : getD (keep (ofName key name polarity) (records store)) i [] ≡ take recordWords (drop (recordWords * i) (namePart store key name polarity))
+      ith = sym (ap (λ (rs : List (List ℕ)). getD rs i []) name-pieces) ∙ pieces-at recordWords i _ (namePart store key name polarity) below
+
+      pub name-row : fiveAt (namePart store key name polarity) (recordWords * i + 3) ≡ drop 3 (getD (keep (ofName key name polarity) (records store)) i [])
+      name-row =
+          let part : List ℕ = namePart store key name polarity in
+          let from : List ℕ = drop (recordWords * i) part in
+          let l = name-length in
+          let m = length-drop (recordWords * i) part in
+          sym (ap (drop 3) (ith ∙ take-add 3 5 from) ∙ drop-at (take 3 from) (take 5 (drop 3 from)) 3 (length-take-le 3 from (omega arith)) ∙ ap (take 5) (drop-drop 3 (recordWords * i) part))
+
+      pub name-sound : soundRow (fiveAt (namePart store key name polarity) (recordWords * i + 3)) ≡ true
+      name-sound =
+          let rs : List (List ℕ) = keep (ofName key name polarity) (records store) in
+          let w : List ℕ = getD rs i [] in
+          rw name-row (sound-record w (all-in OfName rs of-name w (element rs [] i below) .sound) .row)

@@ -33,7 +33,7 @@ leading-stops f (x ∷ xs) d (suc i) h e = go (leading-stops f xs d i (omega ari
     go ih (isTrue p) = rw (p, leading) (omega arith)
     go ih (isFalse p) = rw (p, leading) (omega arith)
 
-element : {A : Type 0} (xs : List A) (d : A) (i : ℕ) → i < length xs → getD xs i d ∈ xs
+pub element : {A : Type 0} (xs : List A) (d : A) (i : ℕ) → i < length xs → getD xs i d ∈ xs
 unfolding _∈_
 element [] d i h = absurd (omega arith)
 element (x ∷ xs) d zero h = inl refl

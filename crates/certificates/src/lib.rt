@@ -3,6 +3,8 @@ mod certificate;
 mod store;
 
 ghost use mathlib.Core.Path.{_≡_};
+ghost use mathlib.Core.Bool.{true};
+ghost use Rattle.certificates.specs.Store.{soundStore};
 ghost use Rattle.certificates.specs.Filing.{replyIs, fileReply, storeAfter};
 ghost use Rattle.certificates.specs.NamePart.{namePart};
 use certificate::RECORD_WORDS;
@@ -21,7 +23,8 @@ pub enum Filing {
 
 // Files a certificate: 8 for the store, 9 for the certificate, Held, 10, and otherwise it is put in its place.
 pub fn file(store: &mut [u32], certificate: &[u32]) -> Filing
-    ensures { λ r. ⌜ (replyIs r ≡ fileReply (now (store .entry)) (now (certificate .entry))) × (now (store .exit) ≡ storeAfter (now (store .entry)) (now (certificate .entry))) ⌝ }
+    ensures { λ r. ⌜ replyIs r ≡ fileReply (now (store .entry)) (now (certificate .entry)) ⌝ }
+    ensures { λ _. ⌜ now (store .exit) ≡ storeAfter (now (store .entry)) (now (certificate .entry)) ⌝ }
 {
     if !sound_store(store) {
         return Filing::Refused(refusals::BAD_STORE);
@@ -40,6 +43,19 @@ pub fn file(store: &mut [u32], certificate: &[u32]) -> Filing
     Filing::Filed
 }
 
+// The certificates of one name in a store that is known to be sound, found without a look at the others.
+pub fn certificates_in<'a>(store: &'a [u32], key: u32, name: u32, polarity: u32) -> &'a [u32]
+    requires { ⌜ soundStore (now store) ≡ true ⌝ }
+    ensures { λ r. ⌜ now r ≡ namePart (now (store .entry)) key name polarity ⌝ }
+{
+    // what is shorter comes first and no width is 5, so the name's records lie from `first` to `past`
+    let first = [key, name, polarity];
+    let past = [key, name, polarity, 5];
+    let from = 1 + RECORD_WORDS * place_of(store, &first);
+    let to = 1 + RECORD_WORDS * place_of(store, &past);
+    &store[from..to]
+}
+
 // The certificates of one name, as the part of the store where they lie: empty if there are none or the store is unsound.
 pub fn certificates_of<'a>(store: &'a [u32], key: u32, name: u32, polarity: u32) -> &'a [u32]
     ensures { λ r. ⌜ now r ≡ namePart (now (store .entry)) key name polarity ⌝ }
@@ -47,10 +63,5 @@ pub fn certificates_of<'a>(store: &'a [u32], key: u32, name: u32, polarity: u32)
     if !sound_store(store) {
         return &store[..0];
     }
-    // what is shorter comes first and no width is 5, so the name's records lie from `first` to `past`
-    let first = [key, name, polarity];
-    let past = [key, name, polarity, 5];
-    let from = 1 + RECORD_WORDS * place_of(store, &first);
-    let to = 1 + RECORD_WORDS * place_of(store, &past);
-    &store[from..to]
+    certificates_in(store, key, name, polarity)
 }

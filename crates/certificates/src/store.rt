@@ -107,7 +107,9 @@ fn write(store: &mut [u32], at: usize, words: &[u32])
 
 // Puts a record in at its place, moves the later ones up and raises the count.
 pub fn insert(store: &mut [u32], place: usize, certificate: &[u32])
-    requires { ⌜ (length (now certificate) ≡ recordWords) × ((place ≤ countOf (now store)) × ((countOf (now store) < capacity) × (1 + recordWords * (countOf (now store) + 1) ≤ length (now store)))) ⌝ }
+    requires { ⌜ length (now certificate) ≡ recordWords ⌝ }
+    requires { ⌜ (place ≤ countOf (now store)) × (countOf (now store) < capacity) ⌝ }
+    requires { ⌜ 1 + recordWords * (countOf (now store) + 1) ≤ length (now store) ⌝ }
     ensures { λ _. ⌜ now (store .exit) ≡ putIn (now (store .entry)) place (now (certificate .entry)) ⌝ }
 {
     let count = store[0];

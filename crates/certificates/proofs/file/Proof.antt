@@ -84,7 +84,7 @@ insert-requires c κs =
     let few = place-few s w in
     let at = c .before .before .before .before .before .before .place-of .ensures in
     let room = c .before .if4 .left in
-    (good .eight, (omega arith, (omega arith, omega arith)))
+    (good .eight, ((omega arith, omega arith), omega arith))
 
 same-length-5 : tie.Need-same-length-5
 same-length-5 c = search needs
