@@ -5,7 +5,7 @@ cd "$(dirname "$0")"
 cargo build --quiet --release --offline "$@"
 run=target/release/differential
 case " $* " in *library*) rehearse= ;; *) rehearse=--rehearse ;; esac
-count=$(grep -c '^        Fault::.*,$' src/faults.rs)
+count=$($run --faults | wc -l)
 passed=0 failed=0
 for ((k = 1; k <= count; k++)); do
     status=0

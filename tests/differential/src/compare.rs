@@ -1,7 +1,7 @@
 //! Puts the same words to two engines and compares replies and areas, word for word.
 
 use crate::engine::{Engine, Lent, OF_QUERY};
-use crate::evaluator::{Areas, Evaluator, Set};
+use crate::evaluator::{Evaluator, Set};
 use crate::generate::{Case, Filings, Generator, PORTAL};
 use crate::random::Random;
 use std::collections::BTreeMap;
@@ -35,7 +35,7 @@ impl Tally {
     }
 }
 
-/// Words that the engines have no business with, of which parts serve as areas.
+/// Random words, of which parts serve as areas.
 struct Junk(Vec<u32>);
 
 impl Junk {
@@ -45,9 +45,34 @@ impl Junk {
         Junk((0..Junk::WORDS).map(|_| random.word()).collect())
     }
 
-    fn area(&self, length: usize, random: &mut Random) -> Vec<u32> {
-        let start = random.below(Junk::WORDS - length);
-        self.0[start..start + length].to_vec()
+    fn area(&self, length: usize, random: &mut Random) -> Area {
+        let fenced = length + 2 * FENCE;
+        let start = random.below(Junk::WORDS - fenced);
+        let junk = &self.0[start..start + fenced];
+        Area { words: junk.to_vec(), before: [&junk[..FENCE], &junk[fenced - FENCE..]].concat() }
+    }
+}
+
+/// Words on either side of an area, which nobody is lent.
+const FENCE: usize = 16;
+
+#[derive(Clone)]
+struct Area {
+    words: Vec<u32>,
+    /// The fences as they were.
+    before: Vec<u32>,
+}
+
+impl Area {
+    fn lent(&mut self) -> &mut [u32] {
+        let end = self.words.len() - FENCE;
+        &mut self.words[FENCE..end]
+    }
+
+    fn fences_kept(&self, what: &str) -> Result<(), String> {
+        let end = self.words.len() - FENCE;
+        let now = [&self.words[..FENCE], &self.words[end..]].concat();
+        same_words(&format!("words around the {what} area"), &now, &self.before)
     }
 }
 
@@ -133,23 +158,24 @@ impl<'a> Comparison<'a> {
     }
 
     fn query(&mut self, case: &Case, store: &[u32]) -> Result<u64, String> {
-        let Areas { answer, definitions, scratch } = case.areas;
-        let mut expected = self.junk.area(answer, &mut self.random);
+        let mut area = |length| self.junk.area(length, &mut self.random);
+        let [mut expected, mut definitions, mut scratch] = [case.areas.answer, case.areas.definitions, case.areas.scratch].map(&mut area);
         let mut tested = expected.clone();
-        let mut definitions = self.junk.area(definitions, &mut self.random);
-        let mut scratch = self.junk.area(scratch, &mut self.random);
-        let mut ask = |engine: &dyn Engine, answer: &mut [u32]| {
-            let lent = Lent { answer, definitions: &mut definitions, scratch: &mut scratch };
+        let mut ask = |engine: &dyn Engine, answer: &mut Area| {
+            let lent = Lent { answer: answer.lent(), definitions: definitions.lent(), scratch: scratch.lent() };
             engine.query(&case.policy, &case.query, store, lent)
         };
         let reply = ask(&self.expected, &mut expected);
         let store_before = store.to_vec();
         let tested_reply = ask(self.tested, &mut tested);
-        self.tally_reply(reply, &expected);
+        self.tally_reply(reply, expected.lent());
         let show = |reply: u64| [reply & 0xFF, reply >> 8 & 0xFF, reply >> 16 & 0xFFFF, reply >> 32];
         equal("number, part, verdict and draws", show(tested_reply), show(reply))?;
-        same_words("answer area", &tested, &expected)?;
+        same_words("answer area", tested.lent(), expected.lent())?;
         same_words("store after a query", store, &store_before)?;
+        tested.fences_kept("answer")?;
+        definitions.fences_kept("definition")?;
+        scratch.fences_kept("scratch")?;
         Ok(reply)
     }
 

@@ -316,7 +316,7 @@ impl Generator {
     fn crowd(&mut self) -> BTreeSet<Record> {
         let mut records = self.records(20);
         for polarity in [0, 1] {
-            let name = [self.random.pick(self.universe.keys), CROWD, polarity];
+            let name = [self.universe.keys[0], CROWD, polarity];
             records.retain(|record| record[..3] != name);
             let count = self.random.between(126, 130);
             records.extend((0..count).map(|n| self.of_name(name, &[n])));
@@ -526,7 +526,7 @@ impl Generator {
             14 => literal_of(self.random.between(1_022, 1_026) as usize),
             15..=17 => {
                 let polarity = self.random.between(0, 1);
-                vec![4, 0, self.random.pick(self.universe.keys), CROWD, polarity]
+                vec![4, 0, self.universe.keys[0], CROWD, polarity]
             }
             _ => self.expression(Want::any, declared),
         };

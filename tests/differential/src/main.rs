@@ -1,9 +1,10 @@
 //! The differential run: the compiled library beside the evaluator, on random and mutated words.
 //!
 //!     differential [CASES] [--seed S] [--worlds LISTS] [--plant K] [--rehearse]
+//!     differential --faults
 //!
 //! CASES queries and lists of filings (200,000), and LISTS lists of filings held against worlds (a hundredth of the cases). `--plant K` makes the evaluator
-//! wrong in one way, which the run must notice; it stops there. `--rehearse` puts the evaluator in the library's place.
+//! wrong in one way, which the run must notice; it stops there. `--faults` lists the ways. `--rehearse` puts the evaluator in the library's place.
 
 use differential::compare::{Comparison, Tally};
 use differential::engine::Engine;
@@ -107,7 +108,17 @@ fn print_tally(tally: &Tally, seen: &Seen) {
     }
 }
 
+fn print_faults() -> ExitCode {
+    for (fault, number) in Fault::ALL.iter().zip(1..) {
+        println!("{number} {}", fault.meaning());
+    }
+    ExitCode::SUCCESS
+}
+
 fn main() -> ExitCode {
+    if std::env::args().any(|word| word == "--faults") {
+        return print_faults();
+    }
     match options(std::env::args().skip(1)).and_then(|options| run(&options)) {
         Ok(tally) => {
             println!("{} passed, {} failed", tally.passed, tally.failed);
