@@ -59,14 +59,21 @@ fn about(key: u32, name: u32, polarity: u32, atom: u32) -> [u32; 8] {
     [key, name, polarity, 1, atom, 0, 0, 0]
 }
 
+fn file_about(store: &mut [u32], key: u32, name: u32, polarity: u32, atom: u32) {
+    file(store, &about(key, name, polarity, atom));
+}
+
+fn try_about(what: &[u8], store: &mut [u32], key: u32, name: u32, polarity: u32, atom: u32) {
+    try_filing(what, store, &about(key, name, polarity, atom));
+}
+
 // An empty store, whatever words follow the count. Words past the last record stay.
 fn empty_store() {
     say(b"-- an empty store\n");
     let mut store = [77u32; 16001];
     store[0] = 0;
-    let c = about(K1, 1, 0, 7);
-    try_filing(b"k1 1 + 7", &mut store, &c);
-    try_filing(b"the same again", &mut store, &c);
+    try_about(b"k1 1 + 7", &mut store, K1, 1, 0, 7);
+    try_about(b"the same again", &mut store, K1, 1, 0, 7);
     show(&store[1..17]);
 }
 
@@ -74,12 +81,12 @@ fn empty_store() {
 fn places() {
     say(b"-- places\n");
     let mut store = [0u32; 16001];
-    try_filing(b"k1 2 + 20", &mut store, &about(K1, 2, 0, 20));
-    try_filing(b"first: k1 1 - 30", &mut store, &about(K1, 1, 1, 30));
-    try_filing(b"last: k1 2 - 10", &mut store, &about(K1, 2, 1, 10));
-    try_filing(b"between: k1 2 + 21", &mut store, &about(K1, 2, 0, 21));
-    try_filing(b"first: k0 65535 + 1", &mut store, &about(K0, 65535, 0, 1));
-    try_filing(b"last: k2 0 + 1", &mut store, &about(K2, 0, 0, 1));
+    try_about(b"k1 2 + 20", &mut store, K1, 2, 0, 20);
+    try_about(b"first: k1 1 - 30", &mut store, K1, 1, 1, 30);
+    try_about(b"last: k1 2 - 10", &mut store, K1, 2, 1, 10);
+    try_about(b"between: k1 2 + 21", &mut store, K1, 2, 0, 21);
+    try_about(b"first: k0 65535 + 1", &mut store, K0, 65535, 0, 1);
+    try_about(b"last: k2 0 + 1", &mut store, K2, 0, 0, 1);
     show(&store[1..57]);
 }
 
@@ -96,12 +103,12 @@ fn certificate_lengths() {
 fn certificate_names() {
     say(b"-- key, name and polarity of a certificate\n");
     let mut store = [0u32; 16001];
-    try_filing(b"a number as key", &mut store, &about(2147483647, 1, 0, 7));
-    try_filing(b"k0", &mut store, &about(K0, 1, 0, 7));
-    try_filing(b"name 65536", &mut store, &about(K1, 65536, 0, 7));
-    try_filing(b"name 65535", &mut store, &about(K1, 65535, 0, 7));
-    try_filing(b"polarity 2", &mut store, &about(K1, 1, 2, 7));
-    try_filing(b"polarity 1", &mut store, &about(K1, 1, 1, 7));
+    try_about(b"a number as key", &mut store, 2147483647, 1, 0, 7);
+    try_about(b"k0", &mut store, K0, 1, 0, 7);
+    try_about(b"name 65536", &mut store, K1, 65536, 0, 7);
+    try_about(b"name 65535", &mut store, K1, 65535, 0, 7);
+    try_about(b"polarity 2", &mut store, K1, 1, 2, 7);
+    try_about(b"polarity 1", &mut store, K1, 1, 1, 7);
 }
 
 fn certificate_rows() {
@@ -114,15 +121,11 @@ fn certificate_rows() {
     try_filing(b"the last unused", &mut store, &[K1, 1, 0, 3, 1, 2, 3, 4]);
 }
 
-fn file_row(store: &mut [u32], atom: u32) {
-    file(store, &about(K1, 1, 0, atom));
-}
-
 // Files certificates of k1's name 1 with the rows 0, 1, 2 and so on below `end`.
 fn fill(store: &mut [u32], end: u32) {
     let mut atom: u32 = 0;
     while atom < end {
-        file_row(store, atom);
+        file_about(store, K1, 1, 0, atom);
         atom += 1;
     }
 }
@@ -132,11 +135,11 @@ fn full_store() {
     say(b"-- a full store\n");
     let mut store = [0u32; 16001];
     fill(&mut store, 1999);
-    try_filing(b"the last that fits", &mut store, &about(K1, 1, 0, 1999));
-    try_filing(b"a held one", &mut store, &about(K1, 1, 0, 0));
-    try_filing(b"a new one", &mut store, &about(K1, 1, 0, 2000));
-    try_filing(b"a new one, to be first", &mut store, &about(K0, 1, 0, 0));
-    try_filing(b"an unsound one", &mut store, &about(K1, 1, 2, 0));
+    try_about(b"the last that fits", &mut store, K1, 1, 0, 1999);
+    try_about(b"a held one", &mut store, K1, 1, 0, 0);
+    try_about(b"a new one", &mut store, K1, 1, 0, 2000);
+    try_about(b"a new one, to be first", &mut store, K0, 1, 0, 0);
+    try_about(b"an unsound one", &mut store, K1, 1, 2, 0);
     show(&store[15993..16001]);
 }
 
@@ -218,12 +221,12 @@ fn show_name(what: &[u8], store: &[u32], key: u32, name: u32, polarity: u32) {
 fn one_name() {
     say(b"-- one name's part\n");
     let mut store = [0u32; 16001];
-    file(&mut store, &about(K1, 2, 1, 7));
+    file_about(&mut store, K1, 2, 1, 7);
     file(&mut store, &[K1, 2, 0, 2, 1, 1, 0, 0]);
-    file(&mut store, &about(K1, 2, 0, 9));
-    file(&mut store, &about(K1, 2, 0, 8));
-    file(&mut store, &about(K1, 1, 0, 6));
-    file(&mut store, &about(K2, 2, 0, 5));
+    file_about(&mut store, K1, 2, 0, 9);
+    file_about(&mut store, K1, 2, 0, 8);
+    file_about(&mut store, K1, 1, 0, 6);
+    file_about(&mut store, K2, 2, 0, 5);
     show_name(b"k1 2 +", &store, K1, 2, 0);
     show_name(b"k1 2 -", &store, K1, 2, 1);
     show_name(b"k1 1 +", &store, K1, 1, 0);
@@ -233,8 +236,8 @@ fn one_name() {
 // A name that has no certificates, and an unsound store: the part is empty.
 fn no_name() {
     let mut store = [0u32; 16001];
-    file(&mut store, &about(K1, 1, 0, 7));
-    file(&mut store, &about(K1, 2, 0, 7));
+    file_about(&mut store, K1, 1, 0, 7);
+    file_about(&mut store, K1, 2, 0, 7);
     show_name(b"none: k1 1 -", &store, K1, 1, 1);
     show_name(b"none: k1 1, polarity 2", &store, K1, 1, 2);
     show_name(

@@ -16,8 +16,8 @@ abbrev μ-loop : tie.MeasureT-loop
 loop-holds : tie.Need-loop-holds Inv-loop μ-loop
 loop-holds c = (omega arith, refl)
 
-file-row-requires : tie.Need-file-row-requires Inv-loop μ-loop
-file-row-requires c κs = search needs
+file-about-requires : tie.Need-file-about-requires Inv-loop μ-loop
+file-about-requires c κs = search needs
 
 add-atom : tie.Need-add-atom Inv-loop μ-loop
 add-atom c = search needs
@@ -41,7 +41,7 @@ fill-spec =
     Inv-loop
     μ-loop
     loop-holds
-    file-row-requires
+    file-about-requires
     add-atom
     loop-less
     loop-again
