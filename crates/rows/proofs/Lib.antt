@@ -14,3 +14,4 @@ pub mod Seeking
 pub mod Filtering
 pub mod Joining
 pub mod Merging
+pub mod Combining

@@ -211,7 +211,7 @@ module _ (a : List ℕ) (rooms : Rooms a 0 642) where
 
   -- ---- merging
 
-  narrow-both : Narrow both
+  pub narrow-both : Narrow both
   narrow-both = all-of (λ (r : Row). length r ≤ 4) both (λ r m. elim (join-∈ rowBefore row-order xs ys r .0 m) [
     | inl i ↦ all-in (λ (r : Row). length r ≤ 4) xs (narrow-in (roomAt 0 a)) r i
     | inr i ↦ all-in (λ (r : Row). length r ≤ 4) ys (narrow-in (roomAt 642 a)) r i

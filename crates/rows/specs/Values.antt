@@ -4,7 +4,7 @@ use mathlib.Core.Path.{_≡_}
 use mathlib.Core.Logic.{_⊎_}
 use mathlib.Core.Bool.{Bool, true, false, not}
 use mathlib.Core.List.{List, [], _∷_, _++_}
-use lib.Dec.{ltb}
+use lib.Dec.{leb, ltb}
 use lib.ListN.{length, getD, take, drop}
 use Rattle.rows.specs.Ordered.{lists, insert, keep, common, without}
 use Rattle.rows.specs.Row.{Row, rowBefore}
@@ -87,3 +87,13 @@ unfoldable pub picked : Bool → List Row → List Row → List Row
 unfolding common without
 picked true xs ys = common rowBefore xs ys
 picked false xs ys = without rowBefore xs ys
+
+-- a value left at the front of an area, if it fits: "13: a value lists over 128 rows"
+unfoldable pub leftBy : Bool → RowSet → List ℕ → List ℕ
+leftBy true value area = written value area
+leftBy false value area = area
+
+pub record Combined (value : RowSet) (before after : List ℕ) (fits : Bool) : Type 0 where
+  pub answer : fits ≡ leb (length (listing value)) mostRows
+  pub same : length after ≡ length before
+  pub words : take 642 after ≡ take 642 (leftBy fits value before)

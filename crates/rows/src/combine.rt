@@ -1,13 +1,15 @@
 // Union and difference of two sets in one area: the left at word 0, the right at word 642, the value left at word 0.
 ghost use mathlib.Core.Path.{_≡_};
-ghost use mathlib.Core.Bool.{true};
+ghost use mathlib.Core.Bool.{true, false};
 ghost use mathlib.Core.List.{_∷_, _++_};
 ghost use Prim.Native.Nat.{_+_, _*_, _-_, _≤_, _<_};
 ghost use lib.ListN.{length, getD, take, drop};
 ghost use Rattle.rows.specs.Ordered.{join};
 ghost use Rattle.rows.specs.Row.{rowBefore};
+ghost use Rattle.rows.specs.Sets.{only, mostRows, unite, subtract};
+ghost use lib.Dec.{leb};
 ghost use Rattle.rows.specs.Layout.{rowIn, fiveAt, laid, rowsIn, formed, setIn, setWords, soundSet, written, put};
-ghost use Rattle.rows.specs.Values.{rowOf, lastOrder, roomAt, Rooms, Passed, Sought, keeps, picked};
+ghost use Rattle.rows.specs.Values.{rowOf, lastOrder, roomAt, Rooms, Passed, Sought, keeps, picked, leftBy, Combined};
 use crate::row::Order;
 use crate::row::Row;
 use crate::row::compare;
@@ -140,4 +142,58 @@ fn merge(area: &mut [u32], total: usize)
             }
         }
     }
+}
+
+// The left's and the right's rows listed together, in the left's form.
+fn join(area: &mut [u32]) -> bool
+    requires { ⌜ Rooms (now area) 0 642 ⌝ }
+    ensures answer { λ r. ⌜ r ≡ leb (length (join rowBefore (rowsIn (roomAt 0 (now (area .entry)))) (rowsIn (roomAt 642 (now (area .entry)))))) mostRows ⌝ }
+    ensures words { λ r. ⌜ now (area .exit) ≡ leftBy r (formed (getD (now (area .entry)) 0 0) (join rowBefore (rowsIn (roomAt 0 (now (area .entry)))) (rowsIn (roomAt 642 (now (area .entry)))))) (now (area .entry)) ⌝ }
+{
+    let total = joint(area);
+    if 128 < total {
+        return false;
+    }
+    merge(area, total);
+    area[1] = total as u32;
+    true
+}
+
+// Of the right's rows those that the left does not list, as a finite set at the front.
+fn keep_right(area: &mut [u32])
+    requires { ⌜ Rooms (now area) 0 642 ⌝ }
+    ensures { λ _. ⌜ take 642 (now (area .exit)) ≡ take 642 (written (only (picked false (rowsIn (roomAt 642 (now (area .entry)))) (rowsIn (roomAt 0 (now (area .entry)))))) (now (area .entry))) ⌝ }
+{
+    filter(area, 642, 0, false);
+    let end = 2 + 5 * wide(area[643]);
+    copy_down(area, 642, 0, end);
+    area[0] = 0;
+}
+
+// Difference, of both forms: "complement A minus complement B is B minus A". Says whether the value fits.
+pub fn subtract(area: &mut [u32]) -> bool
+    requires { ⌜ (1284 ≤ length (now area)) × (soundSet (now area) ≡ true) × (soundSet (drop 642 (now area)) ≡ true) ⌝ }
+    ensures { λ r. ⌜ Combined (subtract (setIn (now (area .entry))) (setIn (drop 642 (now (area .entry))))) (now (area .entry)) (now (area .exit)) r ⌝ }
+{
+    let complement = area[642] == 1;
+    if area[0] == 0 {
+        filter(area, 0, 642, complement);
+        return true;
+    }
+    if complement {
+        keep_right(area);
+        return true;
+    }
+    join(area)
+}
+
+// Union: the complement of what is left of the left's complement.
+pub fn unite(area: &mut [u32]) -> bool
+    requires { ⌜ (1284 ≤ length (now area)) × (soundSet (now area) ≡ true) × (soundSet (drop 642 (now area)) ≡ true) ⌝ }
+    ensures { λ r. ⌜ Combined (unite (setIn (now (area .entry))) (setIn (drop 642 (now (area .entry))))) (now (area .entry)) (now (area .exit)) r ⌝ }
+{
+    area[0] = 1 - area[0];
+    let fits = subtract(area);
+    area[0] = 1 - area[0];
+    fits
 }
