@@ -10,5 +10,6 @@ pub mod RowAnswers
 pub mod CheckAnswers
 pub mod CycleAnswers
 pub mod Judging
-pub mod Tables
+pub mod TableAnswers
+pub mod PartAnswers
 pub mod Judged

@@ -8,6 +8,7 @@ pub mod Table
 pub mod Judgement
 pub mod Judged
 pub mod Part
-pub mod Tables
+pub mod Entries
+pub mod Places
 pub mod Answers
 pub mod Checks

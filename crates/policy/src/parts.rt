@@ -3,11 +3,11 @@ ghost use Prim.Native.Nat.{_+_, _*_, _≤_};
 ghost use mathlib.Core.Path.{_≡_};
 ghost use lib.ListN.{length};
 ghost use Rattle.policy.specs.Part.{placeOf, partWords};
-ghost use Rattle.policy.specs.Tables.{placeIs};
+ghost use Rattle.policy.specs.Places.{placeIs};
 use crate::table::TableRead;
 use crate::table::read_table;
+use crate::table::wide;
 use refusals::QUERY_PART;
-use rows::row::wide;
 
 pub enum Place {
     InPolicy { start: usize, size: usize },
@@ -20,11 +20,11 @@ pub fn place_of(policy: &[u32], number: u32) -> Place
 {
     match read_table(policy) {
         TableRead::Refused(n) => Place::InPolicy { start: 0, size: 0 },
-        TableRead::Sound => {
+        TableRead::Sound(count) => {
             if number == QUERY_PART {
                 return Place::WholeQuery;
             }
-            if policy[1] <= number {
+            if count <= number {
                 return Place::InPolicy { start: 0, size: 0 };
             }
             let at = 2 + 4 * wide(number);

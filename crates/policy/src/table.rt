@@ -1,40 +1,70 @@
-// The policy's table: document 01, "Policy words", with refusals 1 and 2.
-ghost use Prim.Native.Nat.{_+_, _*_, _≤_, _<_};
+// The policy's table: refusals 1 and 2. No sum is taken that could wrap.
+ghost use Prim.Native.Nat.{_+_, _*_, _≤_};
 ghost use mathlib.Core.Path.{_≡_};
-ghost use mathlib.Core.Bool.{true};
-ghost use lib.ListN.{length, getD};
+ghost use lib.ListN.{length};
 ghost use Rattle.policy.specs.Table.{entryAt, named, soundEntry, soundHeader, readTable};
-ghost use Rattle.policy.specs.Tables.{earlierThan, tableIs};
-use refusals::BAD_HEADER;
-use refusals::BAD_TABLE;
-use rows::row::wide;
+ghost use Rattle.policy.specs.Entries.{entryPlace, entriesBefore, tableIs};
 
-const LAST_NAME: u32 = 65535;
+const FORMAT: u32 = 1;
 
 const MOST_WORDS: usize = 8192;
 
 const MOST_DEFINITIONS: u32 = 16;
 
-const FORMAT: u32 = 1;
+const LAST_NAME: u32 = 65535;
 
+// The count of the definitions.
 pub enum TableRead {
-    Sound,
+    Sound(u32),
     Refused(u32),
 }
 
-// Has an entry before number `d` its name and polarity?
-fn named_before(policy: &[u32], d: usize) -> bool
-    requires { ⌜ (d < 16) × (2 + 4 * d + 4 ≤ length (now policy)) ⌝ }
-    ensures { λ r. ⌜ r ≡ named (earlierThan d (now (policy .entry))) (entryAt (now (policy .entry)) (2 + 4 * d)) ⌝ }
+pub fn wide(x: u32) -> usize
+    ensures { λ r. ⌜ r ≡ x ⌝ }
 {
-    let name = policy[2 + 4 * d];
-    let polarity = policy[2 + 4 * d + 1];
-    let mut i = d;
-    while 0 < i {
-        i -= 1;
-        let at = 2 + 4 * i;
-        if policy[at] == name {
-            if policy[at + 1] == polarity {
+    x as usize
+}
+
+// Where entry `i` begins: name, polarity, offset, length.
+pub fn entry_place(i: usize) -> usize
+    requires { ⌜ i ≤ 16 ⌝ }
+    ensures { λ r. ⌜ r ≡ entryPlace i ⌝ }
+{
+    2 + 4 * i
+}
+
+fn sound_header(policy: &[u32]) -> bool
+    ensures { λ r. ⌜ r ≡ soundHeader (now (policy .entry)) ⌝ }
+{
+    if policy.len() < 2 {
+        return false;
+    }
+    if MOST_WORDS < policy.len() {
+        return false;
+    }
+    if policy[0] != FORMAT {
+        return false;
+    }
+    if MOST_DEFINITIONS < policy[1] {
+        return false;
+    }
+    entry_place(wide(policy[1])) <= policy.len()
+}
+
+// Has an entry before entry `i` its name and polarity?
+fn is_named(policy: &[u32], i: usize) -> bool
+    requires { ⌜ (i ≤ 15) × (entryPlace i + 4 ≤ length (now policy)) ⌝ }
+    ensures { λ r. ⌜ r ≡ named (entriesBefore (now (policy .entry)) i) (entryAt (now (policy .entry)) (entryPlace i)) ⌝ }
+{
+    let at = entry_place(i);
+    let name = policy[at];
+    let polarity = policy[at + 1];
+    let mut j = i;
+    while 0 < j {
+        j -= 1;
+        let other = entry_place(j);
+        if policy[other] == name {
+            if policy[other + 1] == polarity {
                 return true;
             }
         }
@@ -42,12 +72,12 @@ fn named_before(policy: &[u32], d: usize) -> bool
     false
 }
 
-// Does entry `d` keep its rules, its part being due at word `due`?
-fn sound_entry(policy: &[u32], d: usize, due: usize) -> bool
-    requires { ⌜ (d < 16) × ((2 + 4 * d + 4 ≤ length (now policy)) × (due ≤ length (now policy))) ⌝ }
-    ensures { λ r. ⌜ r ≡ soundEntry (now (policy .entry)) due (earlierThan d (now (policy .entry))) (entryAt (now (policy .entry)) (2 + 4 * d)) ⌝ }
+// Does entry `i` keep its rules, its part being due at word `due`?
+fn sound_entry(policy: &[u32], i: usize, due: usize) -> bool
+    requires { ⌜ (i ≤ 15) × (entryPlace i + 4 ≤ length (now policy)) × (due ≤ length (now policy)) ⌝ }
+    ensures { λ r. ⌜ r ≡ soundEntry (now (policy .entry)) due (entriesBefore (now (policy .entry)) i) (entryAt (now (policy .entry)) (entryPlace i)) ⌝ }
 {
-    let at = 2 + 4 * d;
+    let at = entry_place(i);
     if LAST_NAME < policy[at] {
         return false;
     }
@@ -64,55 +94,28 @@ fn sound_entry(policy: &[u32], d: usize, due: usize) -> bool
     if policy.len() - due < size {
         return false;
     }
-    !named_before(policy, d)
-}
-
-// Are the format, the count of definitions and the length in range, and is the table whole?
-fn sound_header(policy: &[u32]) -> bool
-    ensures { λ r. ⌜ r ≡ soundHeader (now (policy .entry)) ⌝ }
-{
-    if policy.len() < 2 {
-        return false;
-    }
-    if MOST_WORDS < policy.len() {
-        return false;
-    }
-    if policy[0] != FORMAT {
-        return false;
-    }
-    let count = policy[1];
-    if MOST_DEFINITIONS < count {
-        return false;
-    }
-    2 + 4 * wide(count) <= policy.len()
-}
-
-// The entries one after the other: each part begins where the one before ended, and the last ends the policy.
-fn read_entries(policy: &[u32]) -> TableRead
-    requires { ⌜ soundHeader (now policy) ≡ true ⌝ }
-    ensures { λ r. ⌜ tableIs (now (policy .entry)) r ≡ readTable (now (policy .entry)) ⌝ }
-{
-    let count = wide(policy[1]);
-    let mut due = 2 + 4 * count;
-    let mut d: usize = 0;
-    while d < count {
-        if !sound_entry(policy, d, due) {
-            return TableRead::Refused(BAD_TABLE);
-        }
-        due += wide(policy[2 + 4 * d + 3]);
-        d += 1;
-    }
-    if due == policy.len() {
-        return TableRead::Sound;
-    }
-    TableRead::Refused(BAD_TABLE)
+    !is_named(policy, i)
 }
 
 pub fn read_table(policy: &[u32]) -> TableRead
     ensures { λ r. ⌜ tableIs (now (policy .entry)) r ≡ readTable (now (policy .entry)) ⌝ }
 {
     if !sound_header(policy) {
-        return TableRead::Refused(BAD_HEADER);
+        return TableRead::Refused(refusals::BAD_HEADER);
     }
-    read_entries(policy)
+    let count = wide(policy[1]);
+    let mut due = entry_place(count);
+    let mut i: usize = 0;
+    while i < count {
+        if !sound_entry(policy, i, due) {
+            return TableRead::Refused(refusals::BAD_TABLE);
+        }
+        due += wide(policy[entry_place(i) + 3]);
+        i += 1;
+    }
+    if due == policy.len() {
+        TableRead::Sound(policy[1])
+    } else {
+        TableRead::Refused(refusals::BAD_TABLE)
+    }
 }

@@ -1,7 +1,7 @@
 use native.Mathlib.Omega.{arith}
 use borrow.Author.Needs.{needs}
 use denote.Ref.{now}
-use Rattle.policy.proofs.Tables.{place-inside, place-held, query-held, query-part, policy-part}
+use Rattle.policy.proofs.PartAnswers.{place-inside, place-held, query-held, query-part, policy-part}
 use Rattle.policy.proofs.parts.part.Statement.{statement}
 use Rattle.policy.proofs.parts.part.Tie as tie
 

@@ -1,9 +1,8 @@
-use mathlib.Core.Path.{sym}
 use native.Mathlib.Omega.{arith}
 use borrow.Author.Needs.{needs}
 use denote.Ref.{now}
-use Rattle.policy.specs.Tables.{placeIs}
-use Rattle.policy.proofs.Tables.{table-read, table-refused, table-sound, place-none, place-query, place-past, place-entry}
+use Rattle.policy.specs.Places.{placeIs}
+use Rattle.policy.proofs.PartAnswers.{table-read, table-refused, table-whole, place-none, place-query, place-past, place-entry}
 use Rattle.policy.proofs.parts.place_of.Statement.{statement}
 use Rattle.policy.proofs.parts.place_of.Tie as tie
 
@@ -13,19 +12,16 @@ read-table-requires c κs = search needs
 enum-known-n : tie.Need-enum-known-n
 enum-known-n c = search needs
 
-enum-told : tie.Need-enum-told
-enum-told c = search needs
+enum-known-count : tie.Need-enum-known-count
+enum-known-count c = search needs
 
 returns : tie.Need-returns
 unfolding placeIs
-returns c = place-query (now (c .before .before .before .before .before .args .policy)) (c .before .before .before .before .before .args .number) (table-read (now (c .before .before .before .before .before .args .policy)) (c .before .before .before .read-table .result) (c .before .before .before .read-table .ensures) (c .before .enum-told .given .1)) (c .if1 .taken)
-
-shared-slice-read-if2 : tie.Need-shared-slice-read-if2
-shared-slice-read-if2 c = let t = table-sound (now (c .before .before .before .before .before .before .args .policy)) _ (sym (table-read (now (c .before .before .before .before .before .before .args .policy)) (c .before .before .before .before .read-table .result) (c .before .before .before .before .read-table .ensures) (c .before .before .enum-told .given .1))) in t .header .long
+returns c = place-query (now (c .before .before .before .before .before .before .args .policy)) (c .before .before .before .before .before .before .args .number) (c .before .before .count .given .0 .0) (table-read (now (c .before .before .before .before .before .before .args .policy)) (c .before .before .before .before .read-table .result) (c .before .before .count .given .0 .0) (c .before .before .before .before .read-table .ensures) (c .before .before .count .given .1)) (c .if1 .taken)
 
 returns-2 : tie.Need-returns-2
 unfolding placeIs
-returns-2 c = place-past (now (c .before .before .before .before .before .before .before .args .policy)) (c .before .before .before .before .before .before .before .args .number) (table-read (now (c .before .before .before .before .before .before .before .args .policy)) (c .before .before .before .before .before .read-table .result) (c .before .before .before .before .before .read-table .ensures) (c .before .before .before .enum-told .given .1)) (c .before .before .if1 .left) (c .if2 .taken)
+returns-2 c = place-past (now (c .before .before .before .before .before .before .before .args .policy)) (c .before .before .before .before .before .before .before .args .number) (c .before .before .before .count .given .0 .0) (table-read (now (c .before .before .before .before .before .before .before .args .policy)) (c .before .before .before .before .before .read-table .result) (c .before .before .before .count .given .0 .0) (c .before .before .before .before .before .read-table .ensures) (c .before .before .before .count .given .1)) (c .before .if1 .left) (c .if2 .taken)
 
 wide-requires : tie.Need-wide-requires
 wide-requires c κs = search needs
@@ -43,7 +39,7 @@ mul-wide : tie.Need-mul-wide
 mul-wide c = search needs
 
 shared-slice-read-wide : tie.Need-shared-slice-read-wide
-shared-slice-read-wide c = let t = table-sound (now (c .before .before .before .before .before .before .before .before .before .args .policy)) _ (sym (table-read (now (c .before .before .before .before .before .before .before .before .before .args .policy)) (c .before .before .before .before .before .before .before .read-table .result) (c .before .before .before .before .before .before .before .read-table .ensures) (c .before .before .before .before .before .enum-told .given .1))) in omega (arith, t .header .whole, c .before .before .if2 .left, c .before .wide .ensures)
+shared-slice-read-wide c = let t = table-whole (now (c .before .before .before .before .before .before .before .before .before .args .policy)) (c .before .before .before .before .before .count .given .0 .0) (table-read (now (c .before .before .before .before .before .before .before .before .before .args .policy)) (c .before .before .before .before .before .before .before .read-table .result) (c .before .before .before .before .before .count .given .0 .0) (c .before .before .before .before .before .before .before .read-table .ensures) (c .before .before .before .before .before .count .given .1)) in omega (arith, t, c .before .before .if2 .left, c .before .wide .ensures)
 
 wide-requires-2 : tie.Need-wide-requires-2
 wide-requires-2 c κs = search needs
@@ -55,7 +51,7 @@ mul-wide-2 : tie.Need-mul-wide-2
 mul-wide-2 c = search needs
 
 shared-slice-read-wide-2 : tie.Need-shared-slice-read-wide-2
-shared-slice-read-wide-2 c = let t = table-sound (now (c .before .before .before .before .before .before .before .before .before .before .before .args .policy)) _ (sym (table-read (now (c .before .before .before .before .before .before .before .before .before .before .before .args .policy)) (c .before .before .before .before .before .before .before .before .before .read-table .result) (c .before .before .before .before .before .before .before .before .before .read-table .ensures) (c .before .before .before .before .before .before .before .enum-told .given .1))) in omega (arith, t .header .whole, c .before .before .before .before .if2 .left, c .before .before .before .wide .ensures)
+shared-slice-read-wide-2 c = let t = table-whole (now (c .before .before .before .before .before .before .before .before .before .before .before .args .policy)) (c .before .before .before .before .before .before .before .count .given .0 .0) (table-read (now (c .before .before .before .before .before .before .before .before .before .before .before .args .policy)) (c .before .before .before .before .before .before .before .before .before .read-table .result) (c .before .before .before .before .before .before .before .count .given .0 .0) (c .before .before .before .before .before .before .before .before .before .read-table .ensures) (c .before .before .before .before .before .before .before .count .given .1)) in omega (arith, t, c .before .before .before .before .if2 .left, c .before .before .before .wide .ensures)
 
 wide-requires-3 : tie.Need-wide-requires-3
 wide-requires-3 c κs = search needs
@@ -66,7 +62,7 @@ returns-3 c = place-none (now (c .before .before .before .before .before .args .
 
 returns-4 : tie.Need-returns-4
 unfolding placeIs
-returns-4 c = rw (c .before .before .wide2 .ensures, c .wide3 .ensures, c .before .before .before .before .wide .ensures) (place-entry (now (c .before .before .before .before .before .before .before .before .before .before .before .before .args .policy)) (c .before .before .before .before .before .before .before .before .before .before .before .before .args .number) (table-read (now (c .before .before .before .before .before .before .before .before .before .before .before .before .args .policy)) (c .before .before .before .before .before .before .before .before .before .before .read-table .result) (c .before .before .before .before .before .before .before .before .before .before .read-table .ensures) (c .before .before .before .before .before .before .before .before .enum-told .given .1)) (c .before .before .before .before .before .before .before .if1 .left) (c .before .before .before .before .before .if2 .left))
+returns-4 c = rw (c .before .before .wide2 .ensures, c .wide3 .ensures, c .before .before .before .before .wide .ensures) (place-entry (now (c .before .before .before .before .before .before .before .before .before .before .before .before .args .policy)) (c .before .before .before .before .before .before .before .before .before .before .before .before .args .number) (c .before .before .before .before .before .before .before .before .count .given .0 .0) (table-read (now (c .before .before .before .before .before .before .before .before .before .before .before .before .args .policy)) (c .before .before .before .before .before .before .before .before .before .before .read-table .result) (c .before .before .before .before .before .before .before .before .count .given .0 .0) (c .before .before .before .before .before .before .before .before .before .before .read-table .ensures) (c .before .before .before .before .before .before .before .before .count .given .1)) (c .before .before .before .before .before .before .if1 .left) (c .before .before .before .before .before .if2 .left))
 
 pub place-of-spec : {M : Type 1} → statement M
 place-of-spec =
@@ -74,9 +70,8 @@ place-of-spec =
     (tie.spec
     read-table-requires
     enum-known-n
-    enum-told
+    enum-known-count
     returns
-    shared-slice-read-if2
     returns-2
     wide-requires
     mul-at

@@ -1,38 +1,39 @@
+use mathlib.Core.Path.{_∙_, ap}
+use Rattle.policy.specs.Entries.{entryPlace}
+use Rattle.policy.proofs.TableAnswers.{header-short, header-long, header-format, header-count, header-fits}
 use borrow.Author.Needs.{needs}
-use denote.Ref.{now}
-use Rattle.policy.proofs.Tables.{header-empty, header-long, header-format, header-count, header-table}
 use Rattle.policy.proofs.table.sound_header.Statement.{statement}
 use Rattle.policy.proofs.table.sound_header.Tie as tie
 
 returns : tie.Need-returns
-returns c = header-empty (now (c .before .before .args .policy)) (c .if1 .taken)
+returns c = header-short (c .before .before .args .policy .now) (c .if1 .taken)
 
 returns-2 : tie.Need-returns-2
-returns-2 c = header-long (now (c .before .before .before .args .policy)) (c .before .if1 .left) (c .if2 .taken)
+returns-2 c = header-long (c .before .before .before .args .policy .now) (c .before .if1 .left) (c .if2 .taken)
 
 shared-slice-read-if3 : tie.Need-shared-slice-read-if3
 shared-slice-read-if3 c = search needs
 
 returns-3 : tie.Need-returns-3
-returns-3 c = header-format (now (c .before .before .before .before .before .args .policy)) (c .before .before .before .if1 .left) (c .before .before .if2 .left) (c .if3 .taken)
+returns-3 c = header-format (c .before .before .before .before .before .args .policy .now) (c .before .before .before .if1 .left) (c .before .before .if2 .left) (c .if3 .taken)
 
-shared-slice-read-count : tie.Need-shared-slice-read-count
-shared-slice-read-count c = search needs
+shared-slice-read-if4 : tie.Need-shared-slice-read-if4
+shared-slice-read-if4 c = search needs
 
 returns-4 : tie.Need-returns-4
-returns-4 c = header-count (now (c .before .before .before .before .before .before .before .args .policy)) (c .before .before .before .before .before .if1 .left) (c .before .before .before .before .if2 .left) (c .before .before .if3 .left) (c .if4 .taken)
+returns-4 c = header-count (c .before .before .before .before .before .before .before .args .policy .now) (c .before .before .before .before .before .if1 .left) (c .before .before .before .before .if2 .left) (c .before .before .if3 .left) (c .if4 .taken)
+
+shared-slice-read-wide : tie.Need-shared-slice-read-wide
+shared-slice-read-wide c = search needs
 
 wide-requires : tie.Need-wide-requires
 wide-requires c κs = search needs
 
-mul-result : tie.Need-mul-result
-mul-result c = search needs
-
-add-result : tie.Need-add-result
-add-result c = search needs
+entry-place-requires : tie.Need-entry-place-requires
+entry-place-requires c κs = search needs
 
 returns-5 : tie.Need-returns-5
-returns-5 c = rw (c .wide .ensures) (header-table (now (c .before .before .before .before .before .before .before .before .args .policy)) (c .before .before .before .before .before .before .if1 .left) (c .before .before .before .before .before .if2 .left) (c .before .before .before .if3 .left) (c .before .if4 .left))
+returns-5 c = header-fits (c .before .before .before .before .before .before .before .before .before .before .args .policy .now) (c .before .before .before .before .before .before .before .before .if1 .left) (c .before .before .before .before .before .before .before .if2 .left) (c .before .before .before .before .before .if3 .left) (c .before .before .before .if4 .left) (c .entry-place .ensures ∙ ap (λ i. entryPlace i) (c .before .wide .ensures))
 
 pub sound-header-spec : {M : Type 1} → statement M
 sound-header-spec =
@@ -42,9 +43,9 @@ sound-header-spec =
     returns-2
     shared-slice-read-if3
     returns-3
-    shared-slice-read-count
+    shared-slice-read-if4
     returns-4
+    shared-slice-read-wide
     wide-requires
-    mul-result
-    add-result
+    entry-place-requires
     returns-5)
