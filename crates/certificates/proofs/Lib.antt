@@ -1,9 +1,9 @@
--- For every crate above: soundness, lists of filings, one name's part. The other laws serve the proofs of the code.
+-- For the crates above: pieces, soundness, lists of filings, one name's part. The other laws serve the proofs of the code.
+pub mod Pieces
 pub mod Sound
 pub mod Filings
 pub mod NameParts
 pub mod NameRows
-mod Pieces
 mod Places
 mod Stores
 mod Words

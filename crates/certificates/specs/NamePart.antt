@@ -12,7 +12,7 @@ use Rattle.certificates.specs.Store.{records, soundStore}
 abbrev pub ofName : ℕ → ℕ → ℕ → List ℕ → Bool
 ofName key name polarity w = eqb (getD w 0 0) key && (eqb (getD w 1 0) name && eqb (getD w 2 0) polarity)
 
--- the words of the name's records, one after the other. That they are a part of the store is what the call's type says.
+-- the words of the name's records, one after the other. That these stand in the store without a gap is shown in proofs/NameParts.antt, `part-words`.
 unfoldable pub namePart : List ℕ → ℕ → ℕ → ℕ → List ℕ
 unfolding soundStore records keep flat
 namePart store key name polarity = elim (soundStore store) [ true ↦ flat (keep (ofName key name polarity) (records store)) | false ↦ [] ]

@@ -1,3 +1,4 @@
+-- Both places lie within the store, in order; the words between them are the name's.
 use borrow.Author.Needs.{needs}
 use native.Mathlib.Omega.{arith}
 use Rattle.certificates.proofs.Stores.{place-room}

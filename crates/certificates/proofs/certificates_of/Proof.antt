@@ -1,3 +1,4 @@
+-- An unsound store has no part, and a sound one that of `certificates_in`.
 use borrow.Author.Needs.{needs}
 use mathlib.Core.Path.{sym, _∙_}
 use borrow.Author.Tests.{not-true, not-false}

@@ -1,3 +1,4 @@
+-- Test by test: `proofs/Replies.antt` says what each makes of the reply and of the store.
 use borrow.Author.Needs.{needs}
 use Prim.Native.Nat.{ℕ}
 use mathlib.Core.Path.{sym, _∙_}

@@ -1,3 +1,4 @@
+-- Test by test: `proofs/Words.antt` says what each makes of `soundRecord`.
 use borrow.Author.Needs.{needs}
 use Prim.Native.Nat.{ℕ}
 use mathlib.Core.Path.{_∙_, ap}

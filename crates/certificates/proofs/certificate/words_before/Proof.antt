@@ -1,3 +1,4 @@
+-- The invariant: what is left of the two lists compares as they do.
 use borrow.Author.Needs.{needs}
 use Prim.Native.Nat.{_≤_, _-_}
 use mathlib.Core.Path.{_≡_, refl, _∙_}

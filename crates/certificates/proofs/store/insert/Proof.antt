@@ -1,3 +1,4 @@
+-- The later records are moved up, then the record is written before them: together one writing.
 use borrow.Author.Needs.{needs}
 use Prim.Native.Nat.{ℕ, _+_, _*_}
 use mathlib.Core.Path.{_∙_, ap}

@@ -1,3 +1,4 @@
+-- The record at its place is not before the certificate, so it is the certificate if it is not past it either.
 use borrow.Author.Needs.{needs}
 use Rattle.certificates.proofs.Stores.{held-here, held-none}
 use Rattle.certificates.proofs.store.is_held.Statement.{statement}

@@ -1,3 +1,4 @@
+-- The invariant: the place lies from low to high. The measure is what lies between them.
 use borrow.Author.Needs.{needs}
 use Prim.Native.Nat.{ℕ, _≤_, _-_}
 use mathlib.Core.Path.{sym, _∙_, ap}

@@ -1,3 +1,4 @@
+-- A part of eight words.
 use borrow.Author.Needs.{needs}
 use Prim.Native.Nat.{_+_, _*_}
 use Rattle.certificates.specs.Certificate.{recordWords}

@@ -1,3 +1,4 @@
+-- Test by test: `proofs/Stores.antt` says what each makes of `soundAt`.
 use borrow.Author.Needs.{needs}
 use mathlib.Core.Path.{sym, _∙_}
 use borrow.Author.Tests.{not-true, not-false}

@@ -1,3 +1,4 @@
+-- The invariant: the records from i on are sound and in order just if the store is sound.
 use borrow.Author.Needs.{needs}
 use Prim.Native.Nat.{_≤_, _-_}
 use mathlib.Core.Path.{_≡_, sym, _∙_}

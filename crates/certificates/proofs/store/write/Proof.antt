@@ -1,3 +1,4 @@
+-- The invariant is that of `rows`: the first j words are written.
 use borrow.Author.Needs.{needs}
 use Prim.Native.Nat.{_-_}
 use mathlib.Core.Path.{refl}
