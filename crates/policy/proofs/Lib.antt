@@ -12,4 +12,5 @@ pub mod CycleAnswers
 pub mod Judging
 pub mod TableAnswers
 pub mod PartAnswers
+pub mod JudgeAnswers
 pub mod Judged

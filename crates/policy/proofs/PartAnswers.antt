@@ -75,13 +75,13 @@ table-sound policy xs e = go (split (soundHeader policy))
 
 -- ---- parts
 
-entry-in : (n : ℕ) (policy : List ℕ) (at d : ℕ) → d < n → getD (entriesFrom n policy at) d noEntry ≡ entryAt policy (at + 4 * d)
+pub entry-in : (n : ℕ) (policy : List ℕ) (at d : ℕ) → d < n → getD (entriesFrom n policy at) d noEntry ≡ entryAt policy (at + 4 * d)
 unfolding entriesFrom
 entry-in zero policy at d h = absurd (omega arith)
 entry-in (suc n) policy at zero h = ap (entryAt policy) (let e : at ≡ at + 4 * 0 = omega arith in e)
 entry-in (suc n) policy at (suc d) h = entry-in n policy (at + 4) d (omega arith) ∙ ap (entryAt policy) (let e : at + 4 + 4 * d ≡ at + 4 * suc d = omega arith in e)
 
-length-entries : (n : ℕ) (policy : List ℕ) (at : ℕ) → length (entriesFrom n policy at) ≡ n
+pub length-entries : (n : ℕ) (policy : List ℕ) (at : ℕ) → length (entriesFrom n policy at) ≡ n
 unfolding entriesFrom
 length-entries zero policy at = refl
 length-entries (suc n) policy at = ap suc (length-entries n policy (at + 4))
@@ -108,7 +108,7 @@ module _ (policy : List ℕ) (number count : ℕ) (sound : table (entriesFrom co
         (ap (λ (y : Entry). inPolicy (y .offset) (y .size)) (sym x)))
 
 -- a part lies inside the policy
-all-at : (P : Entry → Type 0) (xs : List Entry) → All P xs → (i : ℕ) → i < length xs → P (getD xs i noEntry)
+pub all-at : (P : Entry → Type 0) (xs : List Entry) → All P xs → (i : ℕ) → i < length xs → P (getD xs i noEntry)
 unfolding All
 all-at P [] a i h = absurd (omega arith)
 all-at P (x ∷ xs) a zero h = a .0

@@ -3,16 +3,21 @@ use Prim.Native.Nat.{ℕ, zero, suc}
 use mathlib.Core.Bool.{Bool, true, false, not, _&&_, _||_}
 use mathlib.Core.List.{List, [], _∷_, _++_}
 use lib.ListN.{length, getD}
-use Rattle.refusals.specs.Table.{badWord}
-use Rattle.rows.specs.Name.{Polarity, plus, minus}
+use Rattle.refusals.specs.Table.{badWord, noPolarity, openDraw}
+use Rattle.rows.specs.Name.{Polarity, plus, minus, polarityOf}
 use Rattle.policy.specs.Syntax.{Expr, comprehension, Body}
-use Rattle.policy.specs.Decode.{Reader, refuse, Guard, guardAs, body, codeOf, exprAs, expr}
-use Rattle.policy.specs.Polarity.{Known, hasPolarity, openExpr, drawsClosed}
+use Rattle.policy.specs.Decode.{Reader, refuse, Guard, guardAs, body, codeOf, exprAs, expr, Parsed, parsed, unparsed, parse}
+use Rattle.policy.specs.Polarity.{Known, hasPolarity, openExpr, drawsClosed, verdictWord}
+use Rattle.policy.specs.Judgement.{polarized, JudgementReply, verdict, refused}
 use Rattle.policy.specs.Answers.{Answer, found, stopped, keeping}
+use Rattle.policy.specs.declared.Judgement.{Judgement}
+use Rattle.policy.specs.declared.Judgement.the-variants as judgement
 use Rattle.policy.specs.declared.checking.Facts.{Facts}
 use Rattle.policy.specs.declared.checking.Earlier.{Earlier}
 use Rattle.policy.specs.declared.checking.Checking.{Checking}
 use Rattle.policy.specs.declared.checking.Checking.the-variants as checking
+use Rattle.policy.specs.declared.checking.Whole.{Whole}
+use Rattle.policy.specs.declared.checking.Whole.the-variants as whole
 
 unfoldable pub factsOf : List Known → Expr → Facts
 unfolding hasPolarity openExpr drawsClosed
@@ -78,3 +83,37 @@ bodyFacts ks inner c n = keeping (λ b. factsOf ks (comprehension b)) (body inne
 unfoldable pub guardFacts : List Known → (ℕ → Reader Expr) → ℕ → ℕ → Guard → Reader Facts
 unfolding guardAs body
 guardFacts ks inner c n g = keeping (λ b. factsOf ks (comprehension b)) (guardAs inner n (λ m. body inner c m) g)
+
+-- a whole definition or query: its facts, or the refusal's number
+unfoldable pub wholeOf : List Known → Parsed → Whole
+unfolding factsOf
+wholeOf ks (parsed e) = whole.Checked (factsOf ks e)
+wholeOf ks (unparsed n) = whole.Refused n
+
+-- 6 unless it has the polarity asked for, then 7
+unfoldable pub admitOf : Facts → Bool → Whole
+admitOf f false = whole.Refused noPolarity
+admitOf f true = elim (f .«draws_closed») [ true ↦ whole.Checked f | false ↦ whole.Refused openDraw ]
+
+-- whether it has the polarity of this word
+unfoldable pub declaredOf : Facts → ℕ → Bool
+declaredOf f zero = f .plus
+declaredOf f (suc n) = f .minus
+
+-- a definition that declares the polarity of this word
+unfoldable pub definitionParsed : List Known → ℕ → List ℕ → Parsed
+unfolding parse polarized hasPolarity drawsClosed polarityOf
+definitionParsed ks polarity ws = elim (parse (length ks) ws) [
+  | parsed e ↦ polarized (hasPolarity e ks (polarityOf polarity)) (drawsClosed e ks) e
+  | unparsed n ↦ unparsed n
+]
+
+unfoldable pub knownAs : ℕ → Bool → Known
+unfolding polarityOf
+knownAs polarity o = record { declared = polarityOf polarity; isOpen = o }
+
+-- what the code answers with each reply
+unfoldable pub judgementOf : JudgementReply → Judgement
+unfolding verdictWord
+judgementOf (verdict v) = judgement.Verdict (verdictWord v)
+judgementOf (refused n part) = judgement.Refused n part

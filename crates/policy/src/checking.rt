@@ -1,12 +1,14 @@
 // An expression checked in one pass over its words: refusals 3, 4 and 5 at the first word that breaks a rule, and on the way which polarities
 // it has, whether it is open, and whether every draw is from a set that is not.
-ghost use Prim.Native.Nat.{_≤_};
+ghost use Prim.Native.Nat.{_+_, _≤_};
 ghost use mathlib.Core.Path.{_≡_};
 ghost use mathlib.Core.Bool.{_&&_, _||_};
-ghost use lib.ListN.{drop};
-ghost use Rattle.policy.specs.Decode.{isDraw, isAbsent};
+ghost use mathlib.Core.List.{[], _∷_, _++_};
+ghost use lib.ListN.{length, drop};
+ghost use Rattle.policy.specs.Decode.{isDraw, isAbsent, parse};
+ghost use Rattle.policy.specs.Judgement.{checkQuery};
 ghost use Rattle.policy.specs.Answers.{Answers};
-ghost use Rattle.policy.specs.Checks.{unionOf, differenceOf, drawOf, absentOf, knownIn, checkingIs, noneInside, inside, exprFacts, codeFacts, bodyFacts, guardFacts};
+ghost use Rattle.policy.specs.Checks.{unionOf, differenceOf, drawOf, absentOf, knownIn, checkingIs, noneInside, inside, exprFacts, codeFacts, bodyFacts, guardFacts, wholeOf, admitOf, declaredOf, definitionParsed, knownAs};
 use crate::terms::Guard;
 use crate::terms::GuardRead;
 use crate::terms::Passed;
@@ -22,6 +24,10 @@ use crate::terms::word_between;
 const LAST_CODE: u32 = 7;
 
 const LAST_NAME: u32 = 65535;
+
+const MOST_LEVELS: u32 = 15;
+
+const MOST_QUERY_WORDS: usize = 1024;
 
 const MOST_GUARDS: u32 = 8;
 
@@ -421,4 +427,104 @@ fn check_absent(
             },
         },
     }
+}
+
+// A whole definition or query.
+pub enum Whole {
+    Checked(Facts),
+    Refused(u32),
+}
+
+// Its words, and none left over.
+pub fn check_whole(words: &[u32], earlier: Earlier) -> Whole
+    requires { ⌜ earlier .count ≤ 16 ⌝ }
+    ensures { λ r. ⌜ r ≡ wholeOf (knownIn earlier) (parse (length (knownIn earlier)) (now (words .entry))) ⌝ }
+{
+    match check_expr(words, 0, MOST_LEVELS, 0, 0, earlier) {
+        Checking::Refused(n) => Whole::Refused(n),
+        Checking::Found(facts, next, _) => {
+            if next < words.len() {
+                Whole::Refused(refusals::BAD_WORD)
+            } else {
+                Whole::Checked(facts)
+            }
+        }
+    }
+}
+
+// 6 unless it has the polarity asked for, then 7 unless its draws are from closed sets.
+fn admit(facts: Facts, had: bool) -> Whole
+    ensures { λ r. ⌜ r ≡ admitOf facts had ⌝ }
+{
+    if !had {
+        return Whole::Refused(refusals::NO_POLARITY);
+    }
+    if facts.draws_closed {
+        Whole::Checked(facts)
+    } else {
+        Whole::Refused(refusals::OPEN_DRAW)
+    }
+}
+
+fn declared(facts: Facts, polarity: u32) -> bool
+    ensures { λ r. ⌜ r ≡ declaredOf facts polarity ⌝ }
+{
+    if polarity == 0 {
+        facts.plus
+    } else {
+        facts.minus
+    }
+}
+
+// A definition's words, with the polarity that it declares.
+pub fn judge_definition(words: &[u32], polarity: u32, earlier: Earlier) -> Whole
+    requires { ⌜ earlier .count ≤ 16 ⌝ }
+    ensures { λ r. ⌜ r ≡ wholeOf (knownIn earlier) (definitionParsed (knownIn earlier) polarity (now (words .entry))) ⌝ }
+{
+    match check_whole(words, earlier) {
+        Whole::Refused(n) => Whole::Refused(n),
+        Whole::Checked(facts) => admit(facts, declared(facts, polarity)),
+    }
+}
+
+// A query's words: 1 to 1,024 of them.
+pub fn judge_query(words: &[u32], earlier: Earlier) -> Whole
+    requires { ⌜ earlier .count ≤ 16 ⌝ }
+    ensures { λ r. ⌜ r ≡ wholeOf (knownIn earlier) (checkQuery (knownIn earlier) (now (words .entry))) ⌝ }
+{
+    if words.len() == 0 {
+        return Whole::Refused(refusals::BAD_WORD);
+    }
+    if MOST_QUERY_WORDS < words.len() {
+        return Whole::Refused(refusals::BAD_WORD);
+    }
+    match check_whole(words, earlier) {
+        Whole::Refused(n) => Whole::Refused(n),
+        Whole::Checked(facts) => admit(facts, either(facts.plus, facts.minus)),
+    }
+}
+
+// Before any definition.
+pub fn none_earlier() -> Earlier
+    ensures { λ r. ⌜ (r .count ≡ 0) × (knownIn r ≡ []) ⌝ }
+{
+    Earlier {
+        count: 0,
+        minus: [false; 16],
+        open: [false; 16],
+    }
+}
+
+// One definition more.
+pub fn with_definition(earlier: Earlier, polarity: u32, open: bool) -> Earlier
+    requires { ⌜ earlier .count ≤ 15 ⌝ }
+    ensures { λ r. ⌜ (r .count ≡ earlier .count + 1) × (knownIn r ≡ knownIn earlier ++ (knownAs polarity «open» ∷ [])) ⌝ }
+{
+    let n = earlier.count;
+    let i = n as usize;
+    let mut next = earlier;
+    next.minus[i] = polarity != 0;
+    next.open[i] = open;
+    next.count = n + 1;
+    next
 }

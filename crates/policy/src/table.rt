@@ -2,7 +2,7 @@
 ghost use Prim.Native.Nat.{_+_, _*_, _≤_};
 ghost use mathlib.Core.Path.{_≡_};
 ghost use lib.ListN.{length};
-ghost use Rattle.policy.specs.Table.{entryAt, named, soundEntry, soundHeader, readTable};
+ghost use Rattle.policy.specs.Table.{entryAt, entryWords, named, soundEntry, soundHeader, readTable};
 ghost use Rattle.policy.specs.Entries.{entryPlace, entriesBefore, tableIs};
 
 const FORMAT: u32 = 1;
@@ -118,4 +118,16 @@ pub fn read_table(policy: &[u32]) -> TableRead
     } else {
         TableRead::Refused(refusals::BAD_TABLE)
     }
+}
+
+// The words of definition `i`: a part of the policy.
+pub fn definition_words<'a>(policy: &'a [u32], i: usize) -> &'a [u32]
+    requires { ⌜ (i ≤ 15) × (entryPlace i + 4 ≤ length (now policy)) × (entryAt (now policy) (entryPlace i) .offset + entryAt (now policy) (entryPlace i) .size ≤ length (now policy)) ⌝ }
+    ensures { λ r. ⌜ now r ≡ entryWords (now (policy .entry)) (entryAt (now (policy .entry)) (entryPlace i)) ⌝ }
+{
+    let at = entry_place(i);
+    let start = wide(policy[at + 2]);
+    let size = wide(policy[at + 3]);
+    let end = start + size;
+    &policy[start..end]
 }

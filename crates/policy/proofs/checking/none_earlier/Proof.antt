@@ -1,0 +1,11 @@
+use mathlib.Core.Path.{refl}
+use Rattle.policy.specs.Checks.{knownUpTo, knownIn}
+use Rattle.policy.proofs.checking.none_earlier.Statement.{statement}
+use Rattle.policy.proofs.checking.none_earlier.Tie as tie
+
+returns : tie.Need-returns
+unfolding knownIn knownUpTo
+returns c = (refl, refl)
+
+pub none-earlier-spec : {M : Type 1} → statement M
+none-earlier-spec = tie.close (tie.spec returns)
