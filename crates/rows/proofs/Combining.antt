@@ -14,7 +14,8 @@ use Rattle.rows.specs.Ordered.{join, common, without, ascending}
 use Rattle.rows.specs.Row.{Row, rowBefore}
 use Rattle.rows.specs.Sets.{RowSet, only, allBut, listing, mostRows, unite, subtract}
 use Rattle.rows.specs.Layout.{rowWords, rowIn, laid, pieces, every, soundRow, formWord, setWords, written, put, rowsIn, formed, setIn, soundSet}
-use Rattle.rows.specs.Values.{roomAt, Apart, Rooms, picked, leftBy, Combined}
+use Rattle.rows.specs.Values.{leftBy, Combined}
+use Rattle.rows.specs.Private.{roomAt, Apart, Rooms, picked}
 use Rattle.rows.proofs.Case.{Case, isTrue, isFalse, split, never}
 use Rattle.rows.proofs.Order.{row-order}
 use Rattle.rows.proofs.Ordered.{Ascending}

@@ -12,7 +12,8 @@ use Rattle.rows.specs.Ordered.{lists, keep, common, without}
 use Rattle.rows.specs.Row.{Row, rowBefore}
 use Rattle.rows.specs.Sets.{RowSet, listing}
 use Rattle.rows.specs.Layout.{rowWords, rowIn, fiveAt, flat, laid, formWord, setWords, put, rowsIn, formed, soundSet}
-use Rattle.rows.specs.Values.{wordsOf, rowOf, roomAt, Apart, Rooms, Passed, Sought, keeps, picked}
+use Rattle.rows.specs.Values.{wordsOf, rowOf}
+use Rattle.rows.specs.Private.{roomAt, Apart, Rooms, Passed, Sought, keeps, picked}
 use Rattle.rows.specs.declared.row.Row as Held
 use Rattle.rows.specs.declared.combine.Place as Place
 use Rattle.rows.proofs.Case.{Case, isTrue, isFalse, split, never}

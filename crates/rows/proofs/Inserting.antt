@@ -11,7 +11,8 @@ use Rattle.rows.specs.Ordered.{_∈_, lists, insert}
 use Rattle.rows.specs.Row.{Row, rowBefore}
 use Rattle.rows.specs.Sets.{RowSet, listing, mostRows}
 use Rattle.rows.specs.Layout.{rowsIn, formed, setIn, soundSet, written}
-use Rattle.rows.specs.Values.{Finds, insertion, afterInsert}
+use Rattle.rows.specs.Values.{insertion, afterInsert}
+use Rattle.rows.specs.Private.{Finds}
 use Rattle.rows.specs.declared.set.Found as Found
 use Rattle.rows.specs.declared.set.Found.the-variants.{At, Missing}
 use Rattle.rows.specs.declared.set.Inserted as Inserted

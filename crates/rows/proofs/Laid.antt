@@ -13,7 +13,7 @@ use Rattle.rows.specs.Sets.{RowSet, listing}
 use Rattle.rows.specs.Layout.{rowWords, rowIn, fiveAt, flat, laid, pieces, formWord, setWords, written, put, rowsIn, formed, setIn, soundSet}
 use Rattle.rows.proofs.LayoutLaws.{flat-length, row-length, Sized, listing-in, sound-rows, rows-count, formed-word, formed-listing, sound-length, sound-written, true-sound, row-written, piece-sound, row-at}
 use Rattle.rows.proofs.RowLaws.{five-length}
-use Rattle.rows.proofs.Put.{put-length, put-before, put-then-after, put-then-before, put-less, put-itself, Writing, writing-next, writing-end}
+use Rattle.rows.proofs.Put.{put-length, put-before, put-then-after, put-then-before, put-less, put-none, put-itself, Writing, writing-next, writing-end}
 use Rattle.rows.proofs.SetWords.{Size, size}
 
 pub drop-take : (a b : ℕ) (ws : List ℕ) → drop a (take (a + b) ws) ≡ take b (drop a ws)
@@ -124,6 +124,16 @@ module _ (S : RowSet) (area : List ℕ) (room : 2 + length (laid (listing S)) �
       let p : getD (put 2 (laid (listing S)) area) 0 0 ≡ getD area 0 0 = put-before 2 (laid (listing S)) area room 0 (omega arith) in
       let q : getD now 0 0 ≡ formWord S = getD-set-other (put 2 (laid (listing S)) area) 1 0 (length (listing S)) 0 (omega arith) ∙ p ∙ sym e in
       sym (set-getD now 0 0) ∙ ap (set now 0) q ∙ written-new
+
+pub written-empty : (n : ℕ) (area : List ℕ) → n ≤ 1 → 2 ≤ length area → set (set area 1 0) 0 n ≡ written (formed n []) area
+unfolding flat
+written-empty n area h room =
+    let S : RowSet = formed n [] in
+    let l : listing (formed n []) ≡ [] = formed-listing n [] in
+    let e : put 2 (laid (listing (formed n []))) area ≡ area = ap (λ (xs : List Row). put 2 (laid xs) area) l ∙ put-none 2 area in
+    ap (λ (m : List ℕ). set (set m 1 0) 0 n) (sym e) ∙ ap (λ (k : ℕ). set (set (put 2 (laid (listing (formed n []))) area) 1 k) 0 n) (sym (ap length l))
+    ∙ ap (set (set (put 2 (laid (listing (formed n []))) area) 1 (length (listing (formed n [])))) 0) (sym (formed-word n [] h))
+    ∙ written-new S area (omega (arith, ap (λ (xs : List Row). length (laid xs)) l))
 
 -- ---- a row put in among those of a sound set
 

@@ -11,7 +11,8 @@ use Rattle.rows.specs.Word.{All}
 use Rattle.rows.specs.Ordered.{_∈_, join}
 use Rattle.rows.specs.Row.{Row, rowBefore}
 use Rattle.rows.specs.Layout.{rowWords, rowIn, fiveAt, flat, laid, put, rowsIn, soundSet}
-use Rattle.rows.specs.Values.{orderOf, lastOrder, roomAt, Rooms}
+use Rattle.rows.specs.Values.{orderOf}
+use Rattle.rows.specs.Private.{lastOrder, roomAt, Rooms}
 use Rattle.rows.specs.declared.row.Order as Order
 use Rattle.rows.specs.declared.row.Order.the-variants.{Before, Same, After}
 use Rattle.rows.proofs.Order.{row-order}

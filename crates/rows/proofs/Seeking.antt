@@ -6,7 +6,7 @@ use mathlib.Core.List.{List, [], _∷_}
 use native.Mathlib.Omega.{arith}
 use lib.ListN.{length, getD}
 use Rattle.rows.specs.Row.{Row, rowBefore}
-use Rattle.rows.specs.Values.{Passed, Sought}
+use Rattle.rows.specs.Private.{Passed, Sought}
 use Rattle.rows.specs.declared.combine.Place as Place
 use Rattle.rows.proofs.Order.{row-order}
 use Rattle.rows.proofs.Ordered.{Ascending}

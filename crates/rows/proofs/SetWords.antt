@@ -10,7 +10,8 @@ use Rattle.rows.specs.Ordered.{lists, insert}
 use Rattle.rows.specs.Sets.{RowSet, only, allBut, listing, has, mostRows}
 use Rattle.rows.specs.Row.{Row, rowBefore}
 use Rattle.rows.specs.Layout.{rowIn, fiveAt, soundRow, pieces, every, rowsIn, formed, setIn, soundSet}
-use Rattle.rows.specs.Values.{wordsOf, rowOf, orderOf, Finds}
+use Rattle.rows.specs.Values.{wordsOf, rowOf, orderOf}
+use Rattle.rows.specs.Private.{Finds}
 use Rattle.rows.specs.declared.row.Row as Held
 use Rattle.rows.specs.declared.row.Order as Order
 use Rattle.rows.specs.declared.row.Order.the-variants.{Before, Same, After}

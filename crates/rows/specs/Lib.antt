@@ -5,3 +5,4 @@ pub mod Name
 pub mod Sets
 pub mod Layout
 pub mod Values
+pub mod Private

@@ -9,7 +9,8 @@ ghost use Rattle.rows.specs.Row.{rowBefore};
 ghost use Rattle.rows.specs.Sets.{only, mostRows, unite, subtract};
 ghost use lib.Dec.{leb};
 ghost use Rattle.rows.specs.Layout.{rowIn, fiveAt, laid, rowsIn, formed, setIn, setWords, soundSet, written, put};
-ghost use Rattle.rows.specs.Values.{rowOf, lastOrder, roomAt, Rooms, Passed, Sought, keeps, picked, leftBy, Combined};
+ghost use Rattle.rows.specs.Values.{rowOf, leftBy, Combined};
+ghost use Rattle.rows.specs.Private.{lastOrder, roomAt, Rooms, Passed, Sought, keeps, picked};
 use crate::row::Order;
 use crate::row::Row;
 use crate::row::compare;
@@ -46,6 +47,7 @@ fn seek(set: &[u32], row: Row, start: usize) -> Place
     }
 }
 
+// Is a row that was found among the other's, or not, one to keep?
 fn keeps(listed: bool, found: bool) -> bool
     ensures { λ r. ⌜ r ≡ keeps listed found ⌝ }
 {

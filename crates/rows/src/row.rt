@@ -28,6 +28,7 @@ pub fn load(words: &[u32], at: usize) -> Row
     }
 }
 
+// A word as a number of rows or words.
 pub fn wide(x: u32) -> usize
     ensures { λ r. ⌜ r ≡ x ⌝ }
 {

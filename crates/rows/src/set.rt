@@ -1,14 +1,15 @@
 // A set in words: form, count, then five words a row.
 ghost use mathlib.Core.Path.{_≡_};
 ghost use mathlib.Core.Bool.{true};
-ghost use mathlib.Core.List.{_∷_, _++_};
+ghost use mathlib.Core.List.{[], _∷_, _++_};
 ghost use Prim.Native.Nat.{_+_, _*_, _≤_, _<_};
 ghost use Rattle.rows.specs.Sets.{has};
 ghost use lib.ListN.{length, getD, take, drop};
 ghost use Rattle.rows.specs.Ordered.{ascending};
 ghost use Rattle.rows.specs.Row.{rowBefore};
 ghost use Rattle.rows.specs.Layout.{pieces, every, soundRow, rowsIn, formed, setIn, soundSet, written};
-ghost use Rattle.rows.specs.Values.{rowOf, Finds, insertion, afterInsert};
+ghost use Rattle.rows.specs.Values.{rowOf, insertion, afterInsert};
+ghost use Rattle.rows.specs.Private.{Finds};
 use crate::row;
 use crate::row::Order;
 use crate::row::Row;
@@ -113,6 +114,15 @@ pub fn has(set: &[u32], row: Row) -> bool
         Found::At(_) => finite,
         Found::Missing(_) => !finite,
     }
+}
+
+// Starts a set of a form, with no rows listed.
+pub fn clear(set: &mut [u32], form: u32)
+    requires { ⌜ (2 ≤ length (now set)) × (form ≤ 1) ⌝ }
+    ensures { λ _. ⌜ now (set .exit) ≡ written (formed form []) (now (set .entry)) ⌝ }
+{
+    set[1] = 0;
+    set[0] = form;
 }
 
 // Puts a row in at place `i`: the later ones move up by five words.

@@ -5,7 +5,7 @@ use mathlib.Core.List.{List, []}
 use mathlib.Core.Bool.{Bool}
 use native.Mathlib.Omega.{arith}
 use lib.ListN.{length, length-set}
-use Rattle.rows.specs.Values.{keeps}
+use Rattle.rows.specs.Private.{keeps}
 use Rattle.rows.proofs.Filtering.{Filtered, filter-start, filter-left, filter-kept, filter-end, numbers, seek-ready, sought-here}
 use borrow.Author.Needs.{needs}
 use Rattle.rows.proofs.combine.filter.Statement.{statement}
