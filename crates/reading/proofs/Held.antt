@@ -16,6 +16,7 @@ use Rattle.reading.specs.declared.values.Env.{Env}
 use Rattle.reading.specs.declared.values.Term as Held-term
 use Rattle.reading.specs.declared.values.Term.the-variants.{Atom, Variable}
 use Rattle.reading.specs.declared.values.Slot.the-variants.{Old, New}
+use Rattle.reading.specs.declared.values.Guard as Held-guard
 use Rattle.reading.specs.declared.values.Guard.the-variants.{Draw, Same, Different, Absent}
 
 -- ---- values
@@ -85,6 +86,9 @@ module _ {ws : List ℕ} {at : ℕ} where
       go : (n : ℕ) (s : Slot) (p : List Slot) → At ws at (slotWords n (s ∷ p)) → Old x ≡ slotHeld s
       go n (old t) p h = ap Old (i .is t (at-front (termWords t) (slotWords n p) h))
       go n new p h = absurd (z (at-word h))
+
+  pub guard-told : {g h : Held-guard.Guard} → IsGuard ws at g → g ≡ h → IsGuard ws at h
+  guard-told i e = subst (IsGuard ws at) e i
 
   pub guard-inside : SomeGuard ws at → at < length ws
   guard-inside s = omega (arith, body-some (s .b) (s .n), at-long (body-some (s .b) (s .n)) (s .words))

@@ -13,7 +13,7 @@ use Rattle.rows.specs.Name.{Polarity, polarityWord}
 use Rattle.policy.specs.Syntax.{Term, Slot, Expr, finite, cofinite, definition, listed, union, difference, comprehension, Body, head, draw, same, different, absent}
 use Rattle.policy.specs.Words.{termWords, each, termRowWords, slotWords, fresh, guardCount, exprWords, bodyWords}
 use Rattle.policy.specs.WellFormed.{FitRow}
-use Rattle.reading.specs.Places.{At, literalWords, patternWords, StandsRow, StandsRows, StandsPattern, Stands, StandsBody, StandsTwo, StandsDraw, StandsAbsent, SomeRow, SomeRows, SomePattern, SomeExpr, SomeBody, PastRow, PastRows, PastPattern, PastExpr, PastBody}
+use Rattle.reading.specs.Places.{At, literalWords, patternWords, StandsRow, StandsRows, StandsPattern, Stands, StandsBody, StandsTwo, StandsDraw, StandsAbsent, SomeRow, SomeRows, SomeName, SomePattern, SomeExpr, SomeBody, PastRow, PastRows, PastPattern, PastExpr, PastBody}
 use Rattle.reading.proofs.Places.{at-word, at-next, at-skip, at-front, at-long, term-length, row-length, slots-length, on-finite, on-cofinite, on-definition, on-listed, on-union, on-difference, on-comprehension, in-finite, in-cofinite, in-definition, in-listed, in-union, in-difference, in-comprehension, in-head, in-draw, in-same, in-different, in-absent, on-head, on-draw, on-absent, code-here, inside, inside-body, row-wide, pattern-wide}
 use Rattle.reading.proofs.Held.{is-draw, is-absent}
 
@@ -199,6 +199,9 @@ module _ {ws : List ℕ} {at : ℕ} where
   pub past-definition : getD ws at 0 ≡ 3 → PastExpr ws at (at + 2)
   unfolding exprWords
   past-definition c = record { past = λ m n e s. on-definition (λ x. at + 2 ≡ at + length (exprWords x n)) s c (λ d. refl) }
+
+  pub some-name : SomeExpr ws at → getD ws at 0 ≡ 4 → SomeName ws (at + 1)
+  some-name x c = on-listed (λ e. Stands (x .m) (x .n) ws at e → SomeName ws (at + 1)) (x .here) c (λ t k p s. record { t = t; m = k; p = p; words = in-listed s }) (x .here)
 
   pub name-inside : SomeExpr ws at → getD ws at 0 ≡ 4 → at + 5 ≤ length ws
   name-inside x c =

@@ -1,2 +1,4 @@
 pub mod Values
 pub mod Places
+pub mod Areas
+pub mod Readers

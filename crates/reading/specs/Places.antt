@@ -78,6 +78,12 @@ pub record SomeRows (ws : List ℕ) (at : ℕ) : Type 0 where
   pub rs : List (List Term)
   pub here : StandsRows n ws at rs
 
+pub record SomeName (ws : List ℕ) (at : ℕ) : Type 0 where
+  pub t : Term
+  pub m : ℕ
+  pub p : Polarity
+  pub words : At ws at (nameWords t m p)
+
 pub record SomePattern (n : ℕ) (ws : List ℕ) (at : ℕ) : Type 0 where
   pub p : List Slot
   pub here : StandsPattern n ws at p

@@ -1,0 +1,263 @@
+-- The reader of guards, guard by guard, and that of an absent guard.
+use Prim.Native.Nat.{ℕ, zero, suc, _+_, _-_, _*_, _≤_, _<_}
+use mathlib.Core.Path.{_≡_, refl, sym, ap, subst, _∙_}
+use mathlib.Core.Bool.{Bool, true, false}
+use mathlib.Core.List.{List, [], _∷_}
+use native.Mathlib.Omega.{arith}
+use lib.Dec.{eqb}
+use lib.ListN.{length, take, drop, getD}
+use borrow.Author.Tests.{eq-eqb, ne-eqb}
+use Rattle.rows.specs.Row.{Row}
+use Rattle.rows.specs.Sets.{RowSet, has}
+use Rattle.rows.specs.Layout.{rowsIn, setIn}
+use Rattle.rows.proofs.Case.{never}
+use Rattle.policy.specs.Syntax.{Term, Slot, Expr, Body, draw, same, different, absent}
+use Rattle.policy.specs.Words.{guardCount, termRowWords, exprWords}
+use Rattle.meaning.specs.Values.{value, rowOf}
+use Rattle.meaning.specs.Reading.{Answer, done, refused, Reading, read, gather}
+use Rattle.meaning.proofs.Steps.{either}
+use Rattle.reading.specs.Values.{valuesOf, termOf}
+use Rattle.reading.specs.Places.{Stands, StandsRow, StandsBody, StandsDraw, StandsAbsent, SomeRow, SomeExpr, SomeGuard, PastRow, PastExpr, IsGuard}
+use Rattle.reading.specs.Areas.{Filled, Gathering, Kept, roomOf, bodyRoom}
+use Rattle.reading.specs.Readers.{setAnswer, rowsAnswer, IfDone, From, reading, gathering, Means, MeansBody, AskExpr, AskGuards, AskBody, AskDraw, AskAbsent, SayExpr, SayBody, SayDraw, SayAbsent, SayHead, SayHas}
+use Rattle.reading.proofs.Places.{on-head, on-draw, on-same, on-different, on-absent, in-head, in-draw, in-same, in-different, in-absent, expr-some, row-length}
+use Rattle.reading.proofs.Held.{held-value}
+use Rattle.reading.proofs.Past.{operand-here, over-is, over-here}
+use Rattle.reading.proofs.Areas.{SameFront, rows-same, gathering-same, kept-self, kept-then, givenBack, back-length, back-part, back-front, back-kept, part-whole}
+use Rattle.reading.proofs.Exprs.{after-done, after-refused, done-means, refused-means, done-filled, some-room}
+use Rattle.reading.specs.declared.values.Env.{Env}
+use Rattle.reading.specs.declared.values.Read.{Read}
+use Rattle.reading.specs.declared.values.Read.the-variants.{Done, Refused}
+use Rattle.reading.specs.declared.values.Term as Held-term
+use Rattle.reading.specs.declared.values.Guard.the-variants.{Draw, Same, Different, Absent}
+
+-- ---- a step that is one of two
+
+first-of : (b : Bool) (m n : Reading (List Row)) (k : ℕ) (a : Answer (List Row)) → b ≡ true → m k ≡ a → either b m n k ≡ a
+first-of true m n k a e h = h
+first-of false m n k a e h = never e refl
+
+second-of : (b : Bool) (m n : Reading (List Row)) (k : ℕ) (a : Answer (List Row)) → b ≡ false → n k ≡ a → either b m n k ≡ a
+second-of true m n k a e h = never refl e
+second-of false m n k a e h = h
+
+-- ---- what the callees are asked
+
+module _ {f : From} {ws : List ℕ} {at left : ℕ} {env : Env} {area : List ℕ} {free : ℕ} (q : AskBody f ws at left env area free) where
+  pub some-head : left ≡ 0 → SomeRow ws at
+  some-head z = on-head (λ b. StandsBody (f .known) (env .count) ws at left b → SomeRow ws at) (q .here) z (λ ts s. record { n = env .count; ts = ts; here = in-head s }) (q .here)
+
+  module _ (z : left ≡ 0 → ⊥) where
+    pub some-guard : SomeGuard ws at
+    some-guard =
+        let c = q .here .count in
+        let h : (guardCount (q .b) ≡ 0 → ⊥) = λ e. z (sym c ∙ e) in
+        record { n = env .count; b = q .b; some = omega arith; words = q .here .words }
+
+    pub ask-draw : IsGuard ws at Draw → AskDraw f ws (at + 1) (left - 1) env area free
+    unfolding roomOf
+    ask-draw i =
+        on-draw (λ b. StandsBody (f .known) (env .count) ws at left b → free + 642 * bodyRoom b ≤ length area → AskDraw f ws (at + 1) (left - 1) env area free) (q .here) z i
+        (λ e p b s r. record { ask = q .ask; e = e; p = p; b = b; here = in-draw s; room = omega arith; rest = omega arith }) (q .here) (q .room)
+
+    pub ask-absent : IsGuard ws at Absent → AskAbsent f ws (at + 1) (left - 1) env area free
+    unfolding roomOf
+    ask-absent i =
+        on-absent (λ b. StandsBody (f .known) (env .count) ws at left b → free + 642 * bodyRoom b ≤ length area → AskAbsent f ws (at + 1) (left - 1) env area free) (q .here) z i
+        (λ r e b s h. record { ask = q .ask; r = r; e = e; b = b; here = in-absent s; room = omega arith; rest = omega arith }) (q .here) (q .room)
+
+    pub ask-same : (x y : Held-term.Term) → IsGuard ws at (Same x y) → AskBody f ws (at + 5) (left - 1) env area free
+    unfolding roomOf
+    ask-same x y i =
+        on-same (λ b. StandsBody (f .known) (env .count) ws at left b → free + 642 * bodyRoom b ≤ length area → AskBody f ws (at + 5) (left - 1) env area free) (q .here) z x y i
+        (λ u v b d e s r. record { ask = q .ask; b = b; here = in-same s; room = r }) (q .here) (q .room)
+
+    pub ask-different : (x y : Held-term.Term) → IsGuard ws at (Different x y) → AskBody f ws (at + 5) (left - 1) env area free
+    unfolding roomOf
+    ask-different x y i =
+        on-different (λ b. StandsBody (f .known) (env .count) ws at left b → free + 642 * bodyRoom b ≤ length area → AskBody f ws (at + 5) (left - 1) env area free) (q .here) z x y i
+        (λ u v b d e s r. record { ask = q .ask; b = b; here = in-different s; room = r }) (q .here) (q .room)
+
+-- ---- what is said, guard by guard
+
+module _ {f : From} {ws : List ℕ} {at left : ℕ} {env : Env} {k free : ℕ} {entry : List ℕ} {r : Read} {area : List ℕ} where
+  pub say-head : left ≡ 0 → SayHead ws at env k entry r area → SayBody f ws at left env k free entry r area
+  unfolding read
+  say-head z g = record {
+    gathering = g .gathering;
+    kept = g .kept free;
+    means = record {
+      says = λ b s.
+          on-head (λ x. StandsBody (f .known) (env .count) ws at left x → gathering f x (valuesOf env) (rowsIn entry) k ≡ rowsAnswer r area) s z (λ ts h. g .means (env .count) ts (in-head h)) s;
+    };
+  }
+
+  module _ (z : left ≡ 0 → ⊥) where
+    pub say-draw : IsGuard ws at Draw → SayDraw f ws (at + 1) (left - 1) env k free entry r area → SayBody f ws at left env k free entry r area
+    say-draw i g = record {
+      gathering = g .gathering;
+      kept = g .kept;
+      means = record {
+        says = λ b s.
+            on-draw (λ x. StandsBody (f .known) (env .count) ws at left x → gathering f x (valuesOf env) (rowsIn entry) k ≡ rowsAnswer r area) s z i (λ e p c h. g .means .says e p c (in-draw h)) s;
+      };
+    }
+
+    pub say-absent : IsGuard ws at Absent → SayAbsent f ws (at + 1) (left - 1) env k free entry r area → SayBody f ws at left env k free entry r area
+    say-absent i g = record {
+      gathering = g .gathering;
+      kept = g .kept;
+      means = record {
+        says = λ b s.
+            on-absent (λ x. StandsBody (f .known) (env .count) ws at left x → gathering f x (valuesOf env) (rowsIn entry) k ≡ rowsAnswer r area) s z i (λ t e c h. g .means .says t e c (in-absent h)) s;
+      };
+    }
+
+    module _ {x y : Held-term.Term} where
+      pub say-same : IsGuard ws at (Same x y) → value (valuesOf env) (termOf x) ≡ value (valuesOf env) (termOf y) → SayBody f ws (at + 5) (left - 1) env k free entry r area → SayBody f ws at left env k free entry r area
+      unfolding read
+      say-same i e g = record {
+        gathering = g .gathering;
+        kept = g .kept;
+        means = record {
+          says = λ b s.
+              on-same (λ c. StandsBody (f .known) (env .count) ws at left c → gathering f c (valuesOf env) (rowsIn entry) k ≡ rowsAnswer r area) s z x y i
+              (λ u v c d h t.
+              let same-values : value (valuesOf env) u ≡ value (valuesOf env) v = sym (held-value (valuesOf env) u d) ∙ e ∙ held-value (valuesOf env) v h in
+              first-of (eqb (value (valuesOf env) u) (value (valuesOf env) v)) (gathering f c (valuesOf env) (rowsIn entry)) (λ j. done (rowsIn entry) j) k (rowsAnswer r area) (eq-eqb _ _ same-values) (g .means .says c (in-same t))) s;
+        };
+      }
+
+      pub say-different : IsGuard ws at (Different x y) → (value (valuesOf env) (termOf x) ≡ value (valuesOf env) (termOf y) → ⊥) → SayBody f ws (at + 5) (left - 1) env k free entry r area → SayBody f ws at left env k free entry r area
+      unfolding read
+      say-different i e g = record {
+        gathering = g .gathering;
+        kept = g .kept;
+        means = record {
+          says = λ b s.
+              on-different (λ c. StandsBody (f .known) (env .count) ws at left c → gathering f c (valuesOf env) (rowsIn entry) k ≡ rowsAnswer r area) s z x y i
+              (λ u v c d h t.
+              let differ : (value (valuesOf env) u ≡ value (valuesOf env) v → ⊥) = λ w. e (held-value (valuesOf env) u d ∙ w ∙ sym (held-value (valuesOf env) v h)) in
+              second-of (eqb (value (valuesOf env) u) (value (valuesOf env) v)) (λ j. done (rowsIn entry) j) (gathering f c (valuesOf env) (rowsIn entry)) k (rowsAnswer r area) (ne-eqb _ _ differ) (g .means .says c (in-different t))) s;
+        };
+      }
+
+-- a test that fails: the rows found so far are left as they are
+module _ {f : From} {ws : List ℕ} {at left : ℕ} {env : Env} {k free : ℕ} {area : List ℕ} (z : left ≡ 0 → ⊥) (g : Gathering area) {x y : Held-term.Term} where
+  pub same-fails : IsGuard ws at (Same x y) → (value (valuesOf env) (termOf x) ≡ value (valuesOf env) (termOf y) → ⊥) → SayBody f ws at left env k free area (Done k) area
+  unfolding read IfDone rowsAnswer
+  same-fails i e = record {
+    gathering = g;
+    kept = kept-self;
+    means = record {
+      says = λ b s.
+          on-same (λ c. StandsBody (f .known) (env .count) ws at left c → gathering f c (valuesOf env) (rowsIn area) k ≡ done (rowsIn area) k) s z x y i
+          (λ u v c d h t.
+          let differ : (value (valuesOf env) u ≡ value (valuesOf env) v → ⊥) = λ w. e (held-value (valuesOf env) u d ∙ w ∙ sym (held-value (valuesOf env) v h)) in
+          second-of (eqb (value (valuesOf env) u) (value (valuesOf env) v)) (gathering f c (valuesOf env) (rowsIn area)) (λ j. done (rowsIn area) j) k (done (rowsIn area) k) (ne-eqb _ _ differ) refl) s;
+    };
+  }
+
+  pub different-fails : IsGuard ws at (Different x y) → value (valuesOf env) (termOf x) ≡ value (valuesOf env) (termOf y) → SayBody f ws at left env k free area (Done k) area
+  unfolding read IfDone rowsAnswer
+  different-fails i e = record {
+    gathering = g;
+    kept = kept-self;
+    means = record {
+      says = λ b s.
+          on-different (λ c. StandsBody (f .known) (env .count) ws at left c → gathering f c (valuesOf env) (rowsIn area) k ≡ done (rowsIn area) k) s z x y i
+          (λ u v c d h t.
+          let same-values : value (valuesOf env) u ≡ value (valuesOf env) v = sym (held-value (valuesOf env) u d) ∙ e ∙ held-value (valuesOf env) v h in
+          first-of (eqb (value (valuesOf env) u) (value (valuesOf env) v)) (λ j. done (rowsIn area) j) (gathering f c (valuesOf env) (rowsIn area)) k (done (rowsIn area) k) (eq-eqb _ _ same-values) refl) s;
+    };
+  }
+
+-- ---- an operand that was read into the area from `free` on, and the area given back
+
+pub record Operand (f : From) (ws : List ℕ) (at : ℕ) (env : Env) (k : ℕ) (area : List ℕ) (free : ℕ) (back : List ℕ) (j : ℕ) : Type 0 where
+  pub size : length back ≡ length area
+  pub front : SameFront area back
+  pub kept : Kept free area back
+  pub filled : Filled (drop free back)
+  pub means : Means f ws at env k (done (setIn (drop free back)) j)
+
+module _ (area : List ℕ) (free : ℕ) (ys : List ℕ) (inside : free ≤ length area) (behind : 642 ≤ free) (size : length ys ≡ length (take (length area - free) (drop free area))) where
+  pub operand : {f : From} {ws : List ℕ} {at : ℕ} {env : Env} {k : ℕ} {r : Read} {j : ℕ} → SayExpr f ws at env k r ys → r ≡ Done j → Operand f ws at env k area free (givenBack area free ys inside size) j
+  operand {f} {ws} {at} {env} {k} {r} {j} s e =
+      let b : drop free (givenBack area free ys inside size) ≡ ys = back-part area free ys inside size in
+      record {
+        size = back-length area free ys inside size;
+        front = back-front area free ys inside size behind;
+        kept = back-kept area free ys inside size;
+        filled = subst Filled (sym b) (done-filled s e);
+        means = subst (λ (l : List ℕ). Means f ws at env k (done (setIn l) j)) (sym b) (done-means s e);
+      }
+
+-- the rows gathered are still there
+pub operand-rows : {f : From} {ws : List ℕ} {at : ℕ} {env : Env} {k : ℕ} {area : List ℕ} {free : ℕ} {back : List ℕ} {j : ℕ} → Operand f ws at env k area free back j → Gathering area → rowsIn back ≡ rowsIn area
+operand-rows o g = rows-same (o .front) (g .filled .sound)
+
+-- ---- an absent guard
+
+-- the set lent to the test is all of the area from `free` on
+pub has-told : {ws : List ℕ} {at : ℕ} {env : Env} (free : ℕ) (back : List ℕ) {r b : Bool} → SayHas ws at env (take (length back - free) (drop free back)) r → r ≡ b → SayHas ws at env (drop free back) b
+has-told {ws} {at} {env} free back {r} s e =
+    subst (λ (b : Bool). SayHas ws at env (drop free back) b) e (subst (λ (l : List ℕ). SayHas ws at env l r) (part-whole free back) s)
+
+module _ {f : From} {ws : List ℕ} {at left : ℕ} {env : Env} {area : List ℕ} {free : ℕ} (q : AskAbsent f ws at left env area free) where
+  pub absent-row : SomeRow ws at
+  absent-row = record { n = env .count; ts = q .r; here = q .here .row }
+
+  pub absent-room : free + 642 ≤ length area
+  absent-room = let r = q .room in omega (arith, some-room (q .e))
+
+  module _ {inner : ℕ} (past : PastRow ws at inner) where
+    pub some-inner : SomeExpr ws inner
+    some-inner = record { m = f .known; n = env .count; e = q .e; here = operand-here past (q .here) }
+
+    pub inner-after : at < inner
+    inner-after = let e = past .past (env .count) (q .r) (q .here .row) in omega (arith, row-length (q .r))
+
+    pub ask-inner : {part : List ℕ} → length part + free ≡ length area → AskExpr f ws inner env part
+    ask-inner l = let r = q .room in record { sound = q .ask .sound; scope = q .ask .scope; e = q .e; here = operand-here past (q .here); room = omega arith }
+
+    pub absent-rest-after : {rest : ℕ} → PastExpr ws inner rest → at < rest
+    absent-rest-after next = let e = over-is past (q .here) next in omega (arith, expr-some (q .e) (env .count))
+
+    pub ask-absent-rest : {rest : ℕ} {back : List ℕ} → PastExpr ws inner rest → length back ≡ length area → Gathering back → AskBody f ws rest left env back free
+    ask-absent-rest next l g =
+        let r = q .rest in
+        record { ask = record { sound = q .ask .sound; scope = q .ask .scope; gathering = g; behind = q .ask .behind }; b = q .b; here = over-here past (q .here) next; room = omega arith }
+
+module _ {f : From} {ws : List ℕ} {at left : ℕ} {env : Env} {k free : ℕ} {area : List ℕ} {inner : ℕ} (past : PastRow ws at inner) where
+  pub absent-refused : {ys back : List ℕ} {r : Read} {n : ℕ} → Kept free area back → SayExpr f ws inner env k r ys → r ≡ Refused n → SayAbsent f ws at left env k free area (Refused n) back
+  unfolding read IfDone rowsAnswer
+  absent-refused kept s e = record { gathering = tt; kept = kept; means = record { says = λ t x b h. after-refused _ (refused-means s e .says x (operand-here past h)) } }
+
+  module _ (g : Gathering area) {back : List ℕ} {j : ℕ} (o : Operand f ws inner env k area free back j) where
+    pub absent-fails : SayHas ws at env (drop free back) true → SayAbsent f ws at left env k free area (Done j) back
+    unfolding read IfDone rowsAnswer
+    absent-fails h = record {
+      gathering = gathering-same (o .front) g;
+      kept = o .kept;
+      means = record {
+        says = λ t x b s.
+            after-done _ (o .means .says x (operand-here past s))
+            (first-of (has (setIn (drop free back)) (rowOf (valuesOf env) t)) (λ i. done (rowsIn area) i) (gathering f b (valuesOf env) (rowsIn area)) j (done (rowsIn back) j)
+            (h .means (env .count) t (s .row)) (ap (λ (xs : List Row). done xs j) (sym (operand-rows o g))));
+      };
+    }
+
+    pub absent-passes : {rest : ℕ} {r : Read} {after : List ℕ} → SayHas ws at env (drop free back) false → PastExpr ws inner rest → SayBody f ws rest left env j free back r after → SayAbsent f ws at left env k free area r after
+    unfolding read
+    absent-passes {rest} {r} {after} h next s = record {
+      gathering = s .gathering;
+      kept = kept-then (o .kept) (s .kept);
+      means = record {
+        says = λ t x b w.
+            after-done _ (o .means .says x (operand-here past w))
+            (second-of (has (setIn (drop free back)) (rowOf (valuesOf env) t)) (λ i. done (rowsIn area) i) (gathering f b (valuesOf env) (rowsIn area)) j (rowsAnswer r after)
+            (h .means (env .count) t (w .row))
+            (ap (λ (xs : List Row). gathering f b (valuesOf env) xs j) (sym (operand-rows o g)) ∙ s .means .says b (over-here past w next)));
+      };
+    }
