@@ -1,28 +1,27 @@
 -- Union and difference in words: which rows each pair of forms keeps, and the value at the front.
 use Prim.Native.Nat.{ℕ, zero, suc, _+_, _*_, _-_, _≤_, _<_}
 use mathlib.Core.Path.{_≡_, refl, sym, _∙_, ap, subst}
-use mathlib.Core.Logic.{_⊎_, inl, inr}
+use mathlib.Core.Logic.{inl, inr}
 use mathlib.Core.Bool.{Bool, true, false}
-use mathlib.Core.List.{List, [], _∷_, _++_}
+use mathlib.Core.List.{List, _∷_, _++_}
 use native.Mathlib.Omega.{arith}
 use native.Mathlib.Nat.{mul-suc}
 use lib.Dec.{leb, eqb}
-use lib.ListN.{length, getD, take, drop, set, length-append, length-take, length-drop, length-set, drop-of-length-le}
-use lib.Seq.{take-append-add, take-take, length-take-le, getD-take, getD-drop, drop-drop, drop-set-lt, take-set-lt, set-set, set-getD, getD-set-same, getD-set-other}
-use borrow.Author.Tests.{leb-true, le-leb, lt-leb, eq-eqb, eqb-true}
-use Rattle.rows.specs.Ordered.{join, common, without, ascending}
+use lib.ListN.{length, getD, take, drop, set, length-drop, length-set}
+use lib.Seq.{take-append-add, take-take, length-take-le, getD-take, getD-drop, drop-set-lt, take-set-lt, set-set, set-getD, getD-set-same, getD-set-other}
+use borrow.Author.Tests.{le-leb, lt-leb, eq-eqb, eqb-true}
+use Rattle.rows.specs.Ordered.{join, ascending}
 use Rattle.rows.specs.Row.{Row, rowBefore}
 use Rattle.rows.specs.Sets.{RowSet, only, allBut, listing, mostRows, unite, subtract}
-use Rattle.rows.specs.Layout.{rowWords, rowIn, laid, pieces, every, soundRow, formWord, setWords, written, put, rowsIn, formed, setIn, soundSet}
+use Rattle.rows.specs.Layout.{rowIn, laid, pieces, every, soundRow, formWord, setWords, written, put, rowsIn, formed, setIn, soundSet}
 use Rattle.rows.specs.Values.{leftBy, Combined}
 use Rattle.rows.specs.Private.{roomAt, Apart, Rooms, picked}
-use Rattle.rows.proofs.Case.{Case, isTrue, isFalse, split, never}
+use Rattle.rows.proofs.Case.{never}
 use Rattle.rows.proofs.Order.{row-order}
 use Rattle.rows.proofs.Ordered.{Ascending}
 use Rattle.rows.proofs.Joining.{join-turned}
 use Rattle.rows.proofs.Put.{put-length, put-in, put-take, part-itself}
-use Rattle.rows.proofs.LayoutLaws.{Sound, sound-true, true-sound, form-small, formed-listing, formed-word, listing-in, set-length, written-length, written-sound, written-reads}
-use Rattle.rows.proofs.Sets.{Proper}
+use Rattle.rows.proofs.LayoutLaws.{sound-true, true-sound, form-small, formed-listing, formed-word, listing-in}
 use Rattle.rows.proofs.SetWords.{size, sound-ascending}
 use Rattle.rows.proofs.Laid.{Narrow, laid-length, narrow-in, written-put, written-count, drop-take}
 use Rattle.rows.proofs.Filtering.{room-few, room-form, picked-length, picked-narrow}
@@ -404,38 +403,3 @@ union-value a after fits long left right c =
     let r = subst (Ascending rowBefore row-order) (sym (listing-in (drop 642 a))) (sound-ascending (drop 642 a) right) in
     let u : flip (subtract (setIn (set a 0 (1 - getD a 0 0))) (setIn (drop 642 (set a 0 (1 - getD a 0 0))))) ≡ unite (setIn a) (setIn (drop 642 a)) = ap flip e ∙ sym (unite-flip (setIn a) (setIn (drop 642 a)) l r) in
     subst (λ (s : RowSet). Combined s a (set after 0 (1 - getD after 0 0)) fits) u (combined-turned a after S (omega arith) (true-sound a left .form) fits c)
-
--- ---- for callers: a value that fits stands at the front as a sound set
-
-pub combined-few : (value : RowSet) (before after : List ℕ) → Combined value before after true → length (listing value) ≤ mostRows
-combined-few value before after c = leb-true (length (listing value)) mostRows (sym (c .answer))
-
-module _ (value : RowSet) (before after : List ℕ) (c : Combined value before after true) (proper : Proper (listing value)) (long : 642 ≤ length before) where
-  value-words : take 642 after ≡ take 642 (written value before)
-  unfolding leftBy
-  value-words = c .words
-
-  value-sound : soundSet (written value before) ≡ true
-  value-sound = written-sound value before proper (combined-few value before after c) long
-
-  value-long : 642 ≤ length (written value before)
-  value-long =
-      let f = combined-few value before after c in
-      omega (arith, written-length value before (omega (arith, set-length value (proper .rows))))
-
-  value-count : getD (written value before) 1 0 ≤ 128
-  value-count = true-sound (written value before) value-sound .count
-
-  front-few : getD after 1 0 ≤ 128
-  front-few =
-      omega (arith, value-count, getD-take 642 after 1 0 (omega arith), ap (λ (l : List ℕ). getD l 1 0) value-words, getD-take 642 (written value before) 1 0 (omega arith))
-
-  pub combined-sound : soundSet after ≡ true
-  combined-sound =
-      let s = c .same in
-      sound-front after (omega arith) front-few (ap soundSet value-words ∙ front-sound (written value before) value-long value-count value-sound)
-
-  pub combined-set : setIn after ≡ value
-  combined-set =
-      let s = c .same in
-      sym (front-set after (omega arith) front-few) ∙ ap setIn value-words ∙ front-set (written value before) value-long value-count ∙ written-reads value before (proper .rows)

@@ -1,8 +1,8 @@
 -- Rows kept and rows left out, in place: the kept ones move down to the first places.
 use Prim.Native.Nat.{ℕ, zero, suc, _+_, _*_, _-_, _≤_, _<_}
 use mathlib.Core.Path.{_≡_, refl, sym, _∙_, ap, subst}
-use mathlib.Core.Logic.{_⊎_, inl, inr}
-use mathlib.Core.Bool.{Bool, true, false, not}
+use mathlib.Core.Logic.{inl, inr}
+use mathlib.Core.Bool.{Bool, true, false}
 use mathlib.Core.List.{List, [], _∷_, _++_, append-nil}
 use native.Mathlib.Omega.{arith}
 use lib.ListN.{length, getD, take, drop, set, length-append, length-drop}
@@ -11,18 +11,18 @@ use Rattle.rows.specs.Word.{All}
 use Rattle.rows.specs.Ordered.{lists, keep, common, without}
 use Rattle.rows.specs.Row.{Row, rowBefore}
 use Rattle.rows.specs.Sets.{RowSet, listing}
-use Rattle.rows.specs.Layout.{rowWords, rowIn, fiveAt, flat, laid, formWord, setWords, put, rowsIn, formed, soundSet}
+use Rattle.rows.specs.Layout.{rowWords, rowIn, fiveAt, flat, laid, setWords, put, rowsIn, formed, soundSet}
 use Rattle.rows.specs.Values.{wordsOf, rowOf}
 use Rattle.rows.specs.Private.{roomAt, Apart, Rooms, Passed, Sought, keeps, picked}
 use Rattle.rows.specs.declared.row.Row as Held
 use Rattle.rows.specs.declared.combine.Place as Place
-use Rattle.rows.proofs.Case.{Case, isTrue, isFalse, split, never}
+use Rattle.rows.proofs.Case.{Case, isTrue, isFalse, split}
 use Rattle.rows.proofs.Order.{row-order}
 use Rattle.rows.proofs.Place.{ascending-at}
-use Rattle.rows.proofs.Put.{put-length, part-after, part-before, put-then-after, put-none}
+use Rattle.rows.proofs.Put.{part-after, part-before, put-then-after, put-none}
 use Rattle.rows.proofs.LayoutLaws.{row-reads, row-length, formed-listing, formed-word}
 use Rattle.rows.proofs.RowLaws.{loaded-row, loaded-width, five-width}
-use Rattle.rows.proofs.SetWords.{Size, size, width-in, sound-ascending}
+use Rattle.rows.proofs.SetWords.{size, sound-ascending}
 use Rattle.rows.proofs.Laid.{Narrow, laid-length, laid-append, narrow-in, narrow-take, row-words-at, inner, count-put}
 
 -- ---- what is kept

@@ -3,19 +3,16 @@ use Prim.Native.Nat.{ℕ, _≤_, _<_}
 use mathlib.Core.Path.{_≡_, refl, sym, _∙_, ap, subst}
 use mathlib.Core.Bool.{Bool, true, false}
 use mathlib.Core.List.{List, [], _∷_, _++_}
-use native.Mathlib.Omega.{arith}
-use lib.Dec.{T, ltb}
 use lib.ListN.{length, getD, take, drop}
 use borrow.Author.Tests.{lt-ltb, le-ltb}
-use Rattle.rows.specs.Ordered.{_∈_, lists, insert}
+use Rattle.rows.specs.Ordered.{_∈_, lists}
 use Rattle.rows.specs.Row.{Row, rowBefore}
-use Rattle.rows.specs.Sets.{RowSet, listing, mostRows}
+use Rattle.rows.specs.Sets.{listing, mostRows}
 use Rattle.rows.specs.Layout.{rowsIn, formed, setIn, soundSet, written}
 use Rattle.rows.specs.Values.{insertion, afterInsert}
 use Rattle.rows.specs.Private.{Finds}
 use Rattle.rows.specs.declared.set.Found as Found
 use Rattle.rows.specs.declared.set.Found.the-variants.{At, Missing}
-use Rattle.rows.specs.declared.set.Inserted as Inserted
 use Rattle.rows.specs.declared.set.Inserted.the-variants.{New, Known, Full}
 use Rattle.rows.proofs.Case.{T-true}
 use Rattle.rows.proofs.Order.{row-order}

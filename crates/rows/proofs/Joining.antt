@@ -2,15 +2,15 @@
 use Prim.Native.Nat.{ℕ, zero, suc, _+_, _-_, _≤_, _<_}
 use mathlib.Core.Path.{_≡_, refl, sym, _∙_, ap, subst}
 use mathlib.Core.Logic.{_⊎_, inl, inr, _↔_}
-use mathlib.Core.Bool.{Bool, true, false}
+use mathlib.Core.Bool.{Bool, true}
 use mathlib.Core.List.{List, [], _∷_, _++_, append-assoc}
 use native.Mathlib.Omega.{arith}
 use lib.ListN.{length, getD, take, drop, length-append, take-append-drop}
 use lib.Seq.{take-suc, take-take, take-at, drop-at, length-take-le}
 use Rattle.rows.specs.Ordered.{_∈_, StrictTotal, insert, join}
-use Rattle.rows.proofs.Case.{Case, isTrue, isFalse, split, never, _then_, iff-refl, iff-sym, both-or}
-use Rattle.rows.proofs.Ordered.{Ascending, Under, under-in, join-∈, join-ascending, ascending-unique, insert-∈}
-use Rattle.rows.proofs.Place.{getD-∈, ascending-at}
+use Rattle.rows.proofs.Case.{Case, isTrue, isFalse, split, _then_, iff-refl, iff-sym, both-or}
+use Rattle.rows.proofs.Ordered.{Ascending, Under, under-in, join-∈, join-ascending, ascending-unique}
+use Rattle.rows.proofs.Place.{getD-∈}
 
 ∈-append : {A : Type 0} (xs ys : List A) (r : A) → (r ∈ (xs ++ ys)) ↔ ((r ∈ xs) ⊎ (r ∈ ys))
 unfolding _∈_
@@ -122,7 +122,7 @@ module _ {A : Type 0} (before : A → A → Bool) (laws : StrictTotal before) wh
   join-longer (a ∷ us) vs = omega (arith, join-longer us vs, insert-longer a (join before us vs))
 
   -- nor longer than the two together
-  insert-shorter : (r : A) (xs : List A) → length (insert before r xs) ≤ suc (length xs)
+  pub insert-shorter : (r : A) (xs : List A) → length (insert before r xs) ≤ suc (length xs)
   unfolding insert
   insert-shorter r [] = omega arith
   insert-shorter r (x ∷ xs) = go (insert-shorter r xs) (split (before r x)) (split (before x r))

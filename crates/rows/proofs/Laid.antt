@@ -1,20 +1,19 @@
 -- Rows laid one after the other in an area, and a set written by its rows and its two first words.
 use Prim.Native.Nat.{ℕ, zero, suc, _+_, _*_, _-_, _≤_, _<_}
 use mathlib.Core.Path.{_≡_, refl, sym, _∙_, ap, subst}
-use mathlib.Core.Bool.{Bool, true, false}
+use mathlib.Core.Bool.{true}
 use mathlib.Core.List.{List, [], _∷_, _++_, map, append-assoc}
 use native.Mathlib.Omega.{arith}
 use lib.ListN.{length, getD, take, drop, set, length-append, length-take, length-drop, length-map, take-append-drop, List·getD-append}
 use lib.Seq.{take-at, drop-at, take-nil, length-take-le, drop-drop, set-getD, getD-set-other, take-take}
 use Rattle.rows.specs.Word.{All}
-use Rattle.rows.specs.Ordered.{insert}
-use Rattle.rows.specs.Row.{Row, rowBefore}
+use Rattle.rows.specs.Row.{Row}
 use Rattle.rows.specs.Sets.{RowSet, listing}
 use Rattle.rows.specs.Layout.{rowWords, rowIn, fiveAt, flat, laid, pieces, formWord, setWords, written, put, rowsIn, formed, setIn, soundSet}
 use Rattle.rows.proofs.LayoutLaws.{flat-length, row-length, Sized, listing-in, sound-rows, rows-count, formed-word, formed-listing, sound-length, sound-written, true-sound, row-written, piece-sound, row-at}
 use Rattle.rows.proofs.RowLaws.{five-length}
-use Rattle.rows.proofs.Put.{put-length, put-before, put-then-after, put-then-before, put-less, put-none, put-itself, Writing, writing-next, writing-end}
-use Rattle.rows.proofs.SetWords.{Size, size}
+use Rattle.rows.proofs.Put.{put-before, put-then-after, put-then-before, put-less, put-none, put-itself, Writing, writing-next, writing-end}
+use Rattle.rows.proofs.SetWords.{size}
 
 pub drop-take : (a b : ℕ) (ws : List ℕ) → drop a (take (a + b) ws) ≡ take b (drop a ws)
 drop-take zero b ws = let e : 0 + b ≡ b = omega arith in ap (λ (k : ℕ). take k ws) e

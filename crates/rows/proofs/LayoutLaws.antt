@@ -17,7 +17,7 @@ use Rattle.rows.specs.Layout.{rowWords, rowIn, fiveAt, zeros, soundRow, 
 use Rattle.rows.proofs.Case.{Case, isTrue, isFalse, split, never, and-true, true-and}
 use Rattle.rows.proofs.Scan.{every-at}
 use Rattle.rows.proofs.Order.{row-order}
-use Rattle.rows.proofs.Ordered.{ascending-true, true-ascending}
+use Rattle.rows.proofs.Ordered.{Ascending, ascending-true, true-ascending}
 use Rattle.rows.proofs.Sets.{Proper}
 
 -- ---- pieces of any size
@@ -120,13 +120,29 @@ row-written (w ∷ t) l e =
 
 -- ---- a list of rows
 
-pub rows-sized : (xs : List Row) → All IsRow xs → All (Sized 5) (map rowWords xs)
+-- 1 to 4 atoms: all that the layout asks of a row
+pub record Width (r : Row) : Type 0 where
+  pub some : 1 ≤ length r
+  pub few : length r ≤ 4
+
+pub widths : (xs : List Row) → All IsRow xs → All Width xs
 unfolding All
-rows-sized [] a = tt
-rows-sized (x ∷ xs) a = (row-length x (a .0 .few), rows-sized xs (a .1))
+widths [] a = tt
+widths (x ∷ xs) a = (record { some = a .0 .some; few = a .0 .few }, widths xs (a .1))
+
+width-sized : (xs : List Row) → All Width xs → All (Sized 5) (map rowWords xs)
+unfolding All
+width-sized [] a = tt
+width-sized (x ∷ xs) a = (row-length x (a .0 .few), width-sized xs (a .1))
+
+pub rows-sized : (xs : List Row) → All IsRow xs → All (Sized 5) (map rowWords xs)
+rows-sized xs a = width-sized xs (widths xs a)
+
+width-length : (xs : List Row) → All Width xs → length (flat (map rowWords xs)) ≡ 5 * length xs
+width-length xs a = omega (arith, flat-length 5 (map rowWords xs) (width-sized xs a), length-map xs rowWords)
 
 pub rows-length : (xs : List Row) → All IsRow xs → length (flat (map rowWords xs)) ≡ 5 * length xs
-rows-length xs a = omega (arith, flat-length 5 (map rowWords xs) (rows-sized xs a), length-map xs rowWords)
+rows-length xs a = width-length xs (widths xs a)
 
 pub rows-read : (xs : List Row) → map rowIn (map rowWords xs) ≡ xs
 rows-read [] = refl
@@ -135,7 +151,7 @@ rows-read (x ∷ xs) =
     let f : map rowIn (map rowWords xs) ≡ xs = rows-read xs in
     cc
 
-rows-sound : (xs : List Row) → All IsRow xs → every soundRow (map rowWords xs) ≡ true
+rows-sound : (xs : List Row) → All Width xs → every soundRow (map rowWords xs) ≡ true
 unfolding every All
 rows-sound [] a = refl
 rows-sound (x ∷ xs) a = true-and _ _ (row-sound x (a .0 .some) (a .0 .few)) (rows-sound xs (a .1))
@@ -209,27 +225,33 @@ pub count-in : (ws : List ℕ) → length (listing (setIn ws)) ≡ getD ws 1 0
 unfolding setIn rowsIn
 count-in ws = ap length (listing-in ws) ∙ length-map (pieces 5 (getD ws 1 0) (drop 2 ws)) rowIn ∙ length-pieces 5 (getD ws 1 0) (drop 2 ws)
 
-pub set-length : (S : RowSet) → All IsRow (listing S) → length (setWords S) ≡ 2 + 5 * length (listing S)
+pub set-size : (S : RowSet) → All Width (listing S) → length (setWords S) ≡ 2 + 5 * length (listing S)
 unfolding setWords
-set-length S a = omega (arith, rows-length (listing S) a)
+set-size S a = omega (arith, width-length (listing S) a)
+
+pub set-length : (S : RowSet) → All IsRow (listing S) → length (setWords S) ≡ 2 + 5 * length (listing S)
+set-length S a = set-size S (widths (listing S) a)
 
 pub written-length : (S : RowSet) (area : List ℕ) → length (setWords S) ≤ length area → length (written S area) ≡ length area
 unfolding written
 written-length S area h = omega (arith, length-append (setWords S) (drop (length (setWords S)) area), length-drop (length (setWords S)) area)
 
-written-pieces : (S : RowSet) (area : List ℕ) → All IsRow (listing S) → pieces 5 (getD (written S area) 1 0) (drop 2 (written S area)) ≡ map rowWords (listing S)
+written-pieces : (S : RowSet) (area : List ℕ) → All Width (listing S) → pieces 5 (getD (written S area) 1 0) (drop 2 (written S area)) ≡ map rowWords (listing S)
 unfolding written setWords
 written-pieces S area a =
     ap (λ (n : ℕ). pieces 5 n (drop 2 (written S area))) (sym (length-map (listing S) rowWords))
-    ∙ pieces-flat 5 (map rowWords (listing S)) (drop (length (setWords S)) area) (rows-sized (listing S) a)
+    ∙ pieces-flat 5 (map rowWords (listing S)) (drop (length (setWords S)) area) (width-sized (listing S) a)
 
-written-rows : (S : RowSet) (area : List ℕ) → All IsRow (listing S) → rowsIn (written S area) ≡ listing S
+written-rows : (S : RowSet) (area : List ℕ) → All Width (listing S) → rowsIn (written S area) ≡ listing S
 unfolding rowsIn
 written-rows S area a = ap (map rowIn) (written-pieces S area a) ∙ rows-read (listing S)
 
-pub written-reads : (S : RowSet) (area : List ℕ) → All IsRow (listing S) → setIn (written S area) ≡ S
+pub written-in : (S : RowSet) (area : List ℕ) → All Width (listing S) → setIn (written S area) ≡ S
 unfolding setIn written setWords
-written-reads S area a = ap (formed (formWord S)) (written-rows S area a) ∙ form-formed S
+written-in S area a = ap (formed (formWord S)) (written-rows S area a) ∙ form-formed S
+
+pub written-reads : (S : RowSet) (area : List ℕ) → All IsRow (listing S) → setIn (written S area) ≡ S
+written-reads S area a = written-in S area (widths (listing S) a)
 
 -- what soundness says of the words
 pub record Sound (ws : List ℕ) : Type 0 where
@@ -270,19 +292,22 @@ true-sound ws e = go (split (header ws))
           order = d .1;
         }
 
-pub written-sound : (S : RowSet) (area : List ℕ) → Proper (listing S) → length (listing S) ≤ mostRows → 642 ≤ length area → soundSet (written S area) ≡ true
+pub written-fits : (S : RowSet) (area : List ℕ) → Ascending rowBefore row-order (listing S) → All Width (listing S) → length (listing S) ≤ mostRows → 642 ≤ length area → soundSet (written S area) ≡ true
 unfolding written setWords
-written-sound S area p n h =
-    let l = set-length S (p .rows) in
+written-fits S area o a n h =
+    let l = set-size S a in
     let w = written-length S area (omega arith) in
     sound-true (written S area) (record {
       header = omega arith;
       form = form-small S;
       count = n;
       whole = omega arith;
-      pieces = ap (every soundRow) (written-pieces S area (p .rows)) ∙ rows-sound (listing S) (p .rows);
-      order = ap (ascending rowBefore) (written-rows S area (p .rows)) ∙ true-ascending rowBefore row-order (listing S) (p .order);
+      pieces = ap (every soundRow) (written-pieces S area a) ∙ rows-sound (listing S) a;
+      order = ap (ascending rowBefore) (written-rows S area a) ∙ true-ascending rowBefore row-order (listing S) o;
     })
+
+pub written-sound : (S : RowSet) (area : List ℕ) → Proper (listing S) → length (listing S) ≤ mostRows → 642 ≤ length area → soundSet (written S area) ≡ true
+written-sound S area p n h = written-fits S area (p .order) (widths (listing S) (p .rows)) n h
 
 -- ---- the converse
 
@@ -376,3 +401,21 @@ sound-order ws a b c d e = go (split (ascending rowBefore (rowsIn ws)))
     go : Case (ascending rowBefore (rowsIn ws)) → soundSet ws ≡ ascending rowBefore (rowsIn ws)
     go (isTrue o) = sound-true ws (record { header = a; form = b; count = c; whole = d; pieces = e; order = o }) ∙ sym o
     go (isFalse o) = unsound ws (λ s. never (s .order) o) ∙ sym o
+
+-- the rows of a sound set have their widths
+pieces-widths : (n : ℕ) (ws : List ℕ) → 5 * n ≤ length ws → every soundRow (pieces 5 n ws) ≡ true → All Width (map rowIn (pieces 5 n ws))
+unfolding pieces every All
+pieces-widths zero ws h e = tt
+pieces-widths (suc n) ws h e =
+    let t = and-true (soundRow (take 5 ws)) (every soundRow (pieces 5 n (drop 5 ws))) e in
+    let l : length (take 5 ws) ≡ 5 = length-take-le 5 ws (omega arith) in
+    let s = sound-width (take 5 ws) (t .0) in
+    let w = row-width (take 5 ws) l (t .0) in
+    (record { some = omega (arith, s .some); few = omega (arith, s .few) }, pieces-widths n (drop 5 ws) (omega (arith, length-drop 5 ws)) (t .1))
+
+pub sound-widths : (ws : List ℕ) → soundSet ws ≡ true → All Width (rowsIn ws)
+unfolding rowsIn
+sound-widths ws e =
+    let s = true-sound ws e in
+    let w = s .whole in
+    pieces-widths (getD ws 1 0) (drop 2 ws) (omega (arith, length-drop 2 ws)) (s .pieces)

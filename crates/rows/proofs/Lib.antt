@@ -15,3 +15,4 @@ pub mod Filtering
 pub mod Joining
 pub mod Merging
 pub mod Combining
+pub mod Standing

@@ -1,16 +1,15 @@
 -- Two sets' rows counted together, and merged into the left's place, from their ends.
 use Prim.Native.Nat.{ℕ, zero, suc, _+_, _*_, _-_, _≤_, _<_}
-use mathlib.Core.Path.{_≡_, refl, sym, _∙_, ap, subst}
-use mathlib.Core.Logic.{_⊎_, inl, inr}
-use mathlib.Core.Bool.{Bool, true, false}
+use mathlib.Core.Path.{_≡_, refl, sym, _∙_, ap}
+use mathlib.Core.Logic.{inl, inr}
+use mathlib.Core.Bool.{true}
 use mathlib.Core.List.{List, [], _∷_, _++_}
 use native.Mathlib.Omega.{arith}
-use lib.ListN.{length, getD, take, drop, set, length-append, length-drop, take-append-drop, drop-of-length-le}
-use lib.Seq.{take-all, length-take-le, drop-length}
-use Rattle.rows.specs.Word.{All}
-use Rattle.rows.specs.Ordered.{_∈_, join}
+use lib.ListN.{length, getD, take, drop, length-append, length-drop, take-append-drop, drop-of-length-le}
+use lib.Seq.{take-all, length-take-le}
+use Rattle.rows.specs.Ordered.{join}
 use Rattle.rows.specs.Row.{Row, rowBefore}
-use Rattle.rows.specs.Layout.{rowWords, rowIn, fiveAt, flat, laid, put, rowsIn, soundSet}
+use Rattle.rows.specs.Layout.{rowWords, rowIn, fiveAt, flat, laid, put, rowsIn}
 use Rattle.rows.specs.Values.{orderOf}
 use Rattle.rows.specs.Private.{lastOrder, roomAt, Rooms}
 use Rattle.rows.specs.declared.row.Order as Order
@@ -18,11 +17,11 @@ use Rattle.rows.specs.declared.row.Order.the-variants.{Before, Same, Aft
 use Rattle.rows.proofs.Order.{row-order}
 use Rattle.rows.proofs.Ordered.{Ascending, all-in, all-of, join-∈}
 use Rattle.rows.proofs.Joining.{join-shorter, last-place, last-front, last-rest, firsts-right, firsts-left, firsts-both, firsts-longer, firsts-none}
-use Rattle.rows.proofs.Put.{put-length, part-after, part-before, put-then-after, put-then-before, put-none, put-itself}
+use Rattle.rows.proofs.Put.{part-after, part-before, put-then-after, put-then-before, put-none, put-itself}
 use Rattle.rows.proofs.LayoutLaws.{row-reads, row-length}
 use Rattle.rows.proofs.RowLaws.{five-width, before-order, same-order, after-order}
-use Rattle.rows.proofs.SetWords.{size, sound-ascending}
-use Rattle.rows.proofs.Laid.{Narrow, laid-length, laid-append, narrow-in, narrow-take, narrow-drop, laid-front, inner, front-length}
+use Rattle.rows.proofs.SetWords.{sound-ascending}
+use Rattle.rows.proofs.Laid.{Narrow, laid-length, laid-append, narrow-in, narrow-drop, laid-front, inner, front-length}
 use Rattle.rows.proofs.Filtering.{room-few, room-count, room-row, narrow-at}
 
 -- ---- the order of two last rows

@@ -7,9 +7,9 @@ use mathlib.Core.List.{List, [], _∷_}
 use native.Mathlib.Omega.{arith}
 use lib.Dec.{ltb, eqb}
 use lib.ListN.{length}
-use borrow.Author.Tests.{ltb-true, ltb-false, eqb-true, lt-ltb, le-ltb, eq-eqb, ne-eqb}
+use borrow.Author.Tests.{ltb-true, ltb-false, eqb-true, lt-ltb, le-ltb, eq-eqb}
 use Rattle.rows.specs.Ordered.{StrictTotal, wordsBefore}
-use Rattle.rows.specs.Row.{Row, rowBefore}
+use Rattle.rows.specs.Row.{rowBefore}
 use Rattle.rows.proofs.Case.{Case, isTrue, isFalse, split, never}
 
 -- first by a number, then by a test: how both orders are built

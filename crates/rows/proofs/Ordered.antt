@@ -1,15 +1,14 @@
 -- Lists in strictly ascending order: what the operations hold, that they keep the order, and that such a list is determined by its elements.
 -- One theory for rows, records and whatever else is kept in order: of the order only its laws are used.
-use Prim.Native.Nat.{ℕ, suc, _≤_}
+use Prim.Native.Nat.{suc}
 use mathlib.Core.Path.{_≡_, refl, sym, _∙_, ap, subst}
 use mathlib.Core.Logic.{_⊎_, inl, inr, _↔_}
-use mathlib.Core.Bool.{Bool, true, false, not, _&&_, _||_}
+use mathlib.Core.Bool.{Bool, true, not, _&&_}
 use mathlib.Core.List.{List, [], _∷_}
-use native.Mathlib.Omega.{arith}
 use lib.Dec.{T}
 use lib.ListN.{length}
 use Rattle.rows.specs.Word.{All}
-use Rattle.rows.specs.Ordered.{_∈_, StrictTotal, same, lists, insert, join, keep, common, without, beforeFirst, ascending}
+use Rattle.rows.specs.Ordered.{_∈_, StrictTotal, same, lists, insert, join, keep, beforeFirst, ascending}
 use Rattle.rows.proofs.Case.{Case, isTrue, isFalse, split, never, and-true, true-and, T-true, true-T, T-or, _then_, iff-refl, both-or}
 
 -- what holds of each holds of one, and back

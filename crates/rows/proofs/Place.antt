@@ -1,16 +1,16 @@
 -- The place of an element in an ascending list, found by halving, and what `lists` and `insert` make of it.
 use Prim.Native.Nat.{ℕ, zero, suc, _+_, _≤_, _<_}
 use mathlib.Core.Path.{_≡_, refl, sym, _∙_, ap, subst}
-use mathlib.Core.Logic.{_⊎_, inl, inr}
-use mathlib.Core.Bool.{Bool, true, false, not, _&&_, _||_}
+use mathlib.Core.Logic.{inl, inr}
+use mathlib.Core.Bool.{Bool, true, false}
 use mathlib.Core.List.{List, [], _∷_, _++_}
 use native.Mathlib.Omega.{arith}
-use lib.Dec.{T, ltb}
+use lib.Dec.{ltb}
 use borrow.Author.Tests.{ltb-true, ltb-false}
 use lib.ListN.{length, getD, take, drop}
 use Rattle.rows.specs.Ordered.{_∈_, StrictTotal, lists, insert}
 use Rattle.rows.proofs.Case.{Case, isTrue, isFalse, split, never, T-true, true-T}
-use Rattle.rows.proofs.Ordered.{Ascending, Under, under-in, lists-iff, insert-∈, insert-ascending, ascending-unique}
+use Rattle.rows.proofs.Ordered.{Ascending, under-in, lists-iff, insert-∈, insert-ascending, ascending-unique}
 
 pub getD-∈ : {A : Type 0} (xs : List A) (i : ℕ) (d : A) → i < length xs → getD xs i d ∈ xs
 unfolding _∈_

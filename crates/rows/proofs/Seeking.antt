@@ -1,13 +1,12 @@
 -- A walk along a list to where a row stands or would stand.
-use Prim.Native.Nat.{ℕ, _+_, _≤_, _<_}
-use mathlib.Core.Path.{_≡_, refl, sym, _∙_, ap, subst}
-use mathlib.Core.Bool.{Bool, true, false}
-use mathlib.Core.List.{List, [], _∷_}
+use Prim.Native.Nat.{ℕ, _≤_, _<_}
+use mathlib.Core.Path.{_≡_, sym, subst}
+use mathlib.Core.Bool.{true, false}
+use mathlib.Core.List.{List, []}
 use native.Mathlib.Omega.{arith}
 use lib.ListN.{length, getD}
 use Rattle.rows.specs.Row.{Row, rowBefore}
 use Rattle.rows.specs.Private.{Passed, Sought}
-use Rattle.rows.specs.declared.combine.Place as Place
 use Rattle.rows.proofs.Order.{row-order}
 use Rattle.rows.proofs.Ordered.{Ascending}
 use Rattle.rows.proofs.Place.{Between, between-down, gap-lists, found-lists}

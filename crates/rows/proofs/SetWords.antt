@@ -1,13 +1,13 @@
 -- A set in words, as the code reads it: the rows where they stand.
-use Prim.Native.Nat.{ℕ, zero, suc, _+_, _*_, _-_, _≤_, _<_}
-use mathlib.Core.Path.{_≡_, refl, sym, _∙_, ap, subst}
-use mathlib.Core.Bool.{Bool, true, false, not}
-use mathlib.Core.List.{List, [], _∷_, _++_}
+use Prim.Native.Nat.{ℕ, zero, suc, _+_, _*_, _≤_, _<_}
+use mathlib.Core.Path.{_≡_, sym, _∙_, ap, subst}
+use mathlib.Core.Bool.{true, false, not}
+use mathlib.Core.List.{List, []}
 use native.Mathlib.Omega.{arith}
 use lib.Dec.{eqb, eqb·suc-zero}
-use lib.ListN.{length, getD, take, drop}
-use Rattle.rows.specs.Ordered.{lists, insert}
-use Rattle.rows.specs.Sets.{RowSet, only, allBut, listing, has, mostRows}
+use lib.ListN.{length, getD, drop}
+use Rattle.rows.specs.Ordered.{lists}
+use Rattle.rows.specs.Sets.{has}
 use Rattle.rows.specs.Row.{Row, rowBefore}
 use Rattle.rows.specs.Layout.{rowIn, fiveAt, soundRow, pieces, every, rowsIn, formed, setIn, soundSet}
 use Rattle.rows.specs.Values.{wordsOf, rowOf, orderOf}
@@ -21,7 +21,7 @@ use Rattle.rows.proofs.Order.{row-order}
 use Rattle.rows.proofs.Ordered.{Ascending, ascending-true}
 use Rattle.rows.proofs.Place.{Between, gap-insert, gap-lists, found-lists}
 use Rattle.rows.proofs.LayoutLaws.{sound-width, piece-sound, row-at, rows-count, true-sound}
-use Rattle.rows.proofs.RowLaws.{five-width, loaded-row, loaded-width, before-order, after-order, same-order, not-before}
+use Rattle.rows.proofs.RowLaws.{five-width, loaded-row, before-order, after-order, same-order}
 
 pub width-at : (n : ℕ) (ws : List ℕ) (i : ℕ) → every soundRow (pieces 5 n (drop 2 ws)) ≡ true → i < n → getD ws (2 + 5 * i) 0 ≤ 4
 width-at n ws i e h = let s = sound-width (fiveAt ws (2 + 5 * i)) (piece-sound n ws i e h) .few in omega (arith, five-width ws (2 + 5 * i))

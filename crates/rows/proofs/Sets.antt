@@ -1,15 +1,14 @@
 -- What the operations on sets do, row by row, once for all widths; and that what they give is again in order and holds only rows.
-use Prim.Native.Nat.{ℕ}
-use mathlib.Core.Path.{_≡_, refl, sym, _∙_, ap, subst}
+use mathlib.Core.Path.{_≡_, refl, sym, subst}
 use mathlib.Core.Logic.{_⊎_, inl, inr, _↔_}
 use mathlib.Core.Bool.{Bool, true, false, not, _&&_, _||_}
-use mathlib.Core.List.{List, [], _∷_}
+use mathlib.Core.List.{List, []}
 use lib.Dec.{T, T-not, not-T}
 use Rattle.rows.specs.Word.{All}
 use Rattle.rows.specs.Ordered.{_∈_, lists, insert, join, keep, common, without}
 use Rattle.rows.specs.Row.{Row, IsRow, rowBefore}
 use Rattle.rows.specs.Sets.{RowSet, only, allBut, listing, has, unite, subtract}
-use Rattle.rows.proofs.Case.{Case, isTrue, isFalse, split, never, T-or, T-and-not, same-test, _then_, iff-refl, iff-sym, both-or, both-not, both-and-not}
+use Rattle.rows.proofs.Case.{T-or, T-and-not, same-test, _then_, iff-sym, both-or, both-not}
 use Rattle.rows.proofs.Order.{row-order}
 use Rattle.rows.proofs.Ordered.{Ascending, all-in, all-of, lists-iff, insert-∈, join-∈, keep-∈, insert-ascending, join-ascending, keep-ascending}
 
@@ -115,3 +114,41 @@ subtract-proper (only xs) (only ys) p q = keep-proper _ xs p
 subtract-proper (only xs) (allBut ys) p q = keep-proper _ xs p
 subtract-proper (allBut xs) (only ys) p q = join-proper ys xs q p
 subtract-proper (allBut xs) (allBut ys) p q = keep-proper _ ys q
+
+-- the same of any one thing that holds of each row, and of the order alone
+join-all : (P : Row → Type 0) (xs ys : List Row) → All P xs → All P ys → All P (join rowBefore xs ys)
+join-all P xs ys p q = all-of P _ (λ x j. elim (join-∈ rowBefore row-order xs ys x .0 j) [ inl k ↦ all-in P xs p x k | inr k ↦ all-in P ys q x k ])
+
+keep-all : (P : Row → Type 0) (f : Row → Bool) (xs : List Row) → All P xs → All P (keep f xs)
+keep-all P f xs p = all-of P _ (λ x j. all-in P xs p x (keep-∈ f xs x .0 j .1))
+
+pub insert-all : (P : Row → Type 0) (r : Row) (xs : List Row) → P r → All P xs → All P (insert rowBefore r xs)
+insert-all P r xs i p = all-of P _ (λ x j. elim (insert-∈ rowBefore row-order r xs x .0 j) [ inl e ↦ subst P (sym e) i | inr k ↦ all-in P xs p x k ])
+
+pub unite-all : (P : Row → Type 0) (s t : RowSet) → All P (listing s) → All P (listing t) → All P (listing (unite s t))
+unfolding listing unite common without
+unite-all P (only xs) (only ys) p q = join-all P xs ys p q
+unite-all P (only xs) (allBut ys) p q = keep-all P _ ys q
+unite-all P (allBut xs) (only ys) p q = keep-all P _ xs p
+unite-all P (allBut xs) (allBut ys) p q = keep-all P _ xs p
+
+pub subtract-all : (P : Row → Type 0) (s t : RowSet) → All P (listing s) → All P (listing t) → All P (listing (subtract s t))
+unfolding listing subtract common without
+subtract-all P (only xs) (only ys) p q = keep-all P _ xs p
+subtract-all P (only xs) (allBut ys) p q = keep-all P _ xs p
+subtract-all P (allBut xs) (only ys) p q = join-all P ys xs q p
+subtract-all P (allBut xs) (allBut ys) p q = keep-all P _ ys q
+
+pub unite-ascending : (s t : RowSet) → Ascending rowBefore row-order (listing s) → Ascending rowBefore row-order (listing t) → Ascending rowBefore row-order (listing (unite s t))
+unfolding listing unite common without
+unite-ascending (only xs) (only ys) p q = join-ascending rowBefore row-order xs ys q
+unite-ascending (only xs) (allBut ys) p q = keep-ascending rowBefore row-order _ ys q
+unite-ascending (allBut xs) (only ys) p q = keep-ascending rowBefore row-order _ xs p
+unite-ascending (allBut xs) (allBut ys) p q = keep-ascending rowBefore row-order _ xs p
+
+pub subtract-ascending : (s t : RowSet) → Ascending rowBefore row-order (listing s) → Ascending rowBefore row-order (listing t) → Ascending rowBefore row-order (listing (subtract s t))
+unfolding listing subtract common without
+subtract-ascending (only xs) (only ys) p q = keep-ascending rowBefore row-order _ xs p
+subtract-ascending (only xs) (allBut ys) p q = keep-ascending rowBefore row-order _ xs p
+subtract-ascending (allBut xs) (only ys) p q = join-ascending rowBefore row-order ys xs p
+subtract-ascending (allBut xs) (allBut ys) p q = keep-ascending rowBefore row-order _ ys q

@@ -5,9 +5,9 @@ use mathlib.Core.Logic.{_⊎_}
 use mathlib.Core.Bool.{Bool, true, false, not}
 use mathlib.Core.List.{List, [], _∷_, _++_}
 use lib.ListN.{length, getD, take, drop}
-use Rattle.rows.specs.Ordered.{lists, insert, keep, common, without}
+use Rattle.rows.specs.Ordered.{lists, insert, common, without}
 use Rattle.rows.specs.Row.{Row, rowBefore}
-use Rattle.rows.specs.Layout.{rowsIn, soundSet}
+use Rattle.rows.specs.Layout.{soundSet}
 use Rattle.rows.specs.Values.{orderOf}
 use Rattle.rows.specs.declared.row.Order as Order
 use Rattle.rows.specs.declared.row.Order.the-variants.{Before}

@@ -1,7 +1,6 @@
 // Union and difference of two sets in one area: the left at word 0, the right at word 642, the value left at word 0.
 ghost use mathlib.Core.Path.{_≡_};
 ghost use mathlib.Core.Bool.{true, false};
-ghost use mathlib.Core.List.{_∷_, _++_};
 ghost use Prim.Native.Nat.{_+_, _*_, _-_, _≤_, _<_};
 ghost use lib.ListN.{length, getD, take, drop};
 ghost use Rattle.rows.specs.Ordered.{join};

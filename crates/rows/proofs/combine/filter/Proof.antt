@@ -1,10 +1,9 @@
 -- The rows kept so far are in the first places.
-use Prim.Native.Nat.{ℕ, _≤_, _+_, _*_, _-_}
-use mathlib.Core.Path.{_≡_, sym, _∙_, ap}
-use mathlib.Core.List.{List, []}
+use Prim.Native.Nat.{_-_}
+use mathlib.Core.Path.{sym, _∙_, ap}
 use mathlib.Core.Bool.{Bool}
 use native.Mathlib.Omega.{arith}
-use lib.ListN.{length, length-set}
+use lib.ListN.{length-set}
 use Rattle.rows.specs.Private.{keeps}
 use Rattle.rows.proofs.Filtering.{Filtered, filter-start, filter-left, filter-kept, filter-end, numbers, seek-ready, sought-here}
 use borrow.Author.Needs.{needs}

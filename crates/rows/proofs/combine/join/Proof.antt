@@ -1,8 +1,6 @@
 -- Counted, then merged.
-use Prim.Native.Nat.{ℕ, _≤_}
-use mathlib.Core.Path.{_≡_}
 use native.Mathlib.Omega.{arith}
-use lib.ListN.{length, length-set}
+use lib.ListN.{length-set}
 use Rattle.rows.proofs.Merging.{counts}
 use Rattle.rows.proofs.Combining.{too-many, joined-fits, joined-words, none-left-over}
 use borrow.Author.Needs.{needs}

@@ -1,8 +1,7 @@
 -- What is counted, with what the rows not yet passed have together, is the whole.
-use Prim.Native.Nat.{ℕ, _≤_, _<_, _+_, _*_, _-_}
-use mathlib.Core.Path.{_≡_, _∙_}
+use Prim.Native.Nat.{_+_}
+use mathlib.Core.Path.{_∙_}
 use native.Mathlib.Omega.{arith}
-use lib.ListN.{length, getD}
 use Rattle.rows.proofs.Merging.{Counting, counts, last-ready, right-last, both-last, left-last, same-some, after-some, counting-start, counting-ends, counting-next, counting-end}
 use borrow.Author.Needs.{needs}
 use Rattle.rows.proofs.combine.joint.Statement.{statement}

@@ -1,8 +1,8 @@
 -- Filtered where it stands, then copied down.
-use Prim.Native.Nat.{ℕ, _≤_, _+_, _*_}
-use mathlib.Core.Path.{_≡_, _∙_, ap}
+use Prim.Native.Nat.{ℕ, _+_, _*_}
+use mathlib.Core.Path.{_∙_, ap}
 use native.Mathlib.Omega.{arith}
-use lib.ListN.{length, length-set}
+use lib.ListN.{length-set}
 use Rattle.rows.proofs.Combining.{turned, right-count, right-numbers, right-words}
 use borrow.Author.Needs.{needs}
 use Rattle.rows.proofs.combine.keep_right.Statement.{statement}

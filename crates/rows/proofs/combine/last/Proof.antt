@@ -1,8 +1,7 @@
 -- With a row on the left, the two are compared.
-use Prim.Native.Nat.{ℕ, _≤_, _<_, _+_, _*_, _-_}
-use mathlib.Core.Path.{_≡_, sym, _∙_, ap}
+use Prim.Native.Nat.{_+_, _*_, _-_}
+use mathlib.Core.Path.{_∙_, ap}
 use native.Mathlib.Omega.{arith}
-use lib.ListN.{length, getD}
 use Rattle.rows.specs.Row.{Row}
 use Rattle.rows.specs.Layout.{rowIn, fiveAt}
 use Rattle.rows.specs.Values.{orderOf}

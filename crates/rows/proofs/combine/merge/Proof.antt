@@ -1,9 +1,8 @@
 -- The rows of the join from the `k`th on are in their places.
-use Prim.Native.Nat.{ℕ, _≤_, _<_, _+_, _*_, _-_}
-use mathlib.Core.Path.{_≡_, sym, _∙_}
+use Prim.Native.Nat.{_+_}
+use mathlib.Core.Path.{_∙_}
 use native.Mathlib.Omega.{arith}
-use lib.ListN.{length, getD}
-use Rattle.rows.proofs.Merging.{Merging, Counts, counts, Places, places, Ends, last-ready, same-some, after-some, merging-start, merging-ends, merging-right, merging-both, merging-left, merging-end}
+use Rattle.rows.proofs.Merging.{Merging, counts, places, last-ready, same-some, after-some, merging-start, merging-ends, merging-right, merging-both, merging-left, merging-end}
 use borrow.Author.Needs.{needs}
 use Rattle.rows.proofs.combine.merge.Statement.{statement}
 use Rattle.rows.proofs.combine.merge.Tie as tie

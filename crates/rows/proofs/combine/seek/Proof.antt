@@ -1,8 +1,7 @@
 -- The rows before the `j`th come before the row.
-use Prim.Native.Nat.{ℕ, _≤_, _+_, _*_, _-_}
-use mathlib.Core.List.{List, []}
+use Prim.Native.Nat.{_-_}
+use mathlib.Core.List.{[]}
 use native.Mathlib.Omega.{arith}
-use lib.ListN.{length}
 use Rattle.rows.specs.Row.{rowBefore}
 use Rattle.rows.specs.Layout.{rowsIn}
 use Rattle.rows.specs.Values.{rowOf}

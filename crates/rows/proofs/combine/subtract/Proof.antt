@@ -1,8 +1,5 @@
 -- By the two forms.
-use Prim.Native.Nat.{ℕ, _≤_}
-use mathlib.Core.Path.{_≡_}
 use native.Mathlib.Omega.{arith}
-use lib.ListN.{length}
 use Rattle.rows.proofs.Combining.{rooms, finite-value, complements-value, complement-value}
 use borrow.Author.Needs.{needs}
 use Rattle.rows.proofs.combine.subtract.Statement.{statement}

@@ -1,9 +1,8 @@
 -- The form turned over, the difference taken, and the form turned back.
-use Prim.Native.Nat.{ℕ, _≤_, _-_}
-use mathlib.Core.Path.{_≡_, _∙_, ap}
-use mathlib.Core.List.{List}
+use Prim.Native.Nat.{_-_}
+use mathlib.Core.Path.{_∙_, ap}
 use native.Mathlib.Omega.{arith}
-use lib.ListN.{length, length-set, getD, set}
+use lib.ListN.{length-set, getD}
 use Rattle.rows.specs.Layout.{soundSet}
 use Rattle.rows.proofs.SetWords.{size}
 use Rattle.rows.proofs.Combining.{turned-sound, turned-right, first-small, union-value}

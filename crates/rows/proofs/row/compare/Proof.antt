@@ -1,8 +1,8 @@
 -- The rows agree on the atoms passed.
-use Prim.Native.Nat.{ℕ, _≤_, _+_, _-_}
+use Prim.Native.Nat.{_-_}
 use mathlib.Core.Path.{_≡_, sym}
 use native.Mathlib.Omega.{arith}
-use lib.ListN.{length, getD}
+use lib.ListN.{length}
 use borrow.Author.Needs.{needs}
 use Rattle.rows.specs.Layout.{rowIn, fiveAt}
 use Rattle.rows.specs.Values.{rowOf}

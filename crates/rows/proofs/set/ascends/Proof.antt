@@ -1,11 +1,11 @@
 -- Whether the rows ascend is whether they do from the `i`th on.
-use Prim.Native.Nat.{ℕ, _≤_, _+_, _*_, _-_}
-use mathlib.Core.Path.{_≡_, sym, _∙_, ap}
-use mathlib.Core.List.{List, []}
+use Prim.Native.Nat.{_+_, _*_, _-_}
+use mathlib.Core.Path.{sym, _∙_, ap}
+use mathlib.Core.List.{[]}
 use native.Mathlib.Omega.{arith}
-use lib.ListN.{length, getD, drop}
+use lib.ListN.{getD}
 use Rattle.rows.specs.Row.{rowBefore}
-use Rattle.rows.specs.Layout.{rowsIn, fiveAt}
+use Rattle.rows.specs.Layout.{rowsIn}
 use Rattle.rows.proofs.Scan.{Climbed, climbed-none, climbed-next, climbed-fails, climbed-all}
 use Rattle.rows.proofs.Order.{row-order}
 use Rattle.rows.proofs.LayoutLaws.{rows-count}

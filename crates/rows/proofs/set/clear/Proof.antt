@@ -1,5 +1,4 @@
 -- The two first words.
-use Prim.Native.Nat.{_≤_}
 use native.Mathlib.Omega.{arith}
 use lib.ListN.{length-set}
 use Rattle.rows.proofs.Laid.{written-empty}

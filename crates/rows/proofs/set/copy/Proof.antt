@@ -1,9 +1,6 @@
 -- The first  words are copied.
-use Prim.Native.Nat.{ℕ, _≤_, _-_}
-use mathlib.Core.Path.{_≡_}
-use mathlib.Core.List.{List}
+use Prim.Native.Nat.{_-_}
 use native.Mathlib.Omega.{arith}
-use lib.ListN.{length}
 use Rattle.rows.specs.Layout.{setWords, setIn}
 use Rattle.rows.proofs.SetWords.{size}
 use Rattle.rows.proofs.Put.{Writing, writing-start}

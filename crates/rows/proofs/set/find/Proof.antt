@@ -1,9 +1,8 @@
 -- The rows below `low` come before the row, those from `high` on after it.
-use Prim.Native.Nat.{ℕ, _≤_, _+_, _*_, _-_}
-use mathlib.Core.Path.{_≡_, _∙_}
-use mathlib.Core.List.{List, []}
+use Prim.Native.Nat.{_-_}
+use mathlib.Core.Path.{_∙_}
+use mathlib.Core.List.{[]}
 use native.Mathlib.Omega.{arith}
-use lib.ListN.{length, getD}
 use Rattle.rows.specs.Row.{rowBefore}
 use Rattle.rows.specs.Layout.{rowsIn}
 use Rattle.rows.specs.Values.{rowOf}

@@ -1,9 +1,5 @@
 -- The search decides.
-use Prim.Native.Nat.{ℕ, _≤_, _<_}
-use mathlib.Core.Path.{_≡_}
 use native.Mathlib.Omega.{arith}
-use lib.ListN.{length}
-use Rattle.rows.specs.Layout.{rowsIn}
 use Rattle.rows.specs.Values.{rowOf}
 use Rattle.rows.proofs.SetWords.{size}
 use Rattle.rows.proofs.Inserting.{known-answer, known-words, missing-place, full-answer, full-words, new-answer, new-words}

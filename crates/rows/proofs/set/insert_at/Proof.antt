@@ -1,6 +1,6 @@
 -- The rows from `i` on moved up, the row written, and the count.
-use Prim.Native.Nat.{ℕ, _+_, _*_, _-_, _≤_}
-use mathlib.Core.Path.{_≡_, sym, _∙_, ap}
+use Prim.Native.Nat.{ℕ, _+_, _*_, _-_}
+use mathlib.Core.Path.{_≡_, _∙_, ap}
 use mathlib.Core.List.{List}
 use native.Mathlib.Omega.{arith}
 use lib.ListN.{length, getD, take, drop, set}
@@ -8,7 +8,6 @@ use Rattle.rows.specs.Layout.{rowWords, put, rowsIn}
 use Rattle.rows.specs.Values.{rowOf}
 use Rattle.rows.proofs.RowLaws.{held-length}
 use Rattle.rows.proofs.SetWords.{size}
-use Rattle.rows.proofs.Put.{put-length}
 use Rattle.rows.proofs.Laid.{row-put-in}
 use lib.ListN.{length-set}
 use borrow.Author.Needs.{needs}

@@ -1,6 +1,5 @@
 -- The first `j` words are copied.
 use Prim.Native.Nat.{_-_}
-use mathlib.Core.Path.{_≡_}
 use native.Mathlib.Omega.{arith}
 use Rattle.rows.proofs.Put.{CopiedDown, down-start, down-next, down-end}
 use borrow.Author.Needs.{needs}
