@@ -1,7 +1,7 @@
 mod Places
 mod Held
 mod Past
-mod Areas
+pub mod Areas
 mod Match
 mod Exprs
 mod Guards

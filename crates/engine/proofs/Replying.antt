@@ -1,0 +1,77 @@
+-- The query call's replies, one law for each way that it returns.
+use Prim.Native.Nat.{ℕ, _≤_}
+use mathlib.Core.Path.{_≡_, refl, sym, _∙_, ap}
+use mathlib.Core.Bool.{true, false, _&&_}
+use mathlib.Core.List.{List, []}
+use native.Mathlib.Omega.{arith}
+use lib.Dec.{leb}
+use lib.ListN.{length}
+use borrow.Author.Tests.{leb-true}
+use Rattle.refusals.specs.Table.{badStore, shortArea, noPart}
+use Rattle.rows.specs.Layout.{setRoom}
+use Rattle.rows.proofs.Case.{and-true}
+use Rattle.certificates.specs.Store.{soundStore}
+use Rattle.policy.specs.Syntax.{Expr}
+use Rattle.policy.specs.Polarity.{Verdict, verdictWord}
+use Rattle.policy.specs.Judgement.{checked, check, JudgementReply, verdict, refused, judge}
+use Rattle.policy.specs.Checks.{judgementOf}
+use Rattle.policy.specs.declared.Judgement.the-variants as judgement
+use Rattle.policy.proofs.Judging.{judge-checked}
+use Rattle.engine.specs.Query.{Outcome, declined, readFrom, definitionRoom, scratchRoom, roomy, Call, outcomeFrom, queryCall, answerArea}
+use Rattle.engine.specs.Refusal.{judged, unsound, short}
+use Rattle.engine.specs.Reply.{replyTo, Replied}
+use Rattle.engine.specs.Steps.{namesIn, Ready, ReadAll}
+use Rattle.engine.specs.declared.Reply.{Reply}
+use Rattle.engine.specs.declared.Reply.the-variants.{Refused}
+use Rattle.engine.proofs.Outcome.{call-declined, call-reads}
+
+-- a call that was declined
+declines : (store : List ℕ) (c : Call) (n part : ℕ) → queryCall store c ≡ declined n part → Replied store c (Refused n part) (c .answer)
+unfolding replyTo answerArea
+declines store c n part e = record { reply = ap replyTo (sym e); area = ap (λ (o : Outcome). answerArea o (c .answer)) (sym e) }
+
+pub refuses-judged : (store : List ℕ) (c : Call) (n part : ℕ) → judge (c .policy) (c .query) ≡ refused n part → Replied store c (Refused n part) (c .answer)
+refuses-judged store c n part e = declines store c n part (call-declined store c n part .1 (judged e))
+
+module _ (store : List ℕ) (c : Call) (v : Verdict) (passes : judge (c .policy) (c .query) ≡ verdict v) where
+  pub refuses-store : soundStore store ≡ false → Replied store c (Refused badStore noPart) (c .answer)
+  refuses-store s = declines store c badStore noPart (call-declined store c badStore noPart .1 (unsound (judge-checked (c .policy) (c .query) v .0 passes .2) s))
+
+  module _ (sound : soundStore store ≡ true) where
+    pub refuses-areas : roomy c ≡ false → Replied store c (Refused shortArea noPart) (c .answer)
+    refuses-areas r = declines store c shortArea noPart (call-declined store c shortArea noPart .1 (short (judge-checked (c .policy) (c .query) v .0 passes .2) sound r))
+
+    module _ (room : roomy c ≡ true) where
+      enough : (setRoom ≤ length (c .answer)) × (definitionRoom ≤ length (c .definitions)) × (scratchRoom ≤ length (c .scratch))
+      unfolding roomy
+      enough =
+          let a = and-true (leb setRoom (length (c .answer))) _ room in
+          let b = and-true (leb definitionRoom (length (c .definitions))) _ (a .1) in
+          (leb-true setRoom (length (c .answer)) (a .0), leb-true definitionRoom (length (c .definitions)) (b .0), leb-true scratchRoom (length (c .scratch)) (b .1))
+
+      pub answer-room : setRoom ≤ length (c .answer)
+      answer-room = enough .0
+
+      pub is-ready : Ready store (c .policy) (c .query) (c .definitions) (c .scratch)
+      is-ready =
+          let t = judge-checked (c .policy) (c .query) v .0 passes in
+          record { es = t .0; q = t .1; v = v; passes = t .2; sound = sound; room = enough .1; space = enough .2 }
+
+      pub replies : (word : ℕ) → verdictWord v ≡ word → (r : Reply) (answer : List ℕ) → ReadAll store (c .policy) (c .query) word (c .answer) r answer → Replied store c r answer
+      unfolding outcomeFrom
+      replies word w r answer said =
+          let t = judge-checked (c .policy) (c .query) v .0 passes in
+          let o : queryCall store c ≡ readFrom (namesIn store) (t .0) (t .1) v [] 0 = call-reads store (namesIn store) sound refl c ∙ rw (t .2, room, outcomeFrom) in
+          let s = said .means (t .0) (t .1) v (t .2) w in
+          record { reply = s .0 ∙ ap replyTo (sym o); area = s .1 ∙ ap (λ (x : Outcome). answerArea x (c .answer)) (sym o) }
+
+-- what a judgement in hand says
+pub verdict-in : (j : JudgementReply) (word : ℕ) → judgement.Verdict word ≡ judgementOf j → (v : Verdict) × (j ≡ verdict v) × (verdictWord v ≡ word)
+unfolding judgementOf
+verdict-in (verdict v) word e = (v, refl, cc)
+verdict-in (refused n part) word e = let z : _≡_ {A = ℕ} 0 1 = cc in absurd (omega arith)
+
+pub refusal-in : (j : JudgementReply) (n part : ℕ) → judgement.Refused n part ≡ judgementOf j → j ≡ refused n part
+unfolding judgementOf
+refusal-in (verdict v) n part e = let z : _≡_ {A = ℕ} 0 1 = cc in absurd (omega arith)
+refusal-in (refused m p) n part e = cc
