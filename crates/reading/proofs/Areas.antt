@@ -4,7 +4,7 @@ use mathlib.Core.Path.{_≡_, refl, sym, ap, subst, _∙_}
 use mathlib.Core.Bool.{true}
 use mathlib.Core.List.{List, [], _∷_, _++_, map, append-nil}
 use native.Mathlib.Omega.{arith}
-use lib.ListN.{length, take, drop, getD, set, length-append, length-take, length-drop, length-set, drop-of-length-le}
+use lib.ListN.{length, take, drop, getD, length-append, length-take, length-drop, drop-of-length-le}
 use lib.Seq.{take-all, drop-at, length-take-le, take-take, getD-take, getD-drop, ext-getD, drop-drop}
 use borrow.Rule.Slice.PartMut.{putMid, take-put}
 use Rattle.rows.specs.Ordered.{ascending}
@@ -13,7 +13,7 @@ use Rattle.rows.specs.Sets.{RowSet, only}
 use Rattle.rows.specs.Layout.{soundRow, pieces, every, rowIn, rowsIn, formed, setIn, soundSet}
 use Rattle.rows.proofs.LayoutLaws.{true-sound, sound-true}
 use Rattle.rows.proofs.Laid.{drop-take}
-use Rattle.reading.specs.Areas.{Filled, Gathering, Empty, Kept, setsIn}
+use Rattle.reading.specs.Areas.{Filled, Gathering, Kept, setsIn}
 
 -- ---- a set is the first 642 words
 
@@ -138,30 +138,12 @@ module _ (area : List ℕ) (free : ℕ) (ys : List ℕ) (inside : free ≤ lengt
   pub back-kept : Kept free area givenBack
   back-kept = record { same = λ k h l. sym (getD-take free givenBack k 0 l) ∙ ap (λ (z : List ℕ). getD z k 0) (take-put free (length area - free) area ys inside) ∙ getD-take free area k 0 l }
 
+pub part-length : (free : ℕ) (area : List ℕ) → free ≤ length area → length (take (length area - free) (drop free area)) + free ≡ length area
+part-length free area h = omega (arith, length-take (length area - free) (drop free area), length-drop free area)
+
 -- a part that goes on to the end
 pub part-whole : (free : ℕ) (area : List ℕ) → take (length area - free) (drop free area) ≡ drop free area
 part-whole free area = take-all (length area - free) (drop free area) (omega (arith, length-drop free area))
-
--- ---- an empty set
-
-empty-front : (area : List ℕ) (form : ℕ) → 642 ≤ length area → form ≤ 1 → soundSet (set (set area 0 form) 1 0) ≡ true
-unfolding rowsIn pieces every ascending
-empty-front [] form h k = absurd (omega arith)
-empty-front (a ∷ []) form h k = absurd (omega arith)
-empty-front (a ∷ b ∷ area) form h k = sound-true _ (record { header = omega arith; form = k; count = omega arith; whole = omega arith; pieces = refl; order = refl })
-
-no-rows : (area : List ℕ) (form : ℕ) → 642 ≤ length area → (getD (set (set area 0 form) 1 0) 0 0 ≡ form) × (rowsIn (set (set area 0 form) 1 0) ≡ [])
-unfolding rowsIn pieces
-no-rows [] form h = absurd (omega arith)
-no-rows (a ∷ []) form h = absurd (omega arith)
-no-rows (a ∷ b ∷ area) form h = (refl, refl)
-
-pub emptied : (area : List ℕ) (form : ℕ) → 642 ≤ length area → form ≤ 1 → Empty form (set (set area 0 form) 1 0)
-emptied area form h k =
-    let l = length-set (set area 0 form) 1 0 in
-    let m = length-set area 0 form in
-    let n = no-rows area form h in
-    record { filled = record { long = omega arith; sound = empty-front area form h k }; is = n .0; none = n .1 }
 
 -- ---- the sets of the definitions
 

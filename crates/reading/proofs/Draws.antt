@@ -29,9 +29,9 @@ use Rattle.reading.specs.Areas.{Filled, Gathering, Kept, roomOf, bodyRoo
 use Rattle.reading.specs.Readers.{rowsAnswer, IfDone, matchedAs, From, gathering, MeansBody, AskExpr, AskGuards, AskBody, AskDraw, SayExpr, SayBody, SayDraw, SayMatch}
 use Rattle.reading.proofs.Places.{expr-some, slots-scope}
 use Rattle.reading.proofs.Past.{pattern-here, rest-is, rest-here}
-use Rattle.reading.proofs.Areas.{SameFront, rows-same, word-same, filled-same, gathering-same, finite-set, kept-self, kept-less, kept-then, kept-part}
+use Rattle.reading.proofs.Areas.{SameFront, rows-same, word-same, filled-same, gathering-same, finite-set, kept-self, kept-less, kept-then, kept-part, givenBack, back-kept, part-length}
 use Rattle.reading.proofs.Exprs.{after-done, after-refused, refused-means, some-room}
-use Rattle.reading.proofs.Guards.{Operand, operand-rows}
+use Rattle.reading.proofs.Guards.{Operand, operand, operand-rows}
 use Rattle.reading.specs.declared.values.Env.{Env}
 use Rattle.reading.specs.declared.values.Matched.{Matched}
 use Rattle.reading.specs.declared.values.Read.{Read}
@@ -131,8 +131,22 @@ module _ {f : From} {ws : List ℕ} {at left : ℕ} {env : Env} {area : List ℕ
   pub draw-room : free + 642 ≤ length area
   draw-room = let r = q .room in omega (arith, some-room (q .e))
 
-  pub ask-operand : {part : List ℕ} → length part + free ≡ length area → AskExpr f ws at env part
-  ask-operand l = let r = q .room in record { sound = q .ask .sound; scope = q .ask .scope; e = q .e; here = q .here .operand; room = omega arith }
+  pub ask-operand : AskExpr f ws at env (take (length area - free) (drop free area))
+  ask-operand =
+      let r = q .room in
+      let l = part-length free area (omega (arith, draw-room)) in
+      record { sound = q .ask .sound; scope = q .ask .scope; e = q .e; here = q .here .operand; room = omega arith }
+
+  module _ {ys : List ℕ} (size : length ys ≡ length (take (length area - free) (drop free area))) {k : ℕ} {r : Read} (s : SayExpr f ws at env k r ys) where
+    pub draw-inside : free ≤ length area
+    draw-inside = omega (arith, draw-room)
+
+    pub drawn : {j : ℕ} → r ≡ Done j → Operand f ws at env k area free (givenBack area free ys draw-inside size) j
+    drawn e = operand area free draw-inside (q .ask .behind) size s e
+
+    pub draw-refused : {n : ℕ} → r ≡ Refused n → SayDraw f ws at left env k free area (Refused n) (givenBack area free ys draw-inside size)
+    unfolding read IfDone rowsAnswer
+    draw-refused e = record { gathering = tt; kept = back-kept area free ys draw-inside size; means = record { says = λ x p b h. after-refused _ (refused-means s e .says x (h .operand)) } }
 
   module _ {pattern : ℕ} (past : PastExpr ws at pattern) where
     pub some-pattern : SomePattern (env .count) ws pattern
@@ -174,11 +188,6 @@ complement : (n : ℕ) (xs : List Row) → (n ≡ 0 → ⊥) → formed n xs ≡
 unfolding formed
 complement zero xs h = absurd (h refl)
 complement (suc n) xs h = refl
-
-pub draw-refused : {f : From} {ws : List ℕ} {at left : ℕ} {env : Env} {k free : ℕ} {area ys back : List ℕ} {r : Read} {n : ℕ} →
-    Kept free area back → SayExpr f ws at env k r ys → r ≡ Refused n → SayDraw f ws at left env k free area (Refused n) back
-unfolding read IfDone rowsAnswer
-draw-refused kept s e = record { gathering = tt; kept = kept; means = record { says = λ x p b h. after-refused _ (refused-means s e .says x (h .operand)) } }
 
 module _ {f : From} {ws : List ℕ} {at left : ℕ} {env : Env} {k : ℕ} {area : List ℕ} {free : ℕ} {back : List ℕ} {before : ℕ} (q : AskDraw f ws at left env area free) (o : Operand f ws at env k area free back before) where
   pub draw-complement : (getD back free 0 ≡ 0 → ⊥) → SayDraw f ws at left env k free area (Refused 12) back

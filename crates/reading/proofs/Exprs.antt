@@ -17,7 +17,7 @@ use Rattle.reading.specs.Areas.{Filled, Gathering, Empty, Kept, setsIn, 
 use Rattle.reading.specs.Readers.{setAnswer, rowsAnswer, IfDone, From, reading, gathering, combined, Means, MeansTwo, AskExpr, AskTwo, AskBody, SayExpr, SayTwo, SayBody, SayRows, SayDefinition, SayName, SayCombined}
 use Rattle.reading.proofs.Places.{on-finite, on-cofinite, on-definition, on-listed, on-union, on-difference, on-comprehension, in-finite, in-cofinite, in-definition, in-listed, in-union, in-difference, in-comprehension, code-here, expr-some}
 use Rattle.reading.proofs.Past.{right-here, last-code}
-use Rattle.reading.proofs.Areas.{SameFront, set-same, filled-same, finite-set, kept-self, givenBack, back-part, back-front}
+use Rattle.reading.proofs.Areas.{SameFront, set-same, filled-same, finite-set, givenBack, back-part, back-front, part-length}
 use Rattle.reading.specs.declared.values.Env.{Env}
 use Rattle.reading.specs.declared.values.Read.{Read}
 use Rattle.reading.specs.declared.values.Read.the-variants.{Done, Refused}
@@ -192,8 +192,11 @@ module _ {f : From} {ws : List ℕ} {at : ℕ} {env : Env} {area : List ℕ} (q 
   pub ask-left : AskExpr f ws at env area
   ask-left = record { sound = q .sound; scope = q .scope; e = q .x; here = q .here .left; room = q .left }
 
-  pub ask-right : {second : ℕ} {part : List ℕ} → PastExpr ws at second → length part + 642 ≡ length area → AskExpr f ws second env part
-  ask-right p l = let r = q .right in record { sound = q .sound; scope = q .scope; e = q .y; here = right-here p (q .here); room = omega arith }
+  pub ask-right : {second : ℕ} (left : List ℕ) → PastExpr ws at second → length left ≡ length area → AskExpr f ws second env (take (length left - 642) (drop 642 left))
+  ask-right left p l =
+      let r = q .right in
+      let m = part-length 642 left (omega arith) in
+      record { sound = q .sound; scope = q .scope; e = q .y; here = right-here p (q .here); room = omega arith }
 
   pub right-after : {second : ℕ} → PastExpr ws at second → at < second
   right-after p = let e = p .past (f .known) (env .count) (q .x) (q .here .left) in omega (arith, expr-some (q .x) (env .count))

@@ -23,7 +23,7 @@ use Rattle.reading.specs.Readers.{setAnswer, rowsAnswer, IfDone, From, r
 use Rattle.reading.proofs.Places.{on-head, on-draw, on-same, on-different, on-absent, in-head, in-draw, in-same, in-different, in-absent, expr-some, row-length}
 use Rattle.reading.proofs.Held.{held-value}
 use Rattle.reading.proofs.Past.{operand-here, over-is, over-here}
-use Rattle.reading.proofs.Areas.{SameFront, rows-same, gathering-same, kept-self, kept-then, givenBack, back-length, back-part, back-front, back-kept, part-whole}
+use Rattle.reading.proofs.Areas.{SameFront, rows-same, gathering-same, kept-self, kept-then, givenBack, back-length, back-part, back-front, back-kept, part-length, part-whole}
 use Rattle.reading.proofs.Exprs.{after-done, after-refused, done-means, refused-means, done-filled, some-room}
 use Rattle.reading.specs.declared.values.Env.{Env}
 use Rattle.reading.specs.declared.values.Read.{Read}
@@ -181,17 +181,17 @@ pub record Operand (f : From) (ws : List ℕ) (at : ℕ) (env : Env) (k : ℕ) (
   pub filled : Filled (drop free back)
   pub means : Means f ws at env k (done (setIn (drop free back)) j)
 
-module _ (area : List ℕ) (free : ℕ) (ys : List ℕ) (inside : free ≤ length area) (behind : 642 ≤ free) (size : length ys ≡ length (take (length area - free) (drop free area))) where
-  pub operand : {f : From} {ws : List ℕ} {at : ℕ} {env : Env} {k : ℕ} {r : Read} {j : ℕ} → SayExpr f ws at env k r ys → r ≡ Done j → Operand f ws at env k area free (givenBack area free ys inside size) j
-  operand {f} {ws} {at} {env} {k} {r} {j} s e =
-      let b : drop free (givenBack area free ys inside size) ≡ ys = back-part area free ys inside size in
-      record {
-        size = back-length area free ys inside size;
-        front = back-front area free ys inside size behind;
-        kept = back-kept area free ys inside size;
-        filled = subst Filled (sym b) (done-filled s e);
-        means = subst (λ (l : List ℕ). Means f ws at env k (done (setIn l) j)) (sym b) (done-means s e);
-      }
+pub operand : (area : List ℕ) (free : ℕ) {ys : List ℕ} (inside : free ≤ length area) → 642 ≤ free → (size : length ys ≡ length (take (length area - free) (drop free area))) →
+    {f : From} {ws : List ℕ} {at : ℕ} {env : Env} {k : ℕ} {r : Read} {j : ℕ} → SayExpr f ws at env k r ys → r ≡ Done j → Operand f ws at env k area free (givenBack area free ys inside size) j
+operand area free {ys} inside behind size {f} {ws} {at} {env} {k} {r} {j} s e =
+    let b : drop free (givenBack area free ys inside size) ≡ ys = back-part area free ys inside size in
+    record {
+      size = back-length area free ys inside size;
+      front = back-front area free ys inside size behind;
+      kept = back-kept area free ys inside size;
+      filled = subst Filled (sym b) (done-filled s e);
+      means = subst (λ (l : List ℕ). Means f ws at env k (done (setIn l) j)) (sym b) (done-means s e);
+    }
 
 -- the rows gathered are still there
 pub operand-rows : {f : From} {ws : List ℕ} {at : ℕ} {env : Env} {k : ℕ} {area : List ℕ} {free : ℕ} {back : List ℕ} {j : ℕ} → Operand f ws at env k area free back j → Gathering area → rowsIn back ≡ rowsIn area
@@ -218,8 +218,22 @@ module _ {f : From} {ws : List ℕ} {at left : ℕ} {env : Env} {area : List ℕ
     pub inner-after : at < inner
     inner-after = let e = past .past (env .count) (q .r) (q .here .row) in omega (arith, row-length (q .r))
 
-    pub ask-inner : {part : List ℕ} → length part + free ≡ length area → AskExpr f ws inner env part
-    ask-inner l = let r = q .room in record { sound = q .ask .sound; scope = q .ask .scope; e = q .e; here = operand-here past (q .here); room = omega arith }
+    pub ask-inner : AskExpr f ws inner env (take (length area - free) (drop free area))
+    ask-inner =
+        let r = q .room in
+        let l = part-length free area (omega (arith, absent-room)) in
+        record { sound = q .ask .sound; scope = q .ask .scope; e = q .e; here = operand-here past (q .here); room = omega arith }
+
+    module _ {ys : List ℕ} (size : length ys ≡ length (take (length area - free) (drop free area))) {k : ℕ} {r : Read} (s : SayExpr f ws inner env k r ys) where
+      pub absent-inside : free ≤ length area
+      absent-inside = omega (arith, absent-room)
+
+      pub absent-operand : {j : ℕ} → r ≡ Done j → Operand f ws inner env k area free (givenBack area free ys absent-inside size) j
+      absent-operand e = operand area free absent-inside (q .ask .behind) size s e
+
+      pub absent-refused : {n : ℕ} → r ≡ Refused n → SayAbsent f ws at left env k free area (Refused n) (givenBack area free ys absent-inside size)
+      unfolding read IfDone rowsAnswer
+      absent-refused e = record { gathering = tt; kept = back-kept area free ys absent-inside size; means = record { says = λ t x b h. after-refused _ (refused-means s e .says x (operand-here past h)) } }
 
     pub absent-rest-after : {rest : ℕ} → PastExpr ws inner rest → at < rest
     absent-rest-after next = let e = over-is past (q .here) next in omega (arith, expr-some (q .e) (env .count))
@@ -230,10 +244,6 @@ module _ {f : From} {ws : List ℕ} {at left : ℕ} {env : Env} {area : List ℕ
         record { ask = record { sound = q .ask .sound; scope = q .ask .scope; gathering = g; behind = q .ask .behind }; b = q .b; here = over-here past (q .here) next; room = omega arith }
 
 module _ {f : From} {ws : List ℕ} {at left : ℕ} {env : Env} {k free : ℕ} {area : List ℕ} {inner : ℕ} (past : PastRow ws at inner) where
-  pub absent-refused : {ys back : List ℕ} {r : Read} {n : ℕ} → Kept free area back → SayExpr f ws inner env k r ys → r ≡ Refused n → SayAbsent f ws at left env k free area (Refused n) back
-  unfolding read IfDone rowsAnswer
-  absent-refused kept s e = record { gathering = tt; kept = kept; means = record { says = λ t x b h. after-refused _ (refused-means s e .says x (operand-here past h)) } }
-
   module _ (g : Gathering area) {back : List ℕ} {j : ℕ} (o : Operand f ws inner env k area free back j) where
     pub absent-fails : SayHas ws at env (drop free back) true → SayAbsent f ws at left env k free area (Done j) back
     unfolding read IfDone rowsAnswer

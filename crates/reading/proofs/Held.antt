@@ -15,6 +15,7 @@ use Rattle.reading.proofs.Places.{at-word, at-next, at-front, at-long, 
 use Rattle.reading.specs.declared.values.Env.{Env}
 use Rattle.reading.specs.declared.values.Term as Held-term
 use Rattle.reading.specs.declared.values.Term.the-variants.{Atom, Variable}
+use Rattle.reading.specs.declared.values.Slot as Held-slot
 use Rattle.reading.specs.declared.values.Slot.the-variants.{Old, New}
 use Rattle.reading.specs.declared.values.Guard as Held-guard
 use Rattle.reading.specs.declared.values.Guard.the-variants.{Draw, Same, Different, Absent}
@@ -86,6 +87,9 @@ module _ {ws : List ℕ} {at : ℕ} where
       go : (n : ℕ) (s : Slot) (p : List Slot) → At ws at (slotWords n (s ∷ p)) → Old x ≡ slotHeld s
       go n (old t) p h = ap Old (i .is t (at-front (termWords t) (slotWords n p) h))
       go n new p h = absurd (z (at-word h))
+
+  pub slot-told : {s t : Held-slot.Slot} → IsSlot ws at s → s ≡ t → IsSlot ws at t
+  slot-told i e = subst (IsSlot ws at) e i
 
   pub guard-told : {g h : Held-guard.Guard} → IsGuard ws at g → g ≡ h → IsGuard ws at h
   guard-told i e = subst (IsGuard ws at) e i

@@ -128,6 +128,14 @@ module _ {ws : List ℕ} {at : ℕ} {env : Env} (row : Held.Row) (scope : env .c
       λ q h. subst (λ (k : ℕ). SlotsLeft ws (at + 1 + 2 * 0) (env .count) k q) w (subst (λ (k : ℕ). SlotsLeft ws k (env .count) (getD ws at 0) q) a h) in
       record { within = omega arith; p = s .p; here = to (s .p) (slots-inside scope (s .here)); means = λ r g q h. g q (to q h); count = λ m g q h. g q (to q h) }
 
+-- a row of the pattern's width
+pub record Fits (ws : List ℕ) (at : ℕ) (row : Held.Row) : Type 0 where
+  pub long : length (rowOf row) ≡ getD ws at 0
+  pub atom : (j : ℕ) → j < getD ws at 0 → getD (rowOf row) j 0 ≡ getD (row .atoms) j 0
+
+pub same-width : (ws : List ℕ) (at : ℕ) (row : Held.Row) → length (row .atoms) ≡ 4 → row .width ≤ 4 → row .width ≡ getD ws at 0 → Fits ws at row
+same-width ws at row four few e = record { long = held-length row four few ∙ e; atom = λ j h. held-atom row j (omega arith) }
+
 module _ {ws : List ℕ} {at : ℕ} {env : Env} {x : Row} {width : ℕ} {next : Env} {j : ℕ} (iv : Matching ws at env x width next j) (less : j < width) where
   pub slot-inside : at + 1 + 2 * j + 2 ≤ length ws
   slot-inside = let w = slots-long (iv .here) (omega arith) in omega arith

@@ -10,7 +10,7 @@ use Rattle.policy.specs.Syntax.{Term, atom, var, Slot, old, new, Expr, finite, 
 use Rattle.policy.specs.Words.{termWords, each, termRowWords, slotWords, fresh, guardCount, exprWords, bodyWords}
 use Rattle.policy.specs.WellFormed.{FitRows, FitSlots, FitPattern, Fit, FitBody}
 use Rattle.reading.specs.Values.{termHeld, guardHeld}
-use Rattle.reading.specs.Places.{At, literalWords, nameWords, patternWords, StandsRow, StandsRows, StandsPattern, Stands, StandsBody, StandsTwo, StandsDraw, StandsAbsent, IsGuard}
+use Rattle.reading.specs.Places.{At, literalWords, nameWords, patternWords, StandsRow, StandsRows, StandsPattern, Stands, StandsBody, StandsTwo, StandsDraw, StandsAbsent, SomeRow, SomePattern, IsGuard}
 use Rattle.reading.specs.declared.values.Term as Held-term
 use Rattle.reading.specs.declared.values.Guard as Held-guard
 use Rattle.reading.specs.declared.values.Guard.the-variants.{Draw, Same, Different, Absent}
@@ -351,6 +351,21 @@ row-wide {ts} s = record { width = at-word (s .words); some = s .fit .some; few 
 
 pub pattern-wide : {n : ℕ} {ws : List ℕ} {at : ℕ} {p : List Slot} → StandsPattern n ws at p → Wide ws at (length p)
 pattern-wide {n} {p} s = record { width = at-word (s .words); some = s .fit .some; few = s .fit .few; inside = omega (arith, slots-length n p, at-long (omega arith) (s .words)) }
+
+-- the width that stands there, as the code meets it
+pub record WidthHere (ws : List ℕ) (at : ℕ) : Type 0 where
+  pub some : 1 ≤ getD ws at 0
+  pub few : getD ws at 0 ≤ 4
+  pub inside : at + 1 + 2 * getD ws at 0 ≤ length ws
+
+width-here : {ws : List ℕ} {at w : ℕ} → Wide ws at w → WidthHere ws at
+width-here x = let e = x .width in record { some = omega (arith, x .some); few = omega (arith, x .few); inside = omega (arith, x .inside) }
+
+pub row-width : {ws : List ℕ} {at : ℕ} → SomeRow ws at → WidthHere ws at
+row-width s = width-here (row-wide (s .here))
+
+pub pattern-width : {n : ℕ} {ws : List ℕ} {at : ℕ} → SomePattern n ws at → WidthHere ws at
+pattern-width s = width-here (pattern-wide (s .here))
 
 -- a pattern's new variables are at most 16 with those in scope
 pub slots-scope : (n : ℕ) (p : List Slot) → n ≤ 16 → FitSlots n p → n + fresh p ≤ 16

@@ -19,7 +19,7 @@ use Rattle.rows.proofs.LayoutLaws.{Sized, pieces-flat, row-length, row-sound, r
 use Rattle.rows.proofs.SetWords.{sound-ascending}
 use Rattle.rows.proofs.Put.{put-after}
 use Rattle.rows.proofs.Laid.{written-put}
-use Rattle.reading.specs.Areas.{Filled, Kept}
+use Rattle.reading.specs.Areas.{Filled, Empty, Kept}
 
 pub record Wide (r : Row) : Type 0 where
   pub some : 1 ≤ length r
@@ -126,3 +126,14 @@ insert-wide r xs w a = all-of Wide _ (λ x j. elim (insert-∈ rowBefore row-ord
 
 pub insert-listable : (ws : List ℕ) (r : Row) → soundSet ws ≡ true → Wide r → length (insert rowBefore r (rowsIn ws)) ≤ 128 → Listable (formed (getD ws 0 0) (insert rowBefore r (rowsIn ws)))
 insert-listable ws r e w f = formed-listable (getD ws 0 0) _ (insert-ascending rowBefore row-order r (rowsIn ws) (sound-ascending ws e)) (insert-wide r (rowsIn ws) w (rows-wide ws e)) f
+
+-- a set that is started
+pub cleared : {form : ℕ} (area : List ℕ) {now : List ℕ} → 642 ≤ length area → form ≤ 1 → now ≡ written (formed form []) area → Empty form now
+unfolding Ascending All
+cleared {form} area long h e =
+    let l = formed-listable form [] tt tt (omega arith) in
+    record {
+      filled = subst Filled (sym e) (filled-there l area long);
+      is = ap (λ (ws : List ℕ). getD ws 0 0) e ∙ form-there l area long ∙ formed-word form [] h;
+      none = ap rowsIn e ∙ rows-there l area long ∙ formed-listing form [];
+    }

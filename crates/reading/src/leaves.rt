@@ -5,13 +5,15 @@ ghost use lib.ListN.{length, drop};
 ghost use Rattle.rows.specs.Layout.{setRoom};
 ghost use Rattle.rows.specs.Values.{rowOf};
 ghost use Rattle.reading.specs.Places.{SomeRow, SomeRows, SomePattern};
-ghost use Rattle.reading.specs.Areas.{Filled, Gathering, Empty};
+ghost use Rattle.reading.specs.Areas.{Filled, Gathering};
 ghost use Rattle.reading.specs.Readers.{SayRow, SayRows, SayDefinition, SayCombined, SayHead, SayMatch, SayHas};
 use crate::skip::skip_row;
 use crate::values::Env;
 use crate::values::Matched;
 use crate::values::Read;
+use crate::values::SET_ROOM;
 use crate::values::Slot;
+use crate::values::TOO_MANY_ROWS;
 use crate::values::slot_at;
 use crate::values::term_at;
 use crate::values::value_of;
@@ -21,22 +23,10 @@ use rows::combine::unite;
 use rows::row::Row;
 use rows::row::wide;
 use rows::set::Inserted;
+use rows::set::clear;
 use rows::set::copy;
 use rows::set::has;
 use rows::set::insert;
-
-const SET_ROOM: usize = 642;
-
-const TOO_MANY_ROWS: u32 = 13;
-
-// A set with this form and no rows.
-pub fn start(area: &mut [u32], form: u32)
-    requires { ⌜ (setRoom ≤ length (now area)) × (form ≤ 1) ⌝ }
-    ensures { λ _. ⌜ Empty form (now (area .exit)) ⌝ }
-{
-    area[0] = form;
-    area[1] = 0;
-}
 
 // The row that the terms come to.
 fn row_of(words: &[u32], at: usize, env: Env) -> Row
@@ -63,7 +53,7 @@ pub fn read_rows(words: &[u32], at: usize, form: u32, env: Env, area: &mut [u32]
     requires { ⌜ (env .count ≤ 16) × (form ≤ 1) × (setRoom ≤ length (now area)) × SomeRows (now words) at ⌝ }
     ensures { λ _. ⌜ SayRows (now (words .entry)) at form env (now (area .exit)) ⌝ }
 {
-    start(area, form);
+    clear(area, form);
     let count = words[at];
     let mut next = at + 1;
     let mut i: u32 = 0;

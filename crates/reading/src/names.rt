@@ -7,24 +7,22 @@ ghost use Rattle.rows.specs.Layout.{setRoom, formed, written};
 ghost use Rattle.certificates.specs.Store.{soundStore};
 ghost use Rattle.reading.specs.Places.{SomeName};
 ghost use Rattle.reading.specs.Readers.{Records, recordRows, SayName};
-use crate::leaves::start;
 use crate::values::Env;
+use crate::values::MOST_ROWS;
 use crate::values::Read;
+use crate::values::TOO_MANY_ROWS;
 use crate::values::term_at;
 use crate::values::value_of;
 use certificates::certificates_in;
 use rows::row::load;
 use rows::row::store as store_row;
+use rows::set::clear;
 
 const FIRST_KEY: u32 = 2147483648;
 
 const RECORD_WORDS: usize = 8;
 
 const ROW_IN_RECORD: usize = 3;
-
-const MOST_ROWS: usize = 128;
-
-const TOO_MANY_ROWS: u32 = 13;
 
 // Has an empty set list the rows of these records, which are in order.
 fn copy_rows(records: &[u32], count: usize, area: &mut [u32])
@@ -56,7 +54,7 @@ pub fn read_name(
     let key = value_of(env, issuer);
     let name = words[at + 2];
     let polarity = words[at + 3];
-    start(area, polarity);
+    clear(area, polarity);
     if key < FIRST_KEY {
         return Read::Done(draws);
     }

@@ -8,26 +8,22 @@ use crate::leaves::insert_head;
 use crate::leaves::match_row;
 use crate::leaves::read_definition;
 use crate::leaves::read_rows;
-use crate::leaves::start;
 use crate::names::read_name;
 use crate::skip::skip_expr;
 use crate::skip::skip_pattern;
 use crate::skip::skip_row;
+use crate::values::COMPLEMENT_DRAWN;
 use crate::values::Env;
 use crate::values::Guard;
+use crate::values::MOST_DRAWS;
 use crate::values::Read;
+use crate::values::SET_ROOM;
+use crate::values::TOO_MANY_DRAWS;
 use crate::values::guard_at;
 use crate::values::value_of;
 use rows::row::load;
 use rows::row::wide;
-
-const SET_ROOM: usize = 642;
-
-const MOST_DRAWS: u32 = 1000000;
-
-const COMPLEMENT_DRAWN: u32 = 12;
-
-const TOO_MANY_DRAWS: u32 = 14;
+use rows::set::clear;
 
 fn read_expr(
     words: &[u32],
@@ -67,7 +63,7 @@ fn read_expr(
         return read_two(words, body, true, env, store, defs, known, draws, area);
     }
     let count = words[body];
-    start(area, 0);
+    clear(area, 0);
     read_guards(
         words,
         at + 2,

@@ -7,6 +7,20 @@ ghost use Rattle.meaning.specs.Values.{value};
 ghost use Rattle.reading.specs.Values.{valuesOf, termOf};
 ghost use Rattle.reading.specs.Places.{IsTerm, IsSlot, IsGuard, SomeGuard};
 
+// "No set lists over 128 rows, so a set takes 642 words."
+pub const MOST_ROWS: usize = 128;
+
+pub const SET_ROOM: usize = 642;
+
+pub const MOST_DRAWS: u32 = 1000000;
+
+// The refusals that are met while reading.
+pub const COMPLEMENT_DRAWN: u32 = 12;
+
+pub const TOO_MANY_ROWS: u32 = 13;
+
+pub const TOO_MANY_DRAWS: u32 = 14;
+
 // The values of the variables in scope, variable 0 first.
 pub struct Env {
     pub count: u32,

@@ -1,16 +1,13 @@
 -- The slots passed match the atoms passed.
-use Prim.Native.Nat.{_+_, _*_, _-_, _<_}
-use mathlib.Core.Path.{_≡_, sym, subst, _∙_}
+use Prim.Native.Nat.{_-_, _<_}
+use mathlib.Core.Path.{_≡_, sym, _∙_}
 use native.Mathlib.Omega.{arith}
 use lib.ListN.{length, getD}
 use borrow.Author.Needs.{needs}
-use Rattle.reading.proofs.Places.{inside, pattern-wide}
 use Rattle.rows.specs.Values.{rowOf}
-use Rattle.rows.proofs.RowLaws.{held-length, held-atom}
-use Rattle.reading.specs.Places.{IsSlot}
-use Rattle.reading.proofs.Match.{Matching, other-width, matching-start, slot-inside, new-scope, matching-new, matching-old, matched, mismatched}
-use Rattle.reading.specs.declared.values.Slot.{Slot}
-use Rattle.reading.specs.declared.values.Slot.the-variants.{Old, New}
+use Rattle.reading.proofs.Places.{pattern-width}
+use Rattle.reading.proofs.Held.{slot-told}
+use Rattle.reading.proofs.Match.{Matching, other-width, matching-start, slot-inside, new-scope, same-width, matching-new, matching-old, matched, mismatched}
 use Rattle.reading.proofs.leaves.match_row.Statement.{statement}
 use Rattle.reading.proofs.leaves.match_row.Tie as tie
 
@@ -21,22 +18,10 @@ abbrev μ-loop : tie.MeasureT-loop
 μ-loop words at env row width end next₀ j₀ next j = end - j
 
 mul-width : tie.Need-mul-width Inv-loop μ-loop
-mul-width c =
-    let w = pattern-wide (c .before .pre .2 .here) in
-    let width = w .width in
-    let few = w .few in
-    let inside = w .inside in
-    let fits = c .before .good in
-    omega arith
+mul-width c = let w = pattern-width (c .before .pre .2) in let fits = c .before .good in omega arith
 
 shared-slice-read-width : tie.Need-shared-slice-read-width Inv-loop μ-loop
-shared-slice-read-width c =
-    let w = pattern-wide (c .before .before .pre .2 .here) in
-    let width = w .width in
-    let few = w .few in
-    let inside = w .inside in
-    let fits = c .before .before .good in
-    omega arith
+shared-slice-read-width c = let w = pattern-width (c .before .before .pre .2) in let fits = c .before .before .good in omega arith
 
 returns : tie.Need-returns Inv-loop μ-loop
 returns c =
@@ -50,118 +35,91 @@ loop-holds c =
 
 mul-atom : tie.Need-mul-atom Inv-loop μ-loop
 mul-atom c =
-    let w = pattern-wide (c .before .before .before .before .before .before .pre .2 .here) in
-    let width = w .width in
-    let few = w .few in
-    let inside = w .inside in
+    let w = pattern-width (c .before .before .before .before .before .before .pre .2) in
     let fits = c .before .before .before .before .before .before .good in
-    let e = c .before .before .wide .ensures in
+    let number = c .before .before .wide .ensures in
     omega arith
 
 element-copy-out-atom : tie.Need-element-copy-out-atom Inv-loop μ-loop
 element-copy-out-atom c =
-    let w = pattern-wide (c .before .before .before .before .before .before .pre .2 .here) in
-    let width = w .width in
-    let few = w .few in
-    let inside = w .inside in
+    let w = pattern-width (c .before .before .before .before .before .before .pre .2) in
     let fits = c .before .before .before .before .before .before .good in
-    let e = c .before .before .wide .ensures in
+    let number = c .before .before .wide .ensures in
     omega arith
 
 add-slot-at : tie.Need-add-slot-at Inv-loop μ-loop
 add-slot-at c =
-    let e = c .before .before .before .wide .ensures in
-    let less : c .before .before .loop .j < getD (c .before .before .before .before .before .before .before .args .words .now) (c .before .before .before .before .before .before .before .args .at) 0 = omega arith in
+    let less : c .before .before .loop .j < getD (c .before .before .before .before .before .before .before .args .words .now) (c .before .before .before .before .before .before .before .args .at) 0 = omega (arith, c .before .before .before .wide .ensures) in
     let i = slot-inside (c .before .before .loop .inv) less in
     let fits = c .before .before .before .before .before .before .before .good in
     omega arith
 
 mul-slot-at : tie.Need-mul-slot-at Inv-loop μ-loop
 mul-slot-at c =
-    let e = c .before .before .before .wide .ensures in
-    let less : c .before .before .loop .j < getD (c .before .before .before .before .before .before .before .args .words .now) (c .before .before .before .before .before .before .before .args .at) 0 = omega arith in
+    let less : c .before .before .loop .j < getD (c .before .before .before .before .before .before .before .args .words .now) (c .before .before .before .before .before .before .before .args .at) 0 = omega (arith, c .before .before .before .wide .ensures) in
     let i = slot-inside (c .before .before .loop .inv) less in
     let fits = c .before .before .before .before .before .before .before .good in
     omega arith
 
 add-slot-at-2 : tie.Need-add-slot-at-2 Inv-loop μ-loop
 add-slot-at-2 c =
-    let e = c .before .before .before .wide .ensures in
-    let less : c .before .before .loop .j < getD (c .before .before .before .before .before .before .before .args .words .now) (c .before .before .before .before .before .before .before .args .at) 0 = omega arith in
+    let less : c .before .before .loop .j < getD (c .before .before .before .before .before .before .before .args .words .now) (c .before .before .before .before .before .before .before .args .at) 0 = omega (arith, c .before .before .before .wide .ensures) in
     let i = slot-inside (c .before .before .loop .inv) less in
     let fits = c .before .before .before .before .before .before .before .good in
     omega arith
 
 slot-at-requires : tie.Need-slot-at-requires Inv-loop μ-loop
 slot-at-requires c κs =
-    let e = c .before .before .before .wide .ensures in
-    let less : c .before .before .loop .j < getD (c .before .before .before .before .before .before .before .args .words .now) (c .before .before .before .before .before .before .before .args .at) 0 = omega arith in
+    let less : c .before .before .loop .j < getD (c .before .before .before .before .before .before .before .args .words .now) (c .before .before .before .before .before .before .before .args .at) 0 = omega (arith, c .before .before .before .wide .ensures) in
     let i = slot-inside (c .before .before .loop .inv) less in
     let fits = c .before .before .before .before .before .before .before .good in
     omega arith
 
 add-j : tie.Need-add-j Inv-loop μ-loop
 add-j c =
-    let w = pattern-wide (c .before .before .before .before .before .before .before .before .pre .2 .here) in
-    let width = w .width in
-    let few = w .few in
-    let inside = w .inside in
+    let w = pattern-width (c .before .before .before .before .before .before .before .before .pre .2) in
     let fits = c .before .before .before .before .before .before .before .before .good in
-    let e = c .before .before .before .before .wide .ensures in
+    let number = c .before .before .before .before .wide .ensures in
     omega arith
 
 with-value-requires : tie.Need-with-value-requires Inv-loop μ-loop
 with-value-requires c κs =
-    let e = c .before .before .before .before .before .before .wide .ensures in
-    let less : c .before .before .before .before .before .loop .j < getD (c .before .before .before .before .before .before .before .before .before .before .args .words .now) (c .before .before .before .before .before .before .before .before .before .before .args .at) 0 = omega arith in
-    let slot : IsSlot (c .before .before .before .before .before .before .before .before .before .before .args .words .now) (c .before .before .before .before .before .before .before .before .before .before .args .at + 1 + 2 * c .before .before .before .before .before .loop .j) New = subst (λ (s : Slot). IsSlot (c .before .before .before .before .before .before .before .before .before .before .args .words .now) (c .before .before .before .before .before .before .before .before .before .before .args .at + 1 + 2 * c .before .before .before .before .before .loop .j) s) (c .enum-told .given .1) (c .before .before .slot-at .ensures) in
-    new-scope (c .before .before .before .before .before .loop .inv) less slot
+    let less : c .before .before .before .before .before .loop .j < getD (c .before .before .before .before .before .before .before .before .before .before .args .words .now) (c .before .before .before .before .before .before .before .before .before .before .args .at) 0 = omega (arith, c .before .before .before .before .before .before .wide .ensures) in
+    new-scope (c .before .before .before .before .before .loop .inv) less (slot-told (c .before .before .slot-at .ensures) (c .enum-told .given .1))
 
 loop-again : tie.Need-loop-again Inv-loop μ-loop
 loop-again c =
+    let less : c .before .before .before .before .before .before .loop .j < getD (c .before .before .before .before .before .before .before .before .before .before .before .args .words .now) (c .before .before .before .before .before .before .before .before .before .before .before .args .at) 0 = omega (arith, c .before .before .before .before .before .before .before .wide .ensures) in
     let row = c .before .before .before .before .before .before .before .before .before .before .before .args .t4 in
     let four : length (row .atoms) ≡ 4 = search needs in
-    let e = c .before .before .before .before .before .before .before .wide .ensures in
-    let long : length (rowOf row) ≡ getD (c .before .before .before .before .before .before .before .before .before .before .before .args .words .now) (c .before .before .before .before .before .before .before .before .before .before .before .args .at) 0 = held-length row four (c .before .before .before .before .before .before .before .before .before .before .before .pre .1) ∙ c .before .before .before .before .before .before .before .before .if1 .left in
-    let less : c .before .before .before .before .before .before .loop .j < getD (c .before .before .before .before .before .before .before .before .before .before .before .args .words .now) (c .before .before .before .before .before .before .before .before .before .before .before .args .at) 0 = omega arith in
-    let atom = held-atom row (c .before .before .before .before .before .before .loop .j) (omega (arith, c .before .before .before .before .before .before .before .before .if1 .left)) in
-    let slot : IsSlot (c .before .before .before .before .before .before .before .before .before .before .before .args .words .now) (c .before .before .before .before .before .before .before .before .before .before .before .args .at + 1 + 2 * c .before .before .before .before .before .before .loop .j) New = subst (λ (s : Slot). IsSlot (c .before .before .before .before .before .before .before .before .before .before .before .args .words .now) (c .before .before .before .before .before .before .before .before .before .before .before .args .at + 1 + 2 * c .before .before .before .before .before .before .loop .j) s) (c .before .enum-told .given .1) (c .before .before .before .slot-at .ensures) in
-    matching-new (c .before .before .before .before .before .before .loop .inv) less long atom slot (c .with-value .ensures .0) (c .with-value .ensures .1)
+    let same = same-width (c .before .before .before .before .before .before .before .before .before .before .before .args .words .now) (c .before .before .before .before .before .before .before .before .before .before .before .args .at) row four (c .before .before .before .before .before .before .before .before .before .before .before .pre .1) (c .before .before .before .before .before .before .before .before .if1 .left) in
+    matching-new (c .before .before .before .before .before .before .loop .inv) less (same .long) (same .atom (c .before .before .before .before .before .before .loop .j) less) (slot-told (c .before .before .before .slot-at .ensures) (c .before .enum-told .given .1)) (c .with-value .ensures .0) (c .with-value .ensures .1)
 
 value-of-requires : tie.Need-value-of-requires Inv-loop μ-loop
-value-of-requires c κs =
-    let s = c .before .before .before .before .before .before .loop .inv .here .scope in
-    omega arith
+value-of-requires c κs = let s = c .before .before .before .before .before .before .loop .inv .here .scope in omega arith
 
 returns-2 : tie.Need-returns-2 Inv-loop μ-loop
 returns-2 c =
+    let less : c .before .before .before .before .before .before .before .before .loop .j < getD (c .before .before .before .before .before .before .before .before .before .before .before .before .before .args .words .now) (c .before .before .before .before .before .before .before .before .before .before .before .before .before .args .at) 0 = omega (arith, c .before .before .before .before .before .before .before .before .before .wide .ensures) in
     let row = c .before .before .before .before .before .before .before .before .before .before .before .before .before .args .t4 in
     let four : length (row .atoms) ≡ 4 = search needs in
-    let e = c .before .before .before .before .before .before .before .before .before .wide .ensures in
-    let long : length (rowOf row) ≡ getD (c .before .before .before .before .before .before .before .before .before .before .before .before .before .args .words .now) (c .before .before .before .before .before .before .before .before .before .before .before .before .before .args .at) 0 = held-length row four (c .before .before .before .before .before .before .before .before .before .before .before .before .before .pre .1) ∙ c .before .before .before .before .before .before .before .before .before .before .if1 .left in
-    let less : c .before .before .before .before .before .before .before .before .loop .j < getD (c .before .before .before .before .before .before .before .before .before .before .before .before .before .args .words .now) (c .before .before .before .before .before .before .before .before .before .before .before .before .before .args .at) 0 = omega arith in
-    let atom = held-atom row (c .before .before .before .before .before .before .before .before .loop .j) (omega (arith, c .before .before .before .before .before .before .before .before .before .before .if1 .left)) in
-    let slot : IsSlot (c .before .before .before .before .before .before .before .before .before .before .before .before .before .args .words .now) (c .before .before .before .before .before .before .before .before .before .before .before .before .before .args .at + 1 + 2 * c .before .before .before .before .before .before .before .before .loop .j) (Old (c .before .before .before .slot .given .0 .0)) = subst (λ (s : Slot). IsSlot (c .before .before .before .before .before .before .before .before .before .before .before .before .before .args .words .now) (c .before .before .before .before .before .before .before .before .before .before .before .before .before .args .at + 1 + 2 * c .before .before .before .before .before .before .before .before .loop .j) s) (c .before .before .before .slot .given .1) (c .before .before .before .before .before .slot-at .ensures) in
-    mismatched (c .before .before .before .before .before .before .before .before .before .before .before .before .before .pre .0) (c .before .before .before .before .before .before .before .before .loop .inv) long less atom slot (λ h. c .if2 .taken (c .before .value-of .ensures ∙ h))
+    let same = same-width (c .before .before .before .before .before .before .before .before .before .before .before .before .before .args .words .now) (c .before .before .before .before .before .before .before .before .before .before .before .before .before .args .at) row four (c .before .before .before .before .before .before .before .before .before .before .before .before .before .pre .1) (c .before .before .before .before .before .before .before .before .before .before .if1 .left) in
+    mismatched (c .before .before .before .before .before .before .before .before .before .before .before .before .before .pre .0) (c .before .before .before .before .before .before .before .before .loop .inv) (same .long) less (same .atom (c .before .before .before .before .before .before .before .before .loop .j) less) (slot-told (c .before .before .before .before .before .slot-at .ensures) (c .before .before .before .slot .given .1)) (λ h. c .if2 .taken (c .before .value-of .ensures ∙ h))
 
 loop-again-2 : tie.Need-loop-again-2 Inv-loop μ-loop
 loop-again-2 c =
+    let less : c .before .before .before .before .before .before .before .before .loop .j < getD (c .before .before .before .before .before .before .before .before .before .before .before .before .before .args .words .now) (c .before .before .before .before .before .before .before .before .before .before .before .before .before .args .at) 0 = omega (arith, c .before .before .before .before .before .before .before .before .before .wide .ensures) in
     let row = c .before .before .before .before .before .before .before .before .before .before .before .before .before .args .t4 in
     let four : length (row .atoms) ≡ 4 = search needs in
-    let e = c .before .before .before .before .before .before .before .before .before .wide .ensures in
-    let long : length (rowOf row) ≡ getD (c .before .before .before .before .before .before .before .before .before .before .before .before .before .args .words .now) (c .before .before .before .before .before .before .before .before .before .before .before .before .before .args .at) 0 = held-length row four (c .before .before .before .before .before .before .before .before .before .before .before .before .before .pre .1) ∙ c .before .before .before .before .before .before .before .before .before .before .if1 .left in
-    let less : c .before .before .before .before .before .before .before .before .loop .j < getD (c .before .before .before .before .before .before .before .before .before .before .before .before .before .args .words .now) (c .before .before .before .before .before .before .before .before .before .before .before .before .before .args .at) 0 = omega arith in
-    let atom = held-atom row (c .before .before .before .before .before .before .before .before .loop .j) (omega (arith, c .before .before .before .before .before .before .before .before .before .before .if1 .left)) in
-    let slot : IsSlot (c .before .before .before .before .before .before .before .before .before .before .before .before .before .args .words .now) (c .before .before .before .before .before .before .before .before .before .before .before .before .before .args .at + 1 + 2 * c .before .before .before .before .before .before .before .before .loop .j) (Old (c .before .before .before .slot .given .0 .0)) = subst (λ (s : Slot). IsSlot (c .before .before .before .before .before .before .before .before .before .before .before .before .before .args .words .now) (c .before .before .before .before .before .before .before .before .before .before .before .before .before .args .at + 1 + 2 * c .before .before .before .before .before .before .before .before .loop .j) s) (c .before .before .before .slot .given .1) (c .before .before .before .before .before .slot-at .ensures) in
-    matching-old (c .before .before .before .before .before .before .before .before .loop .inv) less long atom slot (sym (c .before .value-of .ensures) ∙ c .if2 .left)
+    let same = same-width (c .before .before .before .before .before .before .before .before .before .before .before .before .before .args .words .now) (c .before .before .before .before .before .before .before .before .before .before .before .before .before .args .at) row four (c .before .before .before .before .before .before .before .before .before .before .before .before .before .pre .1) (c .before .before .before .before .before .before .before .before .before .before .if1 .left) in
+    matching-old (c .before .before .before .before .before .before .before .before .loop .inv) less (same .long) (same .atom (c .before .before .before .before .before .before .before .before .loop .j) less) (slot-told (c .before .before .before .before .before .slot-at .ensures) (c .before .before .before .slot .given .1)) (sym (c .before .value-of .ensures) ∙ c .if2 .left)
 
 returns-3 : tie.Need-returns-3 Inv-loop μ-loop
 returns-3 c =
     let row = c .before .before .before .before .before .before .args .t4 in
     let four : length (row .atoms) ≡ 4 = search needs in
-    let e = c .before .before .wide .ensures in
-    let long : length (rowOf row) ≡ getD (c .before .before .before .before .before .before .args .words .now) (c .before .before .before .before .before .before .args .at) 0 = held-length row four (c .before .before .before .before .before .before .pre .1) ∙ c .before .before .before .if1 .left in
-    matched (c .before .before .before .before .before .before .pre .0) (c .before .loop .inv) long (omega arith)
+    let same = same-width (c .before .before .before .before .before .before .args .words .now) (c .before .before .before .before .before .before .args .at) row four (c .before .before .before .before .before .before .pre .1) (c .before .before .before .if1 .left) in
+    matched (c .before .before .before .before .before .before .pre .0) (c .before .loop .inv) (same .long) (omega (arith, c .before .before .wide .ensures))
 
 pub match-row-spec : {M : Type 1} → statement M
 match-row-spec =

@@ -5,9 +5,9 @@ use native.Mathlib.Omega.{arith}
 use lib.ListN.{length}
 use borrow.Author.Needs.{needs}
 use Rattle.reading.proofs.Past.{literal-inside}
+use Rattle.reading.proofs.Written.{cleared}
 use Rattle.reading.proofs.Rows.{row-is-wide, listed}
 use Rattle.reading.proofs.Literals.{Filling, literal-few, filling-start, filling-row, filling-next, filling-end}
-use Rattle.reading.proofs.Past.{literal-inside}
 use Rattle.reading.proofs.leaves.read_rows.Statement.{statement}
 use Rattle.reading.proofs.leaves.read_rows.Tie as tie
 
@@ -17,8 +17,8 @@ Inv-loop words at form env area₀ count next₀ i₀ area next i = Filling word
 abbrev μ-loop : tie.MeasureT-loop
 μ-loop words at form env area₀ count next₀ i₀ area next i = count - i
 
-start-requires : tie.Need-start-requires Inv-loop μ-loop
-start-requires c κs = (c .before .before .before .pre .2, c .before .before .before .pre .1)
+clear-requires : tie.Need-clear-requires Inv-loop μ-loop
+clear-requires c κs = let long = c .before .before .before .pre .2 in (omega arith, c .before .before .before .pre .1)
 
 mul-count : tie.Need-mul-count Inv-loop μ-loop
 mul-count c =
@@ -40,7 +40,7 @@ add-next c =
 
 loop-holds : tie.Need-loop-holds Inv-loop μ-loop
 loop-holds c =
-    (filling-start (c .before .before .before .before .before .before .before .pre .3) (c .before .before .before .start .ensures), refl)
+    (filling-start (c .before .before .before .before .before .before .before .pre .3) (cleared (c .before .before .before .before .before .before .before .args .area .now) (c .before .before .before .before .before .before .before .pre .2) (c .before .before .before .before .before .before .before .pre .1) (c .before .before .before .clear .ensures)), refl)
 
 row-of-requires : tie.Need-row-of-requires Inv-loop μ-loop
 row-of-requires c κs =
@@ -70,7 +70,7 @@ loop-again c =
     (filling-next (c .before .before .before .before .before .before .before .loop .inv .0) (c .before .before .before .before .before .before .loop-test .taken) (c .before .before .before .before .before .row-of .ensures) l (c .skip-row .ensures), c .before .before .before .insert .kept .0 ∙ c .before .before .before .before .before .before .before .loop .inv .1)
 
 same-length : tie.Need-same-length Inv-loop μ-loop
-same-length c = c .before .loop .inv .1 ∙ c .before .before .before .before .before .start .kept .0
+same-length c = c .before .loop .inv .1 ∙ c .before .before .before .before .before .clear .kept .0
 
 returns : tie.Need-returns Inv-loop μ-loop
 returns c = filling-end (c .before .loop .inv .0) (c .loop-test .left)
@@ -81,7 +81,7 @@ read-rows-spec =
     (tie.spec
     Inv-loop
     μ-loop
-    start-requires
+    clear-requires
     mul-count
     shared-slice-read-count
     add-next

@@ -2,7 +2,7 @@
 use Prim.Native.Nat.{_-_}
 use native.Mathlib.Omega.{arith}
 use borrow.Author.Needs.{needs}
-use Rattle.reading.proofs.Places.{inside, row-wide}
+use Rattle.reading.proofs.Places.{row-width}
 use Rattle.reading.proofs.Rows.{Rowing, rowing-start, rowing-next, rowing-end}
 use Rattle.reading.proofs.leaves.row_of.Statement.{statement}
 use Rattle.reading.proofs.leaves.row_of.Tie as tie
@@ -14,32 +14,17 @@ abbrev μ-loop : tie.MeasureT-loop
 μ-loop words at env width end atoms₀ j₀ atoms j = end - j
 
 mul-width : tie.Need-mul-width Inv-loop μ-loop
-mul-width c =
-    let w = row-wide (c .before .pre .1 .here) in
-    let width = w .width in
-    let few = w .few in
-    let inside = w .inside in
-    let fits = c .before .good in
-    omega arith
+mul-width c = let w = row-width (c .before .pre .1) in let fits = c .before .good in omega arith
 
 shared-slice-read-width : tie.Need-shared-slice-read-width Inv-loop μ-loop
-shared-slice-read-width c =
-    let w = row-wide (c .before .before .pre .1 .here) in
-    let width = w .width in
-    let few = w .few in
-    let inside = w .inside in
-    let fits = c .before .before .good in
-    omega arith
+shared-slice-read-width c = let w = row-width (c .before .before .pre .1) in let fits = c .before .before .good in omega arith
 
 loop-holds : tie.Need-loop-holds Inv-loop μ-loop
 loop-holds c = rowing-start (search needs)
 
 add-term-at : tie.Need-add-term-at Inv-loop μ-loop
 add-term-at c =
-    let w = row-wide (c .before .before .before .before .before .pre .1 .here) in
-    let width = w .width in
-    let few = w .few in
-    let inside = w .inside in
+    let w = row-width (c .before .before .before .before .before .pre .1) in
     let fits = c .before .before .before .before .before .good in
     let number = c .before .before .wide .ensures in
     let four = c .before .loop .inv .four in
@@ -47,10 +32,7 @@ add-term-at c =
 
 mul-term-at : tie.Need-mul-term-at Inv-loop μ-loop
 mul-term-at c =
-    let w = row-wide (c .before .before .before .before .before .pre .1 .here) in
-    let width = w .width in
-    let few = w .few in
-    let inside = w .inside in
+    let w = row-width (c .before .before .before .before .before .pre .1) in
     let fits = c .before .before .before .before .before .good in
     let number = c .before .before .wide .ensures in
     let four = c .before .loop .inv .four in
@@ -58,10 +40,7 @@ mul-term-at c =
 
 add-term-at-2 : tie.Need-add-term-at-2 Inv-loop μ-loop
 add-term-at-2 c =
-    let w = row-wide (c .before .before .before .before .before .pre .1 .here) in
-    let width = w .width in
-    let few = w .few in
-    let inside = w .inside in
+    let w = row-width (c .before .before .before .before .before .pre .1) in
     let fits = c .before .before .before .before .before .good in
     let number = c .before .before .wide .ensures in
     let four = c .before .loop .inv .four in
@@ -69,10 +48,7 @@ add-term-at-2 c =
 
 term-at-requires : tie.Need-term-at-requires Inv-loop μ-loop
 term-at-requires c κs =
-    let w = row-wide (c .before .before .before .before .before .pre .1 .here) in
-    let width = w .width in
-    let few = w .few in
-    let inside = w .inside in
+    let w = row-width (c .before .before .before .before .before .pre .1) in
     let fits = c .before .before .before .before .before .good in
     let number = c .before .before .wide .ensures in
     let four = c .before .loop .inv .four in
@@ -83,10 +59,7 @@ value-of-requires c κs = c .before .before .before .before .before .before .pre
 
 mul-atoms : tie.Need-mul-atoms Inv-loop μ-loop
 mul-atoms c =
-    let w = row-wide (c .before .before .before .before .before .before .before .pre .1 .here) in
-    let width = w .width in
-    let few = w .few in
-    let inside = w .inside in
+    let w = row-width (c .before .before .before .before .before .before .before .pre .1) in
     let fits = c .before .before .before .before .before .before .before .good in
     let number = c .before .before .before .before .wide .ensures in
     let four = c .before .before .before .loop .inv .four in
@@ -94,10 +67,7 @@ mul-atoms c =
 
 array-write-atoms : tie.Need-array-write-atoms Inv-loop μ-loop
 array-write-atoms c =
-    let w = row-wide (c .before .before .before .before .before .before .before .pre .1 .here) in
-    let width = w .width in
-    let few = w .few in
-    let inside = w .inside in
+    let w = row-width (c .before .before .before .before .before .before .before .pre .1) in
     let fits = c .before .before .before .before .before .before .before .good in
     let number = c .before .before .before .before .wide .ensures in
     let four = c .before .before .before .loop .inv .four in
@@ -105,10 +75,7 @@ array-write-atoms c =
 
 add-j : tie.Need-add-j Inv-loop μ-loop
 add-j c =
-    let w = row-wide (c .before .before .before .before .before .before .before .pre .1 .here) in
-    let width = w .width in
-    let few = w .few in
-    let inside = w .inside in
+    let w = row-width (c .before .before .before .before .before .before .before .pre .1) in
     let fits = c .before .before .before .before .before .before .before .good in
     let number = c .before .before .before .before .wide .ensures in
     let four = c .before .before .before .loop .inv .four in

@@ -1,5 +1,7 @@
+-- A number issues nothing; a key's records are the rows certified.
 use native.Mathlib.Omega.{arith}
 use borrow.Author.Needs.{needs}
+use Rattle.reading.proofs.Written.{cleared}
 use Rattle.reading.proofs.Named.{name-long, name-form, say-number, ask-records, say-too-many, say-records}
 use Rattle.reading.proofs.names.read_name.Statement.{statement}
 use Rattle.reading.proofs.names.read_name.Tie as tie
@@ -49,17 +51,18 @@ shared-slice-read-polarity c =
     let fits = c .before .before .before .before .before .before .before .good in
     omega arith
 
-start-requires : tie.Need-start-requires
-start-requires c κs =
-    (c .before .before .before .before .before .before .before .before .pre .3, name-form (c .before .before .before .before .before .before .before .before .pre .1))
+clear-requires : tie.Need-clear-requires
+clear-requires c κs =
+    let long = c .before .before .before .before .before .before .before .before .pre .3 in
+    (omega arith, name-form (c .before .before .before .before .before .before .before .before .pre .1))
 
 returns : tie.Need-returns
 returns c =
-    say-number (c .before .before .before .before .before .before .before .before .before .before .before .before .args .env) (c .before .before .before .before .before .before .before .before .term-at .ensures) (c .before .before .before .before .before .before .before .value-of .ensures) (c .before .before .before .start .ensures) (c .if1 .taken)
+    let empty = cleared (c .before .before .before .before .before .before .before .before .before .before .before .before .args .area .now) (c .before .before .before .before .before .before .before .before .before .before .before .before .pre .3) (name-form (c .before .before .before .before .before .before .before .before .before .before .before .before .pre .1)) (c .before .before .before .clear .ensures) in
+    say-number (c .before .before .before .before .before .before .before .before .before .before .before .before .args .env) (c .before .before .before .before .before .before .before .before .term-at .ensures) (c .before .before .before .before .before .before .before .value-of .ensures) empty (c .if1 .taken)
 
 certificates-in-requires : tie.Need-certificates-in-requires
-certificates-in-requires c κs =
-    c .before .before .before .before .before .before .before .before .before .before .before .before .pre .2
+certificates-in-requires c κs = c .before .before .before .before .before .before .before .before .before .before .before .before .pre .2
 
 returns-2 : tie.Need-returns-2
 returns-2 c =
@@ -67,13 +70,15 @@ returns-2 c =
 
 copy-rows-requires : tie.Need-copy-rows-requires
 copy-rows-requires c κs =
-    let form = c .before .before .before .before .before .before .start .ensures .is in
+    let empty = cleared (c .before .before .before .before .before .before .before .before .before .before .before .before .before .before .before .args .area .now) (c .before .before .before .before .before .before .before .before .before .before .before .before .before .before .before .pre .3) (name-form (c .before .before .before .before .before .before .before .before .before .before .before .before .before .before .before .pre .1)) (c .before .before .before .before .before .before .clear .ensures) in
+    let form = empty .is in
     let low = name-form (c .before .before .before .before .before .before .before .before .before .before .before .before .before .before .before .pre .1) in
-    (ask-records (c .before .before .before .before .before .before .before .before .before .before .before .before .before .before .before .args .env) (c .before .before .before .before .before .before .before .before .before .before .before .term-at .ensures) (c .before .before .before .before .before .before .before .before .before .before .value-of .ensures) (c .before .before .before .before .before .before .before .before .before .before .before .before .before .before .before .args .store .now) (c .before .before .before .before .before .before .before .before .before .before .before .before .before .before .before .pre .2) (c .before .before .before .before .before .before .before .before .before .before .before .before .before .before .before .pre .1) (c .before .before .before .if1 .left) (c .before .before .certificates-in .ensures) (c .before .if2 .left), c .before .before .before .before .before .before .start .ensures .filled .long, omega arith)
+    (ask-records (c .before .before .before .before .before .before .before .before .before .before .before .before .before .before .before .args .env) (c .before .before .before .before .before .before .before .before .before .before .before .term-at .ensures) (c .before .before .before .before .before .before .before .before .before .before .value-of .ensures) (c .before .before .before .before .before .before .before .before .before .before .before .before .before .before .before .args .store .now) (c .before .before .before .before .before .before .before .before .before .before .before .before .before .before .before .pre .2) (c .before .before .before .before .before .before .before .before .before .before .before .before .before .before .before .pre .1) (c .before .before .before .if1 .left) (c .before .before .certificates-in .ensures) (c .before .if2 .left), empty .filled .long, omega arith)
 
 returns-3 : tie.Need-returns-3
 returns-3 c =
-    say-records (c .before .before .before .before .before .before .before .before .before .before .before .before .before .before .before .before .before .before .args .env) (c .before .before .before .before .before .before .before .before .before .before .before .before .before .before .term-at .ensures) (c .before .before .before .before .before .before .before .before .before .before .before .before .before .value-of .ensures) (c .before .before .before .before .before .before .before .before .before .before .before .before .before .before .before .before .before .before .args .store .now) (c .before .before .before .before .before .before .before .before .before .before .before .before .before .before .before .before .before .before .pre .2) (c .before .before .before .before .before .before .before .before .before .before .before .before .before .before .before .before .before .before .pre .1) (c .before .before .before .before .before .before .if1 .left) (c .before .before .before .before .before .certificates-in .ensures) (c .before .before .before .before .before .before .before .before .before .start .last .0) (c .before .before .before .before .before .before .before .before .before .start .ensures) (c .before .before .before .before .if2 .left) (c .before .before .copy-rows .ensures)
+    let empty = cleared (c .before .before .before .before .before .before .before .before .before .before .before .before .before .before .before .before .before .before .args .area .now) (c .before .before .before .before .before .before .before .before .before .before .before .before .before .before .before .before .before .before .pre .3) (name-form (c .before .before .before .before .before .before .before .before .before .before .before .before .before .before .before .before .before .before .pre .1)) (c .before .before .before .before .before .before .before .before .before .clear .ensures) in
+    say-records (c .before .before .before .before .before .before .before .before .before .before .before .before .before .before .before .before .before .before .args .env) (c .before .before .before .before .before .before .before .before .before .before .before .before .before .before .term-at .ensures) (c .before .before .before .before .before .before .before .before .before .before .before .before .before .value-of .ensures) (c .before .before .before .before .before .before .before .before .before .before .before .before .before .before .before .before .before .before .args .store .now) (c .before .before .before .before .before .before .before .before .before .before .before .before .before .before .before .before .before .before .pre .2) (c .before .before .before .before .before .before .before .before .before .before .before .before .before .before .before .before .before .before .pre .1) (c .before .before .before .before .before .before .if1 .left) (c .before .before .before .before .before .certificates-in .ensures) (c .before .before .before .before .before .before .before .before .before .clear .last .0) empty (c .before .before .before .before .if2 .left) (c .before .before .copy-rows .ensures)
 
 pub read-name-spec : {M : Type 1} → statement M
 read-name-spec =
@@ -87,7 +92,7 @@ read-name-spec =
     add-polarity
     mul-polarity
     shared-slice-read-polarity
-    start-requires
+    clear-requires
     (λ c. search needs)
     returns
     certificates-in-requires

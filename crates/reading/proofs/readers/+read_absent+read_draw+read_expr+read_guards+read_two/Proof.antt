@@ -130,7 +130,7 @@ pub +read-absent+read-draw+read-expr+read-guards+read-two-spec : {M : Type 1} â†
     (expr.returns-6 t)
     (expr.mul-count t)
     (expr.shared-slice-read-count t)
-    (expr.start-requires t)
+    (expr.clear-requires t)
     (expr.add-read-guards t)
     (expr.read-guards-requires t)
     (Î» c. search needs)

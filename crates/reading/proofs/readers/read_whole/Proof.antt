@@ -1,3 +1,4 @@
+-- What was checked fits, and the area has room for it.
 use borrow.Author.Needs.{needs}
 use Rattle.reading.proofs.Whole.{ask-whole, say-whole}
 use Rattle.reading.proofs.readers.read_whole.Statement.{statement}

@@ -1,62 +1,27 @@
+-- A pattern has one to four slots.
 use native.Mathlib.Omega.{arith}
-use Rattle.reading.proofs.Places.{inside, pattern-wide}
+use Rattle.reading.proofs.Places.{pattern-width}
 use Rattle.reading.proofs.Past.{past-pattern}
 use Rattle.reading.proofs.skip.skip_pattern.Statement.{statement}
 use Rattle.reading.proofs.skip.skip_pattern.Tie as tie
 
 mul-width : tie.Need-mul-width
-mul-width c =
-    let w = pattern-wide (c .pre .1 .here) in
-    let width = w .width in
-    let few = w .few in
-    let inside = w .inside in
-    let fits = c .good in
-    omega arith
+mul-width c = let w = pattern-width (c .pre .1) in let fits = c .good in omega arith
 
 shared-slice-read-width : tie.Need-shared-slice-read-width
-shared-slice-read-width c =
-    let w = pattern-wide (c .before .pre .1 .here) in
-    let width = w .width in
-    let few = w .few in
-    let inside = w .inside in
-    let fits = c .before .good in
-    omega arith
+shared-slice-read-width c = let w = pattern-width (c .before .pre .1) in let fits = c .before .good in omega arith
 
 cast-width : tie.Need-cast-width
-cast-width c =
-    let w = pattern-wide (c .before .pre .1 .here) in
-    let width = w .width in
-    let few = w .few in
-    let inside = w .inside in
-    let fits = c .before .good in
-    omega (arith, c .shared-slice-known .given (c .before .args .at))
+cast-width c = let w = pattern-width (c .before .pre .1) in let fits = c .before .good in omega arith
 
 add-result : tie.Need-add-result
-add-result c =
-    let w = pattern-wide (c .before .pre .1 .here) in
-    let width = w .width in
-    let few = w .few in
-    let inside = w .inside in
-    let fits = c .before .good in
-    omega arith
+add-result c = let w = pattern-width (c .before .pre .1) in let fits = c .before .good in omega arith
 
 mul-result : tie.Need-mul-result
-mul-result c =
-    let w = pattern-wide (c .before .pre .1 .here) in
-    let width = w .width in
-    let few = w .few in
-    let inside = w .inside in
-    let fits = c .before .good in
-    omega arith
+mul-result c = let w = pattern-width (c .before .pre .1) in let fits = c .before .good in omega arith
 
 add-result-2 : tie.Need-add-result-2
-add-result-2 c =
-    let w = pattern-wide (c .before .pre .1 .here) in
-    let width = w .width in
-    let few = w .few in
-    let inside = w .inside in
-    let fits = c .before .good in
-    omega arith
+add-result-2 c = let w = pattern-width (c .before .pre .1) in let fits = c .before .good in omega arith
 
 returns : tie.Need-returns
 returns c = past-pattern

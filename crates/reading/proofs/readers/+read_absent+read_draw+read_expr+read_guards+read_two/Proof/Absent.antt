@@ -1,12 +1,10 @@
 -- The needs of `read_absent`.
-use Prim.Native.Nat.{ℕ, _-_, _≤_}
+use Prim.Native.Nat.{ℕ}
 use mathlib.Core.Path.{sym, subst}
 use native.Mathlib.Omega.{arith}
-use lib.ListN.{length, drop, length-take, length-drop}
 use Rattle.reading.specs.Areas.{Filled}
-use Rattle.reading.proofs.Places.{inside}
-use Rattle.reading.proofs.Areas.{gathering-same, back-kept, part-whole}
-use Rattle.reading.proofs.Guards.{operand, has-told, absent-row, absent-room, some-inner, inner-after, ask-inner, absent-rest-after, ask-absent-rest, absent-refused, absent-fails, absent-passes}
+use Rattle.reading.proofs.Areas.{gathering-same, part-whole}
+use Rattle.reading.proofs.Guards.{has-told, absent-row, absent-room, some-inner, inner-after, ask-inner, absent-operand, absent-rest-after, ask-absent-rest, absent-refused, absent-fails, absent-passes}
 use Rattle.reading.proofs.readers.read_absent.Reads as read-absent
 use Rattle.reading.proofs.readers.+read_absent+read_draw+read_expr+read_guards+read_two.Lts-read_absent as read-absent-lts
 use Rattle.reading.proofs.readers.+read_absent+read_draw+read_expr+read_guards+read_two.Proof.Cycle.{read-absent-at, read-absent-claims}
@@ -40,60 +38,49 @@ part-read-expr-end t c =
 
 pub read-expr-requires : (t : ℕ) → read-absent-lts.Need-read-expr-requires (read-absent-claims t) (read-absent-at t) read-absent.Post
 read-expr-requires t c κs =
-    let room = absent-room (c .before .before .before .before .before .before .pre .1) in
-    let whole = length-take (length (c .before .before .before .before .before .before .args .area .now) - c .before .before .before .before .before .before .args .free) (drop (c .before .before .before .before .before .before .args .free) (c .before .before .before .before .before .before .args .area .now)) in
-    let part = length-drop (c .before .before .before .before .before .before .args .free) (c .before .before .before .before .before .before .args .area .now) in
     let later = inner-after (c .before .before .before .before .before .before .pre .1) (c .before .skip-row .ensures) in
-    (omega arith, ask-inner (c .before .before .before .before .before .before .pre .1) (c .before .skip-row .ensures) (omega arith))
+    (omega arith, ask-inner (c .before .before .before .before .before .before .pre .1) (c .before .skip-row .ensures))
 
 pub mul-has-row : (t : ℕ) → read-absent-lts.Need-mul-has-row (read-absent-claims t) (read-absent-at t) read-absent.Post
 mul-has-row t c =
+    let o = absent-operand (c .before .before .before .before .before .before .before .before .before .before .before .before .pre .1) (c .before .before .before .before .before .before .before .skip-row .ensures) (c .before .before .before .before .before .read-expr .kept .1 .1 .1 .1 .1 .1 .1 .0) (c .before .before .before .before .before .read-expr .ensures) (c .before .used .given .1) in
     let room = absent-room (c .before .before .before .before .before .before .before .before .before .before .before .before .pre .1) in
-    let inside : c .before .before .before .before .before .before .before .before .before .before .before .before .args .free ≤ length (c .before .before .before .before .before .before .before .before .before .before .before .before .args .area .now) = omega arith in
-    let o = operand (c .before .before .before .before .before .before .before .before .before .before .before .before .args .area .now) (c .before .before .before .before .before .before .before .before .before .before .before .before .args .free) (c .before .before .before .before .before .read-expr .last .1 .1 .1 .1 .1 .1 .1 .0) inside (c .before .before .before .before .before .before .before .before .before .before .before .before .pre .1 .ask .behind) (c .before .before .before .before .before .read-expr .kept .1 .1 .1 .1 .1 .1 .1 .0) (c .before .before .before .before .before .read-expr .ensures) (c .before .used .given .1) in
     let size = o .size in
     let fits = c .before .before .before .before .before .before .before .before .before .before .before .before .good in
     omega arith
 
 pub sub-has-row : (t : ℕ) → read-absent-lts.Need-sub-has-row (read-absent-claims t) (read-absent-at t) read-absent.Post
 sub-has-row t c =
+    let o = absent-operand (c .before .before .before .before .before .before .before .before .before .before .before .before .pre .1) (c .before .before .before .before .before .before .before .skip-row .ensures) (c .before .before .before .before .before .read-expr .kept .1 .1 .1 .1 .1 .1 .1 .0) (c .before .before .before .before .before .read-expr .ensures) (c .before .used .given .1) in
     let room = absent-room (c .before .before .before .before .before .before .before .before .before .before .before .before .pre .1) in
-    let inside : c .before .before .before .before .before .before .before .before .before .before .before .before .args .free ≤ length (c .before .before .before .before .before .before .before .before .before .before .before .before .args .area .now) = omega arith in
-    let o = operand (c .before .before .before .before .before .before .before .before .before .before .before .before .args .area .now) (c .before .before .before .before .before .before .before .before .before .before .before .before .args .free) (c .before .before .before .before .before .read-expr .last .1 .1 .1 .1 .1 .1 .1 .0) inside (c .before .before .before .before .before .before .before .before .before .before .before .before .pre .1 .ask .behind) (c .before .before .before .before .before .read-expr .kept .1 .1 .1 .1 .1 .1 .1 .0) (c .before .before .before .before .before .read-expr .ensures) (c .before .used .given .1) in
     let size = o .size in
     let fits = c .before .before .before .before .before .before .before .before .before .before .before .before .good in
     omega arith
 
 pub part-has-row-start : (t : ℕ) → read-absent-lts.Need-part-has-row-start (read-absent-claims t) (read-absent-at t) read-absent.Post
 part-has-row-start t c =
+    let o = absent-operand (c .before .before .before .before .before .before .before .before .before .before .before .before .before .pre .1) (c .before .before .before .before .before .before .before .before .skip-row .ensures) (c .before .before .before .before .before .before .read-expr .kept .1 .1 .1 .1 .1 .1 .1 .0) (c .before .before .before .before .before .before .read-expr .ensures) (c .before .before .used .given .1) in
     let room = absent-room (c .before .before .before .before .before .before .before .before .before .before .before .before .before .pre .1) in
-    let inside : c .before .before .before .before .before .before .before .before .before .before .before .before .before .args .free ≤ length (c .before .before .before .before .before .before .before .before .before .before .before .before .before .args .area .now) = omega arith in
-    let o = operand (c .before .before .before .before .before .before .before .before .before .before .before .before .before .args .area .now) (c .before .before .before .before .before .before .before .before .before .before .before .before .before .args .free) (c .before .before .before .before .before .before .read-expr .last .1 .1 .1 .1 .1 .1 .1 .0) inside (c .before .before .before .before .before .before .before .before .before .before .before .before .before .pre .1 .ask .behind) (c .before .before .before .before .before .before .read-expr .kept .1 .1 .1 .1 .1 .1 .1 .0) (c .before .before .before .before .before .before .read-expr .ensures) (c .before .before .used .given .1) in
     let size = o .size in
     let fits = c .before .before .before .before .before .before .before .before .before .before .before .before .before .good in
     omega arith
 
 pub part-has-row-end : (t : ℕ) → read-absent-lts.Need-part-has-row-end (read-absent-claims t) (read-absent-at t) read-absent.Post
 part-has-row-end t c =
+    let o = absent-operand (c .before .before .before .before .before .before .before .before .before .before .before .before .before .pre .1) (c .before .before .before .before .before .before .before .before .skip-row .ensures) (c .before .before .before .before .before .before .read-expr .kept .1 .1 .1 .1 .1 .1 .1 .0) (c .before .before .before .before .before .before .read-expr .ensures) (c .before .before .used .given .1) in
     let room = absent-room (c .before .before .before .before .before .before .before .before .before .before .before .before .before .pre .1) in
-    let inside : c .before .before .before .before .before .before .before .before .before .before .before .before .before .args .free ≤ length (c .before .before .before .before .before .before .before .before .before .before .before .before .before .args .area .now) = omega arith in
-    let o = operand (c .before .before .before .before .before .before .before .before .before .before .before .before .before .args .area .now) (c .before .before .before .before .before .before .before .before .before .before .before .before .before .args .free) (c .before .before .before .before .before .before .read-expr .last .1 .1 .1 .1 .1 .1 .1 .0) inside (c .before .before .before .before .before .before .before .before .before .before .before .before .before .pre .1 .ask .behind) (c .before .before .before .before .before .before .read-expr .kept .1 .1 .1 .1 .1 .1 .1 .0) (c .before .before .before .before .before .before .read-expr .ensures) (c .before .before .used .given .1) in
     let size = o .size in
     let fits = c .before .before .before .before .before .before .before .before .before .before .before .before .before .good in
     omega arith
 
 pub has-row-requires : (t : ℕ) → read-absent-lts.Need-has-row-requires (read-absent-claims t) (read-absent-at t) read-absent.Post
 has-row-requires t c κs =
-    let room = absent-room (c .before .before .before .before .before .before .before .before .before .before .before .before .before .before .pre .1) in
-    let inside : c .before .before .before .before .before .before .before .before .before .before .before .before .before .before .args .free ≤ length (c .before .before .before .before .before .before .before .before .before .before .before .before .before .before .args .area .now) = omega arith in
-    let o = operand (c .before .before .before .before .before .before .before .before .before .before .before .before .before .before .args .area .now) (c .before .before .before .before .before .before .before .before .before .before .before .before .before .before .args .free) (c .before .before .before .before .before .before .before .read-expr .last .1 .1 .1 .1 .1 .1 .1 .0) inside (c .before .before .before .before .before .before .before .before .before .before .before .before .before .before .pre .1 .ask .behind) (c .before .before .before .before .before .before .before .read-expr .kept .1 .1 .1 .1 .1 .1 .1 .0) (c .before .before .before .before .before .before .before .read-expr .ensures) (c .before .before .before .used .given .1) in
+    let o = absent-operand (c .before .before .before .before .before .before .before .before .before .before .before .before .before .before .pre .1) (c .before .before .before .before .before .before .before .before .before .skip-row .ensures) (c .before .before .before .before .before .before .before .read-expr .kept .1 .1 .1 .1 .1 .1 .1 .0) (c .before .before .before .before .before .before .before .read-expr .ensures) (c .before .before .before .used .given .1) in
     (c .before .before .before .before .before .before .before .before .before .before .before .before .before .before .pre .1 .ask .scope, subst Filled (sym (part-whole (c .before .before .before .before .before .before .before .before .before .before .before .before .before .before .args .free) _)) (o .filled), absent-row (c .before .before .before .before .before .before .before .before .before .before .before .before .before .before .pre .1))
 
 pub returns : (t : ℕ) → read-absent-lts.Need-returns (read-absent-claims t) (read-absent-at t) read-absent.Post
 returns t c =
-    let room = absent-room (c .before .before .before .before .before .before .before .before .before .before .before .before .before .before .before .before .pre .1) in
-    let inside : c .before .before .before .before .before .before .before .before .before .before .before .before .before .before .before .before .args .free ≤ length (c .before .before .before .before .before .before .before .before .before .before .before .before .before .before .before .before .args .area .now) = omega arith in
-    let o = operand (c .before .before .before .before .before .before .before .before .before .before .before .before .before .before .before .before .args .area .now) (c .before .before .before .before .before .before .before .before .before .before .before .before .before .before .before .before .args .free) (c .before .before .before .before .before .before .before .before .before .read-expr .last .1 .1 .1 .1 .1 .1 .1 .0) inside (c .before .before .before .before .before .before .before .before .before .before .before .before .before .before .before .before .pre .1 .ask .behind) (c .before .before .before .before .before .before .before .before .before .read-expr .kept .1 .1 .1 .1 .1 .1 .1 .0) (c .before .before .before .before .before .before .before .before .before .read-expr .ensures) (c .before .before .before .before .before .used .given .1) in
+    let o = absent-operand (c .before .before .before .before .before .before .before .before .before .before .before .before .before .before .before .before .pre .1) (c .before .before .before .before .before .before .before .before .before .before .before .skip-row .ensures) (c .before .before .before .before .before .before .before .before .before .read-expr .kept .1 .1 .1 .1 .1 .1 .1 .0) (c .before .before .before .before .before .before .before .before .before .read-expr .ensures) (c .before .before .before .before .before .used .given .1) in
     absent-fails (c .before .before .before .before .before .before .before .before .before .before .before .skip-row .ensures) (c .before .before .before .before .before .before .before .before .before .before .before .before .before .before .before .before .pre .1 .ask .gathering) o (has-told (c .before .before .before .before .before .before .before .before .before .before .before .before .before .before .before .before .args .free) _ (c .before .has-row .ensures) (c .if1 .taken))
 
 pub skip-expr-requires : (t : ℕ) → read-absent-lts.Need-skip-expr-requires (read-absent-claims t) (read-absent-at t) read-absent.Post
@@ -102,22 +89,16 @@ skip-expr-requires t c κs =
 
 pub read-guards-requires : (t : ℕ) → read-absent-lts.Need-read-guards-requires (read-absent-claims t) (read-absent-at t) read-absent.Post
 read-guards-requires t c κs =
-    let room = absent-room (c .before .before .before .before .before .before .before .before .before .before .before .before .before .before .before .before .before .before .pre .1) in
-    let inside : c .before .before .before .before .before .before .before .before .before .before .before .before .before .before .before .before .before .before .args .free ≤ length (c .before .before .before .before .before .before .before .before .before .before .before .before .before .before .before .before .before .before .args .area .now) = omega arith in
-    let o = operand (c .before .before .before .before .before .before .before .before .before .before .before .before .before .before .before .before .before .before .args .area .now) (c .before .before .before .before .before .before .before .before .before .before .before .before .before .before .before .before .before .before .args .free) (c .before .before .before .before .before .before .before .before .before .before .before .read-expr .last .1 .1 .1 .1 .1 .1 .1 .0) inside (c .before .before .before .before .before .before .before .before .before .before .before .before .before .before .before .before .before .before .pre .1 .ask .behind) (c .before .before .before .before .before .before .before .before .before .before .before .read-expr .kept .1 .1 .1 .1 .1 .1 .1 .0) (c .before .before .before .before .before .before .before .before .before .before .before .read-expr .ensures) (c .before .before .before .before .before .before .before .used .given .1) in
+    let o = absent-operand (c .before .before .before .before .before .before .before .before .before .before .before .before .before .before .before .before .before .before .pre .1) (c .before .before .before .before .before .before .before .before .before .before .before .before .before .skip-row .ensures) (c .before .before .before .before .before .before .before .before .before .before .before .read-expr .kept .1 .1 .1 .1 .1 .1 .1 .0) (c .before .before .before .before .before .before .before .before .before .before .before .read-expr .ensures) (c .before .before .before .before .before .before .before .used .given .1) in
     let measure = c .before .before .before .before .before .before .before .before .before .before .before .before .before .before .before .before .before .before .pre .0 in
     let later = absent-rest-after (c .before .before .before .before .before .before .before .before .before .before .before .before .before .before .before .before .before .before .pre .1) (c .before .before .before .before .before .before .before .before .before .before .before .before .before .skip-row .ensures) (c .before .skip-expr .ensures) in
     (omega arith, ask-absent-rest (c .before .before .before .before .before .before .before .before .before .before .before .before .before .before .before .before .before .before .pre .1) (c .before .before .before .before .before .before .before .before .before .before .before .before .before .skip-row .ensures) (c .before .skip-expr .ensures) (o .size) (gathering-same (o .front) (c .before .before .before .before .before .before .before .before .before .before .before .before .before .before .before .before .before .before .pre .1 .ask .gathering)))
 
 pub returns-2 : (t : ℕ) → read-absent-lts.Need-returns-2 (read-absent-claims t) (read-absent-at t) read-absent.Post
 returns-2 t c =
-    let room = absent-room (c .before .before .before .before .before .before .before .before .before .before .before .before .pre .1) in
-    let inside : c .before .before .before .before .before .before .before .before .before .before .before .before .args .free ≤ length (c .before .before .before .before .before .before .before .before .before .before .before .before .args .area .now) = omega arith in
-    absent-refused (c .before .before .before .before .before .before .before .skip-row .ensures) (back-kept (c .before .before .before .before .before .before .before .before .before .before .before .before .args .area .now) (c .before .before .before .before .before .before .before .before .before .before .before .before .args .free) (c .before .before .before .before .before .read-expr .last .1 .1 .1 .1 .1 .1 .1 .0) inside (c .before .before .before .before .before .read-expr .kept .1 .1 .1 .1 .1 .1 .1 .0)) (c .before .before .before .before .before .read-expr .ensures) (c .before .n .given .1)
+    absent-refused (c .before .before .before .before .before .before .before .before .before .before .before .before .pre .1) (c .before .before .before .before .before .before .before .skip-row .ensures) (c .before .before .before .before .before .read-expr .kept .1 .1 .1 .1 .1 .1 .1 .0) (c .before .before .before .before .before .read-expr .ensures) (c .before .n .given .1)
 
 pub returns-3 : (t : ℕ) → read-absent-lts.Need-returns-3 (read-absent-claims t) (read-absent-at t) read-absent.Post
 returns-3 t c =
-    let room = absent-room (c .before .before .before .before .before .before .before .before .before .before .before .before .before .before .before .before .before .before .before .before .before .pre .1) in
-    let inside : c .before .before .before .before .before .before .before .before .before .before .before .before .before .before .before .before .before .before .before .before .before .args .free ≤ length (c .before .before .before .before .before .before .before .before .before .before .before .before .before .before .before .before .before .before .before .before .before .args .area .now) = omega arith in
-    let o = operand (c .before .before .before .before .before .before .before .before .before .before .before .before .before .before .before .before .before .before .before .before .before .args .area .now) (c .before .before .before .before .before .before .before .before .before .before .before .before .before .before .before .before .before .before .before .before .before .args .free) (c .before .before .before .before .before .before .before .before .before .before .before .before .before .before .read-expr .last .1 .1 .1 .1 .1 .1 .1 .0) inside (c .before .before .before .before .before .before .before .before .before .before .before .before .before .before .before .before .before .before .before .before .before .pre .1 .ask .behind) (c .before .before .before .before .before .before .before .before .before .before .before .before .before .before .read-expr .kept .1 .1 .1 .1 .1 .1 .1 .0) (c .before .before .before .before .before .before .before .before .before .before .before .before .before .before .read-expr .ensures) (c .before .before .before .before .before .before .before .before .before .before .used .given .1) in
+    let o = absent-operand (c .before .before .before .before .before .before .before .before .before .before .before .before .before .before .before .before .before .before .before .before .before .pre .1) (c .before .before .before .before .before .before .before .before .before .before .before .before .before .before .before .before .skip-row .ensures) (c .before .before .before .before .before .before .before .before .before .before .before .before .before .before .read-expr .kept .1 .1 .1 .1 .1 .1 .1 .0) (c .before .before .before .before .before .before .before .before .before .before .before .before .before .before .read-expr .ensures) (c .before .before .before .before .before .before .before .before .before .before .used .given .1) in
     absent-passes (c .before .before .before .before .before .before .before .before .before .before .before .before .before .before .before .before .skip-row .ensures) (c .before .before .before .before .before .before .before .before .before .before .before .before .before .before .before .before .before .before .before .before .before .pre .1 .ask .gathering) o (has-told (c .before .before .before .before .before .before .before .before .before .before .before .before .before .before .before .before .before .before .before .before .before .args .free) _ (c .before .before .before .before .before .before .has-row .ensures) (c .before .before .before .before .before .if1 .left)) (c .before .before .before .before .skip-expr .ensures) (c .before .before .read-guards .ensures)

@@ -25,7 +25,6 @@ use Rattle.reading.proofs.leaves.insert_head.Reads as insert-head-reads
 use Rattle.reading.proofs.leaves.match_row.Reads as match-row-reads
 use Rattle.reading.proofs.leaves.read_definition.Reads as read-definition-reads
 use Rattle.reading.proofs.leaves.read_rows.Reads as read-rows-reads
-use Rattle.reading.proofs.leaves.start.Reads as start-reads
 use Rattle.reading.proofs.names.read_name.Reads as read-name-reads
 use Rattle.reading.proofs.skip.skip_expr.Reads as skip-expr-reads
 use Rattle.reading.proofs.skip.skip_pattern.Reads as skip-pattern-reads
@@ -34,6 +33,7 @@ use Rattle.reading.proofs.values.guard_at.Reads as guard-at-reads
 use Rattle.reading.proofs.values.value_of.Reads as value-of-reads
 use Rattle.rows.proofs.row.load.Reads as load-reads
 use Rattle.rows.proofs.row.wide.Reads as wide-reads
+use Rattle.rows.proofs.set.clear.Reads as clear-reads
 
 abbrev pub μ-read-absent : Measures 4 read-absent-kinds.ps ℕ
 μ-read-absent κs a = 2 * (length (a .0 .now) - a .1 .0) + 1
@@ -103,7 +103,7 @@ read-draw-claims t = (read-expr-below t, read-expr.Post, skip-expr-reads.Asked, 
 
 -- what `read_expr` knows of the functions that it calls
 abbrev pub read-expr-claims : ℕ → read-expr-lts.Claims
-read-expr-claims t = (read-rows-reads.Asked, read-rows-reads.Learnt, read-definition-reads.Asked, read-definition-reads.Learnt, read-name-reads.Asked, read-name-reads.Learnt, read-two-below t, read-two.Post, start-reads.Asked, start-reads.Learnt, read-guards-below t, read-guards.Post)
+read-expr-claims t = (read-rows-reads.Asked, read-rows-reads.Learnt, read-definition-reads.Asked, read-definition-reads.Learnt, read-name-reads.Asked, read-name-reads.Learnt, read-two-below t, read-two.Post, clear-reads.Asked, clear-reads.Learnt, read-guards-below t, read-guards.Post)
 
 -- what `read_guards` knows of the functions that it calls
 abbrev pub read-guards-claims : ℕ → read-guards-lts.Claims

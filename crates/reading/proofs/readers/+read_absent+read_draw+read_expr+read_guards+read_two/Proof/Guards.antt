@@ -14,8 +14,7 @@ insert-head-requires t c κs =
     (c .before .before .before .before .before .before .pre .1 .ask .scope, c .before .before .before .before .before .before .pre .1 .ask .gathering, some-head (c .before .before .before .before .before .before .pre .1) (c .before .if1 .taken))
 
 pub returns : (t : ℕ) → read-guards-lts.Need-returns (read-guards-claims t) (read-guards-at t) read-guards.Post
-returns t c =
-    say-head (c .before .before .before .before .if1 .taken) (c .before .before .insert-head .ensures)
+returns t c = say-head (c .before .before .before .before .if1 .taken) (c .before .before .insert-head .ensures)
 
 pub guard-at-requires : (t : ℕ) → read-guards-lts.Need-guard-at-requires (read-guards-claims t) (read-guards-at t) read-guards.Post
 guard-at-requires t c κs = some-guard (c .before .before .before .before .before .pre .1) (c .if1 .left)
@@ -32,12 +31,10 @@ read-draw-requires t c κs =
     (omega arith, ask-draw (c .before .before .before .before .before .before .before .before .before .pre .1) (c .before .before .before .before .if1 .left) (guard-told (c .before .before .before .guard-at .ensures) (c .before .enum-told .given .1)))
 
 pub value-of-requires : (t : ℕ) → read-guards-lts.Need-value-of-requires (read-guards-claims t) (read-guards-at t) read-guards.Post
-value-of-requires t c κs =
-    c .before .before .before .before .before .before .before .before .before .pre .1 .ask .scope
+value-of-requires t c κs = c .before .before .before .before .before .before .before .before .before .pre .1 .ask .scope
 
 pub value-of-requires-2 : (t : ℕ) → read-guards-lts.Need-value-of-requires-2 (read-guards-claims t) (read-guards-at t) read-guards.Post
-value-of-requires-2 t c κs =
-    c .before .before .before .before .before .before .before .before .before .before .pre .1 .ask .scope
+value-of-requires-2 t c κs = c .before .before .before .before .before .before .before .before .before .before .pre .1 .ask .scope
 
 pub add-read-guards : (t : ℕ) → read-guards-lts.Need-add-read-guards (read-guards-claims t) (read-guards-at t) read-guards.Post
 add-read-guards t c =
@@ -55,12 +52,10 @@ returns-2 t c =
     say-same (c .before .before .before .before .before .before .before .before .before .before .before .if1 .left) (guard-told (c .before .before .before .before .before .before .before .before .before .before .guard-at .ensures) (c .before .before .before .before .before .before .before .before .x .given .1)) (sym (c .before .before .before .before .before .before .value-of .ensures) ∙ c .before .before .before .before .if2 .taken ∙ c .before .before .before .before .before .value-of2 .ensures) (c .before .before .read-guards .ensures)
 
 pub value-of-requires-3 : (t : ℕ) → read-guards-lts.Need-value-of-requires-3 (read-guards-claims t) (read-guards-at t) read-guards.Post
-value-of-requires-3 t c κs =
-    c .before .before .before .before .before .before .before .before .before .pre .1 .ask .scope
+value-of-requires-3 t c κs = c .before .before .before .before .before .before .before .before .before .pre .1 .ask .scope
 
 pub value-of-requires-4 : (t : ℕ) → read-guards-lts.Need-value-of-requires-4 (read-guards-claims t) (read-guards-at t) read-guards.Post
-value-of-requires-4 t c κs =
-    c .before .before .before .before .before .before .before .before .before .before .pre .1 .ask .scope
+value-of-requires-4 t c κs = c .before .before .before .before .before .before .before .before .before .before .pre .1 .ask .scope
 
 pub add-read-guards-2 : (t : ℕ) → read-guards-lts.Need-add-read-guards-2 (read-guards-claims t) (read-guards-at t) read-guards.Post
 add-read-guards-2 t c =
