@@ -1,7 +1,7 @@
 -- The measure is the count of words left to print.
+use borrow.Author.Needs.{needs}
 use Prim.Native.Nat.{_≤_, _-_}
 use lib.ListN.{length}
-use borrow.Author.Needs.{needs}
 use Rattle.judgements.proofs.show.Statement.{statement}
 use Rattle.judgements.proofs.show.Tie as tie
 

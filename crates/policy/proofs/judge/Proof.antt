@@ -1,3 +1,4 @@
+-- Each way out is a law of `JudgeAnswers`.
 use Rattle.policy.proofs.PartAnswers.{table-read}
 use Rattle.policy.proofs.JudgeAnswers.{judge-untabled}
 use borrow.Author.Needs.{needs}

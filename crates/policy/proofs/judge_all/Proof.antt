@@ -1,5 +1,6 @@
+-- The invariant: the definitions left and the query, judged from here, come to what the whole comes to.
 use Prim.Native.Nat.{_+_, _-_}
-use mathlib.Core.Path.{sym, _∙_, ap}
+use mathlib.Core.Path.{_∙_, ap}
 use native.Mathlib.Omega.{arith}
 use lib.ListN.{getD}
 use Rattle.policy.specs.Table.{entryAt}

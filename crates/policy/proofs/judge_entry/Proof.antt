@@ -1,3 +1,4 @@
+-- Each way out is a law of `JudgeAnswers`.
 use mathlib.Core.Path.{ap}
 use Prim.Native.Nat.{_+_}
 use lib.ListN.{getD}

@@ -1,3 +1,4 @@
+-- Each way out is a law of `JudgeAnswers`.
 use Rattle.policy.proofs.JudgeAnswers.{verdict-exact, verdict-lower, verdict-upper}
 use Rattle.policy.proofs.verdict.Statement.{statement}
 use Rattle.policy.proofs.verdict.Tie as tie

@@ -1,3 +1,5 @@
+-- The measure is four times the count of words left, and a little more for the members that call others at the same word. Each way out is
+-- a law of `CycleAnswers`.
 use native.Mathlib.Omega.{arith}
 use Rattle.refusals.specs.Table.{badWord}
 use Rattle.policy.specs.Checks.{knownIn, inside}

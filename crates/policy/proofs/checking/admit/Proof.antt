@@ -1,3 +1,4 @@
+-- Each way out is a law of `JudgeAnswers`.
 use Rattle.policy.proofs.JudgeAnswers.{admit-unpolarized, admit-closed, admit-open}
 use Rattle.policy.proofs.checking.admit.Statement.{statement}
 use Rattle.policy.proofs.checking.admit.Tie as tie

@@ -1,3 +1,4 @@
+-- Each way out is a law of `CheckAnswers`.
 use Rattle.policy.proofs.CheckAnswers.{definition-none, definition-later, definition-found}
 use borrow.Author.Needs.{needs}
 use Rattle.policy.proofs.checking.check_definition.Statement.{statement}

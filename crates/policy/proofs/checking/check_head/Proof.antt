@@ -1,3 +1,4 @@
+-- Each way out is a law of `CycleAnswers`.
 use Rattle.policy.specs.Checks.{knownIn}
 use Rattle.policy.proofs.CycleAnswers.{head-refused, head-found}
 use borrow.Author.Needs.{needs}

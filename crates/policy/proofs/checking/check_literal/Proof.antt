@@ -1,3 +1,4 @@
+-- Each way out is a law of `CheckAnswers`.
 use Rattle.policy.specs.Checks.{knownIn}
 use Rattle.policy.proofs.CheckAnswers.{literal-found, literal-refused}
 use borrow.Author.Needs.{needs}

@@ -1,3 +1,4 @@
+-- Each way out is a law of `CheckAnswers`.
 use native.Mathlib.Omega.{arith}
 use Rattle.policy.specs.Checks.{knownIn}
 use Rattle.policy.proofs.Answering.{word-found}

@@ -1,3 +1,4 @@
+-- Each way out is a law of `JudgeAnswers`.
 use Rattle.policy.specs.Checks.{knownIn}
 use Rattle.policy.proofs.JudgeAnswers.{parse-refused, parse-left-over, parse-whole}
 use borrow.Author.Needs.{needs}

@@ -1,3 +1,4 @@
+-- Each way out is a law of `JudgeAnswers`.
 use Rattle.policy.proofs.JudgeAnswers.{declared-plus, declared-minus}
 use Rattle.policy.proofs.checking.declared.Statement.{statement}
 use Rattle.policy.proofs.checking.declared.Tie as tie

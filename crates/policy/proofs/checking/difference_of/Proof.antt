@@ -1,3 +1,4 @@
+-- Part by part.
 use Rattle.policy.specs.Checks.{differenceOf}
 use Rattle.policy.proofs.CheckAnswers.{facts-same}
 use mathlib.Core.Path.{refl}

@@ -1,3 +1,4 @@
+-- Each way out is a law of `JudgeAnswers`.
 use Rattle.policy.specs.Checks.{knownIn}
 use Rattle.policy.proofs.JudgeAnswers.{definition-refused, definition-admitted}
 use borrow.Author.Needs.{needs}

@@ -1,3 +1,4 @@
+-- By computation.
 use mathlib.Core.Path.{refl}
 use Rattle.policy.specs.Checks.{knownUpTo, knownIn}
 use Rattle.policy.proofs.checking.none_earlier.Statement.{statement}

@@ -1,3 +1,4 @@
+-- Part by part.
 use Rattle.policy.specs.Checks.{unionOf}
 use Rattle.policy.proofs.CheckAnswers.{facts-same}
 use borrow.Author.Needs.{needs}

@@ -1,3 +1,4 @@
+-- What was known stays, and the new definition comes last.
 use mathlib.Core.Path.{_≡_, refl}
 use lib.ListN.{length}
 use native.Mathlib.Omega.{arith}

@@ -1,3 +1,4 @@
+-- A sound entry's part lies inside the policy.
 use native.Mathlib.Omega.{arith}
 use Rattle.policy.proofs.JudgeAnswers.{definition-span, definition-part}
 use borrow.Author.Needs.{needs}

@@ -1,3 +1,4 @@
+-- Each way out is a law of `TermAnswers`.
 use native.Mathlib.Omega.{arith}
 use Rattle.policy.proofs.Answering.{word-found}
 use Rattle.policy.proofs.TermAnswers.{guard-uncoded, guard-draw, guard-absent, guard-first, guard-second, guard-same, guard-different}

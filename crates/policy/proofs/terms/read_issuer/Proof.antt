@@ -1,3 +1,4 @@
+-- Each way out is a law of `TermAnswers`.
 use Rattle.policy.proofs.TermAnswers.{issuer-refused, issuer-key, issuer-number, issuer-variable}
 use borrow.Author.Needs.{needs}
 use Rattle.policy.proofs.terms.read_issuer.Statement.{statement}

@@ -1,3 +1,4 @@
+-- Each way out is a law of `Answering`.
 use Rattle.policy.proofs.Answering.{word-none, word-kept, word-broken, is-next, wrong-next, no-next}
 use borrow.Author.Needs.{needs}
 use Rattle.policy.proofs.terms.read_new.Statement.{statement}

@@ -1,9 +1,9 @@
+-- The invariant: the slots left, read from here, come to what the whole pattern comes to.
 use Rattle.policy.proofs.RowAnswers.{Matching, matching-new, matching-old, matching-few, matching-lost, pattern-starts, pattern-refused, pattern-done}
-use Prim.Native.Nat.{_≤_, _-_}
 use native.Mathlib.Omega.{arith}
 use Rattle.policy.proofs.Answering.{word-found, word-bounds}
 use Rattle.policy.proofs.TermAnswers.{slot-found, slot-lost}
-use Rattle.policy.proofs.RowAnswers.{Matching, matching-on, matching-new, matching-few, matching-lost, pattern-starts, pattern-refused, pattern-done}
+use Rattle.policy.proofs.RowAnswers.{Matching, matching-new, matching-few, matching-lost, pattern-starts, pattern-refused, pattern-done}
 use borrow.Author.Needs.{needs}
 use Rattle.policy.proofs.terms.read_pattern.Statement.{statement}
 use Rattle.policy.proofs.terms.read_pattern.Tie as tie

@@ -1,4 +1,4 @@
-use Prim.Native.Nat.{_≤_, _-_}
+-- The invariant: the terms left, read from here, come to what the whole row comes to.
 use native.Mathlib.Omega.{arith}
 use Rattle.policy.specs.Decode.{term, row}
 use Rattle.policy.specs.Answers.{keeping, nothing}

@@ -1,4 +1,4 @@
-use Prim.Native.Nat.{_≤_, _-_}
+-- The invariant: the rows left, read from here, come to what all rows come to.
 use native.Mathlib.Omega.{arith}
 use Rattle.policy.specs.Decode.{row, rows}
 use Rattle.policy.specs.Answers.{keeping, nothing}

@@ -1,3 +1,4 @@
+-- Each way out is a law of `TermAnswers`.
 use native.Mathlib.Omega.{arith}
 use Rattle.policy.proofs.Answering.{word-found}
 use Rattle.policy.proofs.TermAnswers.{slot-untagged, slot-new, slot-misnumbered, slot-held, slot-refused}

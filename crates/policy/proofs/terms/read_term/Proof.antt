@@ -1,3 +1,4 @@
+-- Each way out is a law of `TermAnswers`.
 use Rattle.policy.proofs.TermAnswers.{term-none, term-tag, term-cut, term-atom, term-variable, term-unscoped}
 use borrow.Author.Needs.{needs}
 use Rattle.policy.proofs.terms.read_term.Statement.{statement}

@@ -1,3 +1,4 @@
+-- Each way out is a law of `Answering`.
 use Rattle.policy.proofs.Answering.{word-none, word-kept, word-broken, in-between, under, over}
 use borrow.Author.Needs.{needs}
 use Rattle.policy.proofs.terms.word_between.Statement.{statement}
