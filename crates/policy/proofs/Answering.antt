@@ -1,28 +1,21 @@
 -- What holds of a reader's answer: how it is shown, and what a caller has from it. The laws that every reader shares come first, then each
 -- reader's own, one for each way out of its code.
-use Prim.Native.Nat.{ℕ, zero, suc, _+_, _-_, _≤_, _<_}
+use Prim.Native.Nat.{ℕ, _+_, _≤_, _<_}
 use mathlib.Core.Path.{_≡_, refl, sym, _∙_, ap}
-use mathlib.Core.Bool.{Bool, true, false, _&&_}
+use mathlib.Core.Bool.{Bool, true, false}
 use mathlib.Core.List.{List, [], _∷_}
 use native.Mathlib.Numerals.{add-one}
 use native.Mathlib.Omega.{arith}
-use lib.Dec.{leb, ltb, eqb}
+use lib.Dec.{leb}
 use lib.ListN.{length, getD, drop, drop-of-length-le}
 use lib.Seq.{drop-cons}
 use borrow.Author.Tests.{le-leb, lt-leb, leb-true, eq-eqb, ne-eqb}
 use Rattle.refusals.specs.Table.{badWord}
 use Rattle.rows.proofs.Case.{and-true}
-use Rattle.policy.specs.Syntax.{Term, atom, var, Slot, old, new}
-use Rattle.policy.specs.Decode.{Read, got, refused, Reader, after, give, need, word, wordWhere, times, tagOf, termAs, anyAtom, term}
-use Rattle.policy.specs.Answers.{Answer, found, stopped, outcome, Onward, Answers, Follows, kept, keeping, nothing, between, next, wordIs, termOf, termIs, passedIs}
+use Rattle.policy.specs.Decode.{Read, got, refused, Reader, after, give, need, word, wordWhere}
+use Rattle.policy.specs.Answers.{Answer, found, stopped, outcome, Onward, Answers, Follows, kept, keeping, between, next, wordIs}
 use Rattle.policy.specs.declared.terms.WordRead as WordRead
 use Rattle.policy.specs.declared.terms.WordRead.the-variants as wordRead
-use Rattle.policy.specs.declared.terms.Term as TermHeld
-use Rattle.policy.specs.declared.terms.Term.the-variants.{Atom, Variable}
-use Rattle.policy.specs.declared.terms.TermRead as TermRead
-use Rattle.policy.specs.declared.terms.TermRead.the-variants as termRead
-use Rattle.policy.specs.declared.terms.Passed as Passed
-use Rattle.policy.specs.declared.terms.Passed.the-variants as passed
 use Rattle.policy.proofs.Basics.{impossible}
 
 -- the words from `at` on

@@ -1,21 +1,20 @@
 -- The checker of expressions, way out by way out.
-use Prim.Native.Nat.{ℕ, zero, suc, _+_, _-_, _≤_, _<_}
-use mathlib.Core.Path.{_≡_, refl, sym, _∙_, ap, subst}
-use mathlib.Core.Bool.{Bool, true, false, not, _&&_, _||_}
+use Prim.Native.Nat.{ℕ, zero, suc, _+_, _≤_, _<_}
+use mathlib.Core.Path.{_≡_, refl, sym, _∙_, ap}
+use mathlib.Core.Bool.{Bool, true, false, not}
 use mathlib.Core.List.{List, [], _∷_, _++_}
-use native.Mathlib.Numerals.{add-one}
 use native.Mathlib.Omega.{arith}
 use lib.Dec.{leb, ltb, eqb}
 use lib.ListN.{length, getD, drop, length-append, List·getD-append}
 use lib.Seq.{getD-append-add}
 use borrow.Author.Tests.{lt-ltb, le-ltb, le-leb, ltb-true, ltb-false}
-use Rattle.refusals.specs.Table.{badWord, notInScope, tooDeep}
-use Rattle.rows.specs.Name.{Polarity, plus, minus, polarityOf, isName, isPolarity, samePolarity}
-use Rattle.policy.specs.Syntax.{Term, Slot, Expr, finite, cofinite, definition, listed, union, difference, comprehension, Body, head, draw, same, different, absent}
-use Rattle.policy.specs.Decode.{Read, got, refused, Reader, after, give, word, wordWhere, countDraw, polarity, issuer, width, row, rows, Pattern, slots, Guard, isDraw, isSame, isDifferent, isAbsent, guardOf, guardAs, body, Code, codeOf, exprAs, expr}
-use Rattle.policy.specs.Polarity.{Known, unknown, hasPolarity, guardsHave, openExpr, drawsClosed, guardsClosed}
-use Rattle.policy.specs.Answers.{Answer, found, stopped, outcome, Onward, Answers, Follows, kept, keeping, nothing, between, wordIs, passedIs, pattern, scope, patternIs, opening, openingIs}
-use Rattle.policy.specs.Checks.{factsOf, unionOf, differenceOf, drawOf, absentOf, declaredBy, knownAt, knownUpTo, knownIn, checkingIs, inside, noneInside, exprFacts, codeFacts, bodyFacts, guardFacts}
+use Rattle.refusals.specs.Table.{badWord, notInScope}
+use Rattle.rows.specs.Name.{plus, minus, polarityOf, samePolarity}
+use Rattle.policy.specs.Syntax.{Term, Expr, finite, cofinite, definition, listed}
+use Rattle.policy.specs.Decode.{Read, got, refused, Reader, after, give, wordWhere, polarity, issuer, rows, codeOf, exprAs}
+use Rattle.policy.specs.Polarity.{Known, unknown, hasPolarity, openExpr, drawsClosed}
+use Rattle.policy.specs.Answers.{found, stopped, outcome, Onward, Answers, Follows, kept, keeping, nothing, between, wordIs, passedIs}
+use Rattle.policy.specs.Checks.{factsOf, declaredBy, knownAt, knownUpTo, knownIn, checkingIs, noneInside, codeFacts}
 use Rattle.policy.specs.declared.checking.Facts.{Facts}
 use Rattle.policy.specs.declared.checking.Earlier.{Earlier}
 use Rattle.policy.specs.declared.checking.Checking.{Checking}
@@ -25,7 +24,7 @@ use Rattle.policy.specs.declared.terms.WordRead.the-variants as wordRead
 use Rattle.policy.specs.declared.terms.Passed as Passed
 use Rattle.policy.specs.declared.terms.Passed.the-variants as passed
 use Rattle.policy.proofs.Basics.{impossible}
-use Rattle.policy.proofs.Answering.{word-here, no-word, stops, finds, Got, Lost, here, at-end, where-passes, where-fails, word-found, word-refused, word-bounds, same-rule}
+use Rattle.policy.proofs.Answering.{stops, finds, here, at-end, where-passes, where-fails, word-found, word-refused, word-bounds, same-rule}
 use Rattle.policy.proofs.RowAnswers.{passed-found, passed-lost}
 
 -- an outcome of which something is kept, and what follows it

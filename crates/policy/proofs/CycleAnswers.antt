@@ -1,15 +1,15 @@
 -- The checker's cycle: an expression and the guards of a comprehension, way out by way out.
 use Prim.Native.Nat.{ℕ, zero, suc, _+_, _-_, _≤_, _<_}
 use mathlib.Core.Path.{_≡_, refl, sym, _∙_, ap}
-use mathlib.Core.Bool.{Bool, true, false}
+use mathlib.Core.Bool.{true, false}
 use mathlib.Core.List.{List, [], _∷_}
 use native.Mathlib.Omega.{arith}
-use lib.Dec.{leb, ltb, eqb}
+use lib.Dec.{eqb}
 use lib.ListN.{length, drop}
 use borrow.Author.Tests.{lt-ltb, le-ltb, eq-eqb, ne-eqb}
 use Rattle.refusals.specs.Table.{badWord, tooDeep}
-use Rattle.policy.specs.Syntax.{Term, Expr, union, difference, comprehension, Body, head, draw, same, different, absent}
-use Rattle.policy.specs.Decode.{Read, got, refused, Reader, after, give, word, wordWhere, countDraw, term, width, row, Pattern, slots, isDraw, isAbsent, guardOf, guardAs, body, codeOf, isCode, exprAs, expr}
+use Rattle.policy.specs.Syntax.{Term, Expr, union, difference, comprehension, Body, draw, same, different}
+use Rattle.policy.specs.Decode.{Read, got, refused, Reader, after, give, wordWhere, countDraw, term, width, row, Pattern, slots, isDraw, isAbsent, guardOf, guardAs, body, codeOf, isCode, exprAs, expr}
 use Rattle.policy.specs.Polarity.{Known, hasPolarity, guardsHave, openExpr, drawsClosed, guardsClosed}
 use Rattle.policy.specs.Answers.{Answer, found, stopped, Onward, Answers, Follows, kept, keeping, nothing, between, wordIs, termOf, passedIs, pattern, scope, patternIs, Opening, drawOpens, absentOpens, sameOpens, differentOpens, openingFor, opening, openingOf, openingIs}
 use Rattle.policy.specs.Checks.{factsOf, unionOf, differenceOf, drawOf, absentOf, checkingIs, inside, noneInside, exprFacts, codeFacts, bodyFacts, guardFacts}
@@ -31,7 +31,7 @@ use Rattle.policy.proofs.Basics.{impossible}
 use Rattle.policy.proofs.Answering.{Got, Lost, got-of, lost-of, word-found, word-refused, tested-first}
 use Rattle.policy.proofs.TermAnswers.{guard-found, guard-refused}
 use Rattle.policy.proofs.RowAnswers.{after-after, passed-found, passed-lost}
-use Rattle.policy.proofs.CheckAnswers.{kept-then, kept-stops, read-then, read-stops, shows, refuses, Checked, checked, unchecked, at-most}
+use Rattle.policy.proofs.CheckAnswers.{kept-then, kept-stops, read-then, read-stops, shows, refuses, checked, unchecked, at-most}
 
 -- an answer from a later word on is one from an earlier word on
 pub sooner : {A : Type 0} {ws : List ℕ} {at from : ℕ} {x : Answer A} {y : Read A} → Answers ws from x y → at ≤ from → Answers ws at x y

@@ -1,25 +1,23 @@
 -- Whole definitions and queries, and the policy's parts, way out by way out.
-use Prim.Native.Nat.{ℕ, zero, suc, _+_, _*_, _-_, _≤_, _<_}
+use Prim.Native.Nat.{ℕ, zero, suc, _+_, _-_, _≤_, _<_}
 use mathlib.Core.Path.{_≡_, refl, sym, _∙_, ap, subst}
 use mathlib.Core.Bool.{Bool, true, false, not, _&&_, _||_}
 use mathlib.Core.List.{List, [], _∷_, _++_}
-use native.Mathlib.Numerals.{add-one}
 use native.Mathlib.Omega.{arith}
-use lib.Dec.{leb, ltb, eqb}
+use lib.Dec.{leb, eqb}
 use lib.ListN.{length, getD, take, drop, set}
 use lib.Seq.{getD-set-same, getD-set-other}
-use borrow.Author.Tests.{lt-ltb, le-ltb, le-leb, lt-leb, eq-eqb, ne-eqb}
-use Rattle.refusals.specs.Table.{badHeader, badTable, badWord, noPolarity, openDraw, queryPart, noPart}
-use Rattle.rows.specs.Name.{Polarity, plus, minus, polarityOf}
+use borrow.Author.Tests.{le-leb, lt-leb, ne-eqb}
+use Rattle.refusals.specs.Table.{badWord, noPolarity, openDraw, queryPart, noPart}
+use Rattle.rows.specs.Name.{plus, minus, polarityOf}
 use Rattle.policy.specs.Syntax.{Expr}
 use Rattle.policy.specs.Decode.{Read, got, refused, expr, Parsed, parsed, unparsed, noneLeft, parse}
 use Rattle.policy.specs.Polarity.{Known, hasPolarity, openExpr, drawsClosed, verdictWord}
-use Rattle.policy.specs.Table.{Entry, entryAt, entryWords, Table, table, noTable, soundEntry, push, entries, soundHeader, readTable}
+use Rattle.policy.specs.Table.{Entry, entryAt, entryWords, table, noTable, readTable}
 use Rattle.policy.specs.Entries.{entryPlace, entriesFrom, tableIs}
 use Rattle.policy.specs.Judgement.{Checked, checked, unchecked, polarized, checkDefinition, checkQuery, verdictOf, knownOf, withDefinition, checkFrom, check, replyOf, judge}
 use Rattle.policy.specs.Answers.{Answers, kept, keeping}
 use Rattle.policy.specs.Checks.{factsOf, declaredBy, knownAt, knownUpTo, knownIn, checkingIs, exprFacts, wholeOf, admitOf, declaredOf, definitionParsed, knownAs, judgementOf}
-use Rattle.policy.specs.declared.Judgement.{Judgement}
 use Rattle.policy.specs.declared.Judgement.the-variants as judgement
 use Rattle.policy.specs.declared.checking.Facts.{Facts}
 use Rattle.policy.specs.declared.checking.Earlier.{Earlier}
@@ -33,7 +31,7 @@ use Rattle.policy.proofs.Basics.{impossible}
 use Rattle.policy.proofs.Answering.{word-here, no-word}
 use Rattle.policy.proofs.CheckAnswers as check-answers
 use Rattle.policy.proofs.CheckAnswers.{known-count}
-use Rattle.policy.proofs.PartAnswers.{SoundTable, table-sound, length-entries, entry-in, all-at}
+use Rattle.policy.proofs.PartAnswers.{table-sound, length-entries, entry-in, all-at}
 
 -- a whole expression
 module _ (ks : List Known) where

@@ -8,9 +8,9 @@ use lib.Dec.{leb, eqb}
 use lib.ListN.{length, drop}
 use borrow.Author.Tests.{le-leb}
 use Rattle.refusals.specs.Table.{badWord, notInScope}
-use Rattle.policy.specs.Syntax.{Term, Slot, old, new}
-use Rattle.policy.specs.Decode.{Read, got, refused, Reader, after, give, word, wordWhere, times, isAtom, isVar, tagOf, termAs, anyAtom, term, width, row, rows, Pattern, push, slotAs, slots}
-use Rattle.policy.specs.Answers.{Follows, kept, keeping, nothing, between, wordIs, termIs, passedIs, slotFor, slot, scopeAfter, slotOf, slotIs, pattern, scope, patternIs}
+use Rattle.policy.specs.Syntax.{Term, Slot}
+use Rattle.policy.specs.Decode.{Read, got, refused, Reader, after, give, wordWhere, times, isAtom, isVar, tagOf, termAs, anyAtom, term, width, row, rows, Pattern, push, slotAs, slots}
+use Rattle.policy.specs.Answers.{Follows, kept, keeping, nothing, between, wordIs, passedIs, slotFor, slot, scopeAfter, slotOf, pattern, scope, patternIs}
 use Rattle.policy.specs.declared.terms.WordRead as WordRead
 use Rattle.policy.specs.declared.terms.WordRead.the-variants as wordRead
 use Rattle.policy.specs.declared.terms.Term as TermHeld
@@ -18,7 +18,6 @@ use Rattle.policy.specs.declared.terms.Slot as SlotHeld
 use Rattle.policy.specs.declared.terms.Slot.the-variants.{Old, New}
 use Rattle.policy.specs.declared.terms.Passed as Passed
 use Rattle.policy.specs.declared.terms.Passed.the-variants as passed
-use Rattle.policy.specs.declared.terms.PatternRead as PatternRead
 use Rattle.policy.specs.declared.terms.PatternRead.the-variants as patternRead
 use Rattle.policy.proofs.Basics.{impossible}
 use Rattle.policy.proofs.Answering.{Got, Lost, got-of, lost-of, shows-got, shows-lost, word-found, word-refused, first-lost, keeps-lost, same-rule}

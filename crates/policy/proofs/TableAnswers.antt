@@ -12,9 +12,7 @@ use Rattle.rows.specs.Name.{isName, isPolarity}
 use Rattle.rows.proofs.Case.{and-true}
 use Rattle.policy.specs.Table.{Entry, entryAt, Table, table, noTable, named, soundEntry, push, entries, soundHeader, readTable}
 use Rattle.policy.specs.Entries.{entryPlace, entriesFrom, entriesBefore, tableIs}
-use Rattle.policy.specs.declared.table.TableRead.{TableRead}
 use Rattle.policy.specs.declared.table.TableRead.the-variants as tableRead
-use Rattle.policy.proofs.Basics.{impossible}
 
 -- the header
 module _ (p : List ℕ) where

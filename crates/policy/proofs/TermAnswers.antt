@@ -10,8 +10,8 @@ use borrow.Author.Tests.{lt-ltb, le-ltb, le-leb, lt-leb, eq-eqb, ne-eqb, leb-tru
 use Rattle.refusals.specs.Table.{badWord, notInScope}
 use Rattle.rows.specs.Row.{isKey}
 use Rattle.policy.specs.Syntax.{Term, atom, var, Slot, old, new}
-use Rattle.policy.specs.Decode.{Read, got, refused, Reader, after, give, need, word, wordWhere, tagOf, termAs, anyAtom, term, issuer, guardOf}
-use Rattle.policy.specs.Answers.{Follows, kept, keeping, nothing, between, next, wordIs, termOf, termIs, passedIs, slotFor, slot, slotOf, slotIs, Opening, sameOpens, differentOpens, openingFor, opening, openingOf, openingIs}
+use Rattle.policy.specs.Decode.{Read, got, refused, Reader, after, give, need, wordWhere, tagOf, termAs, anyAtom, term, issuer, guardOf}
+use Rattle.policy.specs.Answers.{Follows, keeping, nothing, between, next, wordIs, termOf, termIs, passedIs, slotFor, slot, slotOf, slotIs, Opening, sameOpens, differentOpens, openingFor, opening, openingOf, openingIs}
 use Rattle.policy.specs.declared.terms.Term as TermHeld
 use Rattle.policy.specs.declared.terms.Term.the-variants.{Atom, Variable}
 use Rattle.policy.specs.declared.terms.TermRead as TermRead
@@ -26,11 +26,10 @@ use Rattle.policy.specs.declared.terms.Guard as GuardHeld
 use Rattle.policy.specs.declared.terms.Guard.the-variants.{Draw, Same, Different, Absent}
 use Rattle.policy.specs.declared.terms.GuardRead as GuardRead
 use Rattle.policy.specs.declared.terms.GuardRead.the-variants as guardRead
-use Rattle.policy.specs.declared.terms.Passed as Passed
 use Rattle.policy.specs.declared.terms.Passed.the-variants as passed
 use Rattle.rows.proofs.Case.{and-true}
 use Rattle.policy.proofs.Basics.{impossible}
-use Rattle.policy.proofs.Answering.{word-here, Got, Lost, got-of, lost-of, shows-got, shows-lost, here, at-end, where-passes, where-fails, word-found, word-refused, word-bounds, got-as, lost-as, first-lost, then-lost, then-got, then-gives, keeps-got, keeps-lost, tested-first}
+use Rattle.policy.proofs.Answering.{Got, Lost, got-of, lost-of, shows-got, shows-lost, here, at-end, where-passes, where-fails, word-found, word-refused, word-bounds, got-as, lost-as, first-lost, then-lost, then-got, then-gives, keeps-got, keeps-lost, tested-first}
 
 -- the word after a tag
 module _ (rule : ℕ → Bool) (n : ℕ) (us : List ℕ) (k : ℕ) where

@@ -7,8 +7,8 @@ use mathlib.Core.List.{List}
 use lib.Dec.{leb, eqb}
 use lib.ListN.{length, drop}
 use Rattle.refusals.specs.Table.{badWord, notInScope}
-use Rattle.policy.specs.Syntax.{Term, atom, var, Slot, old, new, Expr, Body, same, different}
-use Rattle.policy.specs.Decode.{Read, got, refused, Reader, _>>=_, give, refuse, word, wordWhere, Tag, isAtom, isVar, isNew, noTag, tagOf, termAs, anyAtom, term, width, Pattern, slots, Guard, isDraw, isSame, isDifferent, isAbsent, noGuard, guardOf, guardAs, body}
+use Rattle.policy.specs.Syntax.{Term, atom, var, Slot, old, new}
+use Rattle.policy.specs.Decode.{Read, got, refused, Reader, _>>=_, give, refuse, word, wordWhere, Tag, isAtom, isVar, isNew, noTag, tagOf, termAs, anyAtom, term, width, Pattern, slots, Guard, isDraw, isSame, isDifferent, isAbsent, noGuard, guardOf}
 use Rattle.policy.specs.declared.terms.WordRead as WordRead
 use Rattle.policy.specs.declared.terms.WordRead.the-variants as wordRead
 use Rattle.policy.specs.declared.terms.Term as TermHeld

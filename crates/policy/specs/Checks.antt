@@ -5,7 +5,7 @@ use mathlib.Core.List.{List, [], _∷_, _++_}
 use lib.ListN.{length, getD}
 use Rattle.refusals.specs.Table.{badWord, noPolarity, openDraw}
 use Rattle.rows.specs.Name.{Polarity, plus, minus, polarityOf}
-use Rattle.policy.specs.Syntax.{Expr, comprehension, Body}
+use Rattle.policy.specs.Syntax.{Expr, comprehension}
 use Rattle.policy.specs.Decode.{Reader, refuse, Guard, guardAs, body, codeOf, exprAs, expr, Parsed, parsed, unparsed, parse}
 use Rattle.policy.specs.Polarity.{Known, hasPolarity, openExpr, drawsClosed, verdictWord}
 use Rattle.policy.specs.Judgement.{polarized, JudgementReply, verdict, refused}
