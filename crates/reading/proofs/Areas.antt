@@ -1,15 +1,15 @@
 -- Sets in an area: a set is the first 642 words, and parts of the area that are lent come back.
 use Prim.Native.Nat.{ℕ, zero, suc, _+_, _-_, _*_, _≤_, _<_}
-use mathlib.Core.Path.{_≡_, refl, sym, ap, subst, _∙_}
+use mathlib.Core.Path.{_≡_, refl, sym, ap, _∙_}
 use mathlib.Core.Bool.{true}
-use mathlib.Core.List.{List, [], _∷_, _++_, map, append-nil}
+use mathlib.Core.List.{List, [], _++_, map, append-nil}
 use native.Mathlib.Omega.{arith}
 use lib.ListN.{length, take, drop, getD, length-append, length-take, length-drop, drop-of-length-le}
 use lib.Seq.{take-all, drop-at, length-take-le, take-take, getD-take, getD-drop, ext-getD, drop-drop}
 use borrow.Rule.Slice.PartMut.{putMid, take-put}
 use Rattle.rows.specs.Ordered.{ascending}
-use Rattle.rows.specs.Row.{Row, rowBefore}
-use Rattle.rows.specs.Sets.{RowSet, only}
+use Rattle.rows.specs.Row.{rowBefore}
+use Rattle.rows.specs.Sets.{only}
 use Rattle.rows.specs.Layout.{soundRow, pieces, every, rowIn, rowsIn, formed, setIn, soundSet}
 use Rattle.rows.proofs.LayoutLaws.{true-sound, sound-true}
 use Rattle.rows.proofs.Laid.{drop-take}

@@ -1,11 +1,10 @@
 -- A union or a difference, left at the front of the area.
-use Prim.Native.Nat.{ℕ, _+_, _*_, _≤_, _<_}
-use mathlib.Core.Path.{_≡_, refl, sym, ap, subst, _∙_}
-use mathlib.Core.Logic.{_⊎_, inl, inr}
-use mathlib.Core.Bool.{Bool, true, false, not}
-use mathlib.Core.List.{List, [], _∷_}
+use Prim.Native.Nat.{ℕ, _≤_}
+use mathlib.Core.Path.{_≡_, sym, ap, subst, _∙_}
+use mathlib.Core.Logic.{inl, inr}
+use mathlib.Core.Bool.{Bool, true, false}
+use mathlib.Core.List.{List}
 use native.Mathlib.Omega.{arith}
-use lib.Dec.{leb}
 use lib.ListN.{length, take, drop, length-drop}
 use borrow.Author.Tests.{leb-true, leb-false}
 use Rattle.rows.specs.Word.{All}
@@ -16,7 +15,7 @@ use Rattle.rows.specs.Layout.{setIn, written}
 use Rattle.rows.specs.Values.{leftBy, Combined}
 use Rattle.rows.proofs.Order.{row-order}
 use Rattle.rows.proofs.Ordered.{Ascending, all-in, all-of, join-∈, keep-∈, join-ascending, keep-ascending}
-use Rattle.meaning.specs.Reading.{done, refused, small}
+use Rattle.meaning.specs.Reading.{done}
 use Rattle.reading.specs.Areas.{Filled}
 use Rattle.reading.specs.Readers.{setAnswer, IfDone, combined, SayCombined}
 use Rattle.reading.proofs.Areas.{SameFront, set-same, filled-same}

@@ -2,12 +2,12 @@
 use Prim.Native.Nat.{ℕ, zero, suc, _+_, _-_, _*_, _≤_, _<_}
 use mathlib.Core.Path.{_≡_, refl, sym, ap, subst, _∙_}
 use mathlib.Core.Bool.{Bool, true, false}
-use mathlib.Core.List.{List, [], _∷_}
+use mathlib.Core.List.{List, []}
 use mathlib.Core.Option.{Option, none, some}
 use native.Mathlib.Numerals.{add-one}
 use native.Mathlib.Omega.{arith}
 use lib.Dec.{ltb}
-use lib.ListN.{length, take, drop, getD, length-drop, drop-of-length-le}
+use lib.ListN.{length, take, drop, getD, drop-of-length-le}
 use lib.Seq.{drop-cons, drop-drop, getD-drop}
 use borrow.Author.Tests.{lt-ltb, le-ltb}
 use Rattle.rows.specs.Row.{Row}
@@ -20,13 +20,13 @@ use Rattle.rows.proofs.LayoutLaws.{true-sound, rows-count, row-at}
 use Rattle.rows.proofs.RowLaws.{loaded-row, loaded-width}
 use Rattle.rows.proofs.SetWords.{width-at}
 use Rattle.policy.specs.Syntax.{Slot, Expr, Body, draw}
-use Rattle.policy.specs.Words.{fresh, exprWords}
+use Rattle.policy.specs.Words.{fresh}
 use Rattle.meaning.specs.Values.{Values}
-use Rattle.meaning.specs.Reading.{Answer, done, refused, Reading, after, drawable, tick, match, onMatch, drawEach, read, gather}
+use Rattle.meaning.specs.Reading.{Answer, done, refused, Reading, after, drawable, tick, match, onMatch, drawEach, read}
 use Rattle.reading.specs.Values.{valuesOf}
-use Rattle.reading.specs.Places.{StandsPattern, StandsBody, StandsDraw, SomeExpr, SomePattern, PastExpr, PastPattern}
-use Rattle.reading.specs.Areas.{Filled, Gathering, Kept, roomOf, bodyRoom}
-use Rattle.reading.specs.Readers.{rowsAnswer, IfDone, matchedAs, From, gathering, MeansBody, AskExpr, AskGuards, AskBody, AskDraw, SayExpr, SayBody, SayDraw, SayMatch}
+use Rattle.reading.specs.Places.{StandsBody, StandsDraw, SomeExpr, SomePattern, PastExpr, PastPattern}
+use Rattle.reading.specs.Areas.{Gathering, Kept}
+use Rattle.reading.specs.Readers.{rowsAnswer, IfDone, matchedAs, From, gathering, MeansBody, AskExpr, AskBody, AskDraw, SayExpr, SayBody, SayDraw, SayMatch}
 use Rattle.reading.proofs.Places.{expr-some, slots-scope}
 use Rattle.reading.proofs.Past.{pattern-here, rest-is, rest-here}
 use Rattle.reading.proofs.Areas.{SameFront, rows-same, word-same, filled-same, gathering-same, finite-set, kept-self, kept-less, kept-then, kept-part, givenBack, back-kept, part-length}

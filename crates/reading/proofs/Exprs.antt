@@ -1,20 +1,19 @@
 -- The reader of expressions, code by code: what its callees are asked, and what it says when they have said theirs.
-use Prim.Native.Nat.{ℕ, zero, suc, _+_, _-_, _*_, _≤_, _<_}
+use Prim.Native.Nat.{ℕ, _+_, _-_, _*_, _≤_, _<_}
 use mathlib.Core.Path.{_≡_, refl, sym, ap, subst, _∙_}
 use mathlib.Core.Bool.{Bool, true, false}
-use mathlib.Core.List.{List, [], _∷_}
+use mathlib.Core.List.{List, []}
 use native.Mathlib.Omega.{arith}
 use lib.ListN.{length, take, drop, getD}
 use Rattle.rows.specs.Row.{Row}
-use Rattle.rows.specs.Name.{Polarity}
 use Rattle.rows.specs.Sets.{RowSet, only}
-use Rattle.rows.specs.Layout.{rowsIn, formed, setIn}
-use Rattle.policy.specs.Syntax.{Term, Expr, finite, cofinite, definition, listed, union, difference, comprehension, Body}
+use Rattle.rows.specs.Layout.{formed, setIn}
+use Rattle.policy.specs.Syntax.{Expr, finite, cofinite, definition, listed, union, difference, comprehension}
 use Rattle.meaning.specs.Reading.{Answer, done, refused, Reading, after, small, read}
 use Rattle.reading.specs.Values.{valuesOf}
-use Rattle.reading.specs.Places.{At, Stands, StandsBody, StandsTwo, SomeExpr, PastExpr}
-use Rattle.reading.specs.Areas.{Filled, Gathering, Empty, Kept, setsIn, roomOf, bodyRoom}
-use Rattle.reading.specs.Readers.{setAnswer, rowsAnswer, IfDone, From, reading, gathering, combined, Means, MeansTwo, AskExpr, AskTwo, AskBody, SayExpr, SayTwo, SayBody, SayRows, SayDefinition, SayName, SayCombined}
+use Rattle.reading.specs.Places.{Stands, SomeExpr, PastExpr}
+use Rattle.reading.specs.Areas.{Filled, Gathering, Empty, setsIn, roomOf}
+use Rattle.reading.specs.Readers.{setAnswer, rowsAnswer, IfDone, From, reading, gathering, combined, Means, AskExpr, AskTwo, AskBody, SayExpr, SayTwo, SayBody, SayRows, SayDefinition, SayName, SayCombined}
 use Rattle.reading.proofs.Places.{on-finite, on-cofinite, on-definition, on-listed, on-union, on-difference, on-comprehension, in-finite, in-cofinite, in-definition, in-listed, in-union, in-difference, in-comprehension, code-here, expr-some}
 use Rattle.reading.proofs.Past.{right-here, last-code}
 use Rattle.reading.proofs.Areas.{SameFront, set-same, filled-same, finite-set, givenBack, back-part, back-front, part-length}

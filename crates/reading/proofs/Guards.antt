@@ -1,25 +1,24 @@
 -- The reader of guards, guard by guard, and that of an absent guard.
-use Prim.Native.Nat.{ℕ, zero, suc, _+_, _-_, _*_, _≤_, _<_}
+use Prim.Native.Nat.{ℕ, _+_, _-_, _*_, _≤_, _<_}
 use mathlib.Core.Path.{_≡_, refl, sym, ap, subst, _∙_}
 use mathlib.Core.Bool.{Bool, true, false}
-use mathlib.Core.List.{List, [], _∷_}
+use mathlib.Core.List.{List}
 use native.Mathlib.Omega.{arith}
 use lib.Dec.{eqb}
-use lib.ListN.{length, take, drop, getD}
+use lib.ListN.{length, take, drop}
 use borrow.Author.Tests.{eq-eqb, ne-eqb}
 use Rattle.rows.specs.Row.{Row}
-use Rattle.rows.specs.Sets.{RowSet, has}
+use Rattle.rows.specs.Sets.{has}
 use Rattle.rows.specs.Layout.{rowsIn, setIn}
 use Rattle.rows.proofs.Case.{never}
-use Rattle.policy.specs.Syntax.{Term, Slot, Expr, Body, draw, same, different, absent}
-use Rattle.policy.specs.Words.{guardCount, termRowWords, exprWords}
+use Rattle.policy.specs.Words.{guardCount}
 use Rattle.meaning.specs.Values.{value, rowOf}
-use Rattle.meaning.specs.Reading.{Answer, done, refused, Reading, read, gather}
+use Rattle.meaning.specs.Reading.{Answer, done, Reading, read}
 use Rattle.meaning.proofs.Steps.{either}
 use Rattle.reading.specs.Values.{valuesOf, termOf}
-use Rattle.reading.specs.Places.{Stands, StandsRow, StandsBody, StandsDraw, StandsAbsent, SomeRow, SomeExpr, SomeGuard, PastRow, PastExpr, IsGuard}
+use Rattle.reading.specs.Places.{StandsBody, SomeRow, SomeExpr, SomeGuard, PastRow, PastExpr, IsGuard}
 use Rattle.reading.specs.Areas.{Filled, Gathering, Kept, roomOf, bodyRoom}
-use Rattle.reading.specs.Readers.{setAnswer, rowsAnswer, IfDone, From, reading, gathering, Means, MeansBody, AskExpr, AskGuards, AskBody, AskDraw, AskAbsent, SayExpr, SayBody, SayDraw, SayAbsent, SayHead, SayHas}
+use Rattle.reading.specs.Readers.{rowsAnswer, IfDone, From, gathering, Means, AskExpr, AskBody, AskDraw, AskAbsent, SayExpr, SayBody, SayDraw, SayAbsent, SayHead, SayHas}
 use Rattle.reading.proofs.Places.{on-head, on-draw, on-same, on-different, on-absent, in-head, in-draw, in-same, in-different, in-absent, expr-some, row-length}
 use Rattle.reading.proofs.Held.{held-value}
 use Rattle.reading.proofs.Past.{operand-here, over-is, over-here}

@@ -1,16 +1,15 @@
 -- The rows of a literal, put in from the first to the last; and the set of a definition, copied.
-use Prim.Native.Nat.{ℕ, zero, suc, _+_, _-_, _*_, _≤_, _<_}
+use Prim.Native.Nat.{ℕ, _+_, _-_, _*_, _≤_, _<_}
 use mathlib.Core.Path.{_≡_, refl, sym, ap, subst, _∙_}
 use mathlib.Core.Logic.{_⊎_, inl, inr, _↔_}
-use mathlib.Core.Bool.{Bool, true, false}
+use mathlib.Core.Bool.{true}
 use mathlib.Core.List.{List, [], _∷_, map}
 use native.Mathlib.Omega.{arith}
-use lib.Dec.{leb}
 use lib.ListN.{length, take, drop, getD}
 use borrow.Author.Tests.{le-leb, lt-leb}
 use Rattle.rows.specs.Ordered.{_∈_, insert, join}
 use Rattle.rows.specs.Row.{Row, rowBefore}
-use Rattle.rows.specs.Sets.{RowSet, only, listing}
+use Rattle.rows.specs.Sets.{RowSet, listing}
 use Rattle.rows.specs.Layout.{rowsIn, formed, setIn, soundSet, written}
 use Rattle.rows.specs.Values as held
 use Rattle.rows.specs.declared.row.Row as Held-row
@@ -21,10 +20,10 @@ use Rattle.rows.proofs.LayoutLaws.{listing-in, rows-count, true-sound}
 use Rattle.rows.proofs.SetWords.{sound-ascending}
 use Rattle.policy.specs.Syntax.{Term}
 use Rattle.meaning.specs.Values.{Values, rowOf}
-use Rattle.meaning.specs.Reading.{Answer, done, refused, small, rowsOf}
+use Rattle.meaning.specs.Reading.{done, refused, small, rowsOf}
 use Rattle.reading.specs.Values.{valuesOf}
-use Rattle.reading.specs.Places.{StandsRows, SomeRow, SomeRows, PastRow}
-use Rattle.reading.specs.Areas.{Filled, Empty, setsIn}
+use Rattle.reading.specs.Places.{SomeRow, SomeRows, PastRow}
+use Rattle.reading.specs.Areas.{Filled, Empty}
 use Rattle.reading.specs.Readers.{SayRow, SayRows, SayDefinition}
 use Rattle.reading.proofs.Past.{RowsLeft, RowsNext, rows-inside, rows-next, rows-none}
 use Rattle.reading.proofs.Areas.{sets-at, part-whole}

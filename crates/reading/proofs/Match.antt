@@ -1,5 +1,5 @@
 -- A pattern against a row, slot by slot.
-use Prim.Native.Nat.{ℕ, zero, suc, _+_, _-_, _*_, _≤_, _<_}
+use Prim.Native.Nat.{ℕ, suc, _+_, _-_, _*_, _≤_, _<_}
 use mathlib.Core.Path.{_≡_, refl, sym, ap, subst, _∙_}
 use mathlib.Core.Bool.{Bool, true, false}
 use mathlib.Core.List.{List, [], _∷_, _++_}
@@ -7,7 +7,7 @@ use mathlib.Core.Option.{Option, none, some}
 use native.Mathlib.Numerals.{add-one}
 use native.Mathlib.Omega.{arith}
 use lib.Dec.{eqb}
-use lib.ListN.{length, drop, getD, length-drop, length-append}
+use lib.ListN.{length, drop, getD, length-drop}
 use lib.Seq.{drop-cons}
 use borrow.Author.Tests.{eq-eqb, ne-eqb}
 use Rattle.rows.specs.Row.{Row}
@@ -24,7 +24,6 @@ use Rattle.reading.specs.Readers.{matchedAs, SayMatch}
 use Rattle.reading.proofs.Places.{at-word, at-next, at-skip, at-long, term-length, slots-length, slots-scope, pattern-wide}
 use Rattle.reading.proofs.Held.{held-value}
 use Rattle.reading.specs.declared.values.Env.{Env}
-use Rattle.reading.specs.declared.values.Matched.{Matched}
 use Rattle.reading.specs.declared.values.Term as Held-term
 use Rattle.reading.specs.declared.values.Slot.the-variants.{Old, New}
 

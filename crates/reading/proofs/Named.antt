@@ -1,31 +1,31 @@
 -- Reading a name: the rows of its records are those certified for it, and they are copied in order.
-use Prim.Native.Nat.{ℕ, zero, suc, _+_, _-_, _*_, _/_, _≤_, _<_}
+use Prim.Native.Nat.{ℕ, zero, suc, _+_, _*_, _/_, _≤_, _<_}
 use mathlib.Core.Path.{_≡_, refl, sym, ap, subst, _∙_}
-use mathlib.Core.Logic.{_⊎_, inl, inr, _↔_}
-use mathlib.Core.Bool.{Bool, true, false, _&&_}
+use mathlib.Core.Logic.{inl, inr}
+use mathlib.Core.Bool.{true, false}
 use mathlib.Core.List.{List, [], _∷_, _++_, map, append-nil}
 use native.Mathlib.Numerals.{add-one}
 use native.Mathlib.Omega.{arith}
-use lib.Dec.{eqb, leb}
-use lib.ListN.{length, take, drop, getD, set, length-map, length-drop, List·getD-map}
+use lib.Dec.{eqb}
+use lib.ListN.{length, take, drop, getD, set, length-map, List·getD-map}
 use lib.Seq.{take-suc, take-all, drop-drop, length-take-le}
 use borrow.Author.Tests.{leb-true, lt-leb, le-leb, eqb-true, eqb-false, eq-eqb, ne-eqb}
 use Rattle.rows.specs.Word.{All}
 use Rattle.rows.specs.Ordered.{_∈_, insert, join, keep}
 use Rattle.rows.specs.Row.{Row, isKey, firstKey, rowBefore}
-use Rattle.rows.specs.Name.{Polarity, plus, minus, polarityOf, polarityWord, isPolarity, samePolarity}
-use Rattle.rows.specs.Sets.{RowSet, only, allBut, listing}
-use Rattle.rows.specs.Layout.{laid, rowWords, rowIn, fiveAt, soundRow, flat, pieces, rowsIn, formed, formWord, setIn, written, put}
+use Rattle.rows.specs.Name.{Polarity, plus, minus, polarityOf, polarityWord, samePolarity}
+use Rattle.rows.specs.Sets.{RowSet, listing}
+use Rattle.rows.specs.Layout.{laid, rowWords, rowIn, fiveAt, soundRow, flat, pieces, rowsIn, formed, setIn, written, put}
 use Rattle.rows.specs.Values.{wordsOf, rowOf}
 use Rattle.rows.specs.declared.row.Row as Held-row
-use Rattle.rows.proofs.Case.{Case, isTrue, isFalse, split, never, true-T, _then_}
+use Rattle.rows.proofs.Case.{Case, isTrue, isFalse, split, _then_}
 use Rattle.rows.proofs.Order.{row-order}
 use Rattle.rows.proofs.Ordered.{Ascending, all-in, all-of, join-∈, join-ascending, ascending-unique}
 use Rattle.rows.proofs.LayoutLaws.{piece-at, length-pieces, row-length, row-width, sound-width, formed-listing, formed-word}
 use Rattle.rows.proofs.RowLaws.{five-length, five-width, loaded-row, loaded-width}
 use Rattle.rows.proofs.Put.{put-length, put-none, put-then-after}
 use Rattle.rows.proofs.Laid.{drop-take, Narrow, laid-length, laid-append, narrow-take, written-count}
-use Rattle.certificates.specs.Certificate.{Certificate, recordWords, soundRecord, certificateOf}
+use Rattle.certificates.specs.Certificate.{Certificate, soundRecord, certificateOf}
 use Rattle.certificates.specs.Store.{records, soundStore, certificates}
 use Rattle.certificates.specs.NamePart.{ofName, namePart}
 use Rattle.certificates.proofs.Sound.{sound-record, sound-store}
@@ -34,7 +34,7 @@ use Rattle.policy.specs.Syntax.{Term}
 use Rattle.policy.specs.Words.{termWords}
 use Rattle.meaning.specs.Values.{value}
 use Rattle.meaning.specs.Evidence.{isOf, certified, namesHeld}
-use Rattle.meaning.specs.Reading.{done, refused, small}
+use Rattle.meaning.specs.Reading.{done, small}
 use Rattle.reading.specs.Values.{valuesOf, termOf}
 use Rattle.reading.specs.Places.{At, nameWords, SomeName, IsTerm}
 use Rattle.reading.specs.Areas.{Filled, Empty}

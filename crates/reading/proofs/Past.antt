@@ -1,5 +1,5 @@
 -- The place after a row, a pattern, an expression or a body.
-use Prim.Native.Nat.{ℕ, zero, suc, _+_, _-_, _*_, _≤_, _<_}
+use Prim.Native.Nat.{ℕ, _+_, _-_, _*_, _≤_, _<_}
 use mathlib.Core.Path.{_≡_, refl, sym, ap, subst, _∙_}
 use mathlib.Core.Logic.{_⊎_, inl, inr}
 use mathlib.Core.List.{List, [], _∷_, _++_}
@@ -10,11 +10,11 @@ use borrow.Author.Tests.{eqb-true, eqb-false}
 use Rattle.rows.specs.Word.{All}
 use Rattle.rows.proofs.Case.{Case, isTrue, isFalse, split}
 use Rattle.rows.specs.Name.{Polarity, polarityWord}
-use Rattle.policy.specs.Syntax.{Term, Slot, Expr, finite, cofinite, definition, listed, union, difference, comprehension, Body, head, draw, same, different, absent}
+use Rattle.policy.specs.Syntax.{Term, Slot, Expr, finite, cofinite, union, difference, Body, head, draw, same, different, absent}
 use Rattle.policy.specs.Words.{termWords, each, termRowWords, slotWords, fresh, guardCount, exprWords, bodyWords}
 use Rattle.policy.specs.WellFormed.{FitRow}
-use Rattle.reading.specs.Places.{At, literalWords, patternWords, StandsRow, StandsRows, StandsPattern, Stands, StandsBody, StandsTwo, StandsDraw, StandsAbsent, SomeRow, SomeRows, SomeName, SomePattern, SomeExpr, SomeBody, PastRow, PastRows, PastPattern, PastExpr, PastBody}
-use Rattle.reading.proofs.Places.{at-word, at-next, at-skip, at-front, at-long, term-length, row-length, slots-length, on-finite, on-cofinite, on-definition, on-listed, on-union, on-difference, on-comprehension, in-finite, in-cofinite, in-definition, in-listed, in-union, in-difference, in-comprehension, in-head, in-draw, in-same, in-different, in-absent, on-head, on-draw, on-absent, code-here, inside, inside-body, row-wide, pattern-wide}
+use Rattle.reading.specs.Places.{At, patternWords, StandsRow, StandsRows, StandsPattern, Stands, StandsBody, StandsTwo, StandsDraw, StandsAbsent, SomeRow, SomeRows, SomeName, SomePattern, SomeExpr, SomeBody, PastRow, PastRows, PastPattern, PastExpr, PastBody}
+use Rattle.reading.proofs.Places.{at-word, at-next, at-skip, at-front, at-long, term-length, row-length, slots-length, on-finite, on-cofinite, on-definition, on-listed, on-union, on-difference, on-comprehension, in-finite, in-cofinite, in-definition, in-listed, in-union, in-difference, in-comprehension, in-head, in-draw, in-same, in-different, in-absent, on-head, on-draw, on-absent, code-here, row-wide, pattern-wide}
 use Rattle.reading.proofs.Held.{is-draw, is-absent}
 
 -- ---- a row, a pattern

@@ -5,12 +5,12 @@ use mathlib.Core.List.{List, [], _∷_, _++_, append-assoc}
 use native.Mathlib.Omega.{arith}
 use lib.ListN.{length, drop, getD, length-append, length-drop}
 use lib.Seq.{drop-drop, drop-append-seam, getD-drop}
-use Rattle.rows.specs.Name.{Polarity, polarityWord}
+use Rattle.rows.specs.Name.{Polarity}
 use Rattle.policy.specs.Syntax.{Term, atom, var, Slot, old, new, Expr, finite, cofinite, definition, listed, union, difference, comprehension, Body, head, draw, same, different, absent}
 use Rattle.policy.specs.Words.{termWords, each, termRowWords, slotWords, fresh, guardCount, exprWords, bodyWords}
-use Rattle.policy.specs.WellFormed.{FitRows, FitSlots, FitPattern, Fit, FitBody}
+use Rattle.policy.specs.WellFormed.{FitSlots, Fit}
 use Rattle.reading.specs.Values.{termHeld, guardHeld}
-use Rattle.reading.specs.Places.{At, literalWords, nameWords, patternWords, StandsRow, StandsRows, StandsPattern, Stands, StandsBody, StandsTwo, StandsDraw, StandsAbsent, SomeRow, SomePattern, IsGuard}
+use Rattle.reading.specs.Places.{At, nameWords, patternWords, StandsRow, StandsRows, StandsPattern, Stands, StandsBody, StandsTwo, StandsDraw, StandsAbsent, SomeRow, SomePattern, IsGuard}
 use Rattle.reading.specs.declared.values.Term as Held-term
 use Rattle.reading.specs.declared.values.Guard as Held-guard
 use Rattle.reading.specs.declared.values.Guard.the-variants.{Draw, Same, Different, Absent}

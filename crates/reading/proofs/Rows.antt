@@ -1,18 +1,18 @@
 -- Rows of terms: the row that they come to, the head's row inserted, and the membership test of an absent guard.
-use Prim.Native.Nat.{ℕ, zero, suc, _+_, _-_, _*_, _≤_, _<_}
+use Prim.Native.Nat.{ℕ, zero, suc, _+_, _*_, _≤_, _<_}
 use mathlib.Core.Path.{_≡_, refl, sym, ap, subst, _∙_}
 use mathlib.Core.Bool.{Bool, true, false}
-use mathlib.Core.List.{List, [], _∷_, _++_, map}
+use mathlib.Core.List.{List, [], _∷_, _++_}
 use native.Mathlib.Numerals.{add-one}
 use native.Mathlib.Omega.{arith}
-use lib.Dec.{leb, ltb}
-use lib.ListN.{length, take, drop, getD, set, length-map, length-set, List·getD-map}
-use lib.Seq.{take-suc, take-suc-set, take-all, take-length}
+use lib.Dec.{ltb}
+use lib.ListN.{length, take, getD, set, length-map, length-set, List·getD-map}
+use lib.Seq.{take-suc, take-suc-set, take-all}
 use borrow.Author.Tests.{le-leb, lt-leb, ltb-true, ltb-false}
 use Rattle.rows.specs.Ordered.{_∈_, lists, insert}
 use Rattle.rows.specs.Row.{Row, rowBefore}
-use Rattle.rows.specs.Sets.{RowSet, listing, has}
-use Rattle.rows.specs.Layout.{rowIn, rowsIn, formed, setIn, soundSet, written}
+use Rattle.rows.specs.Sets.{listing, has}
+use Rattle.rows.specs.Layout.{rowIn, rowsIn, formed, setIn, written}
 use Rattle.rows.specs.Values as held
 use Rattle.rows.specs.Values.{wordsOf, insertion, afterInsert}
 use Rattle.rows.specs.declared.row.Row as Held-row
@@ -25,11 +25,11 @@ use Rattle.rows.proofs.Place.{insert-known}
 use Rattle.rows.proofs.LayoutLaws.{listing-in, formed-word, formed-listing, rows-count, true-sound}
 use Rattle.rows.proofs.RowLaws.{held-length}
 use Rattle.rows.proofs.SetWords.{sound-ascending}
-use Rattle.policy.specs.Syntax.{Term, atom, var}
+use Rattle.policy.specs.Syntax.{Term, atom}
 use Rattle.policy.specs.Words.{termWords, each, termRowWords}
 use Rattle.meaning.specs.Values.{Values, value, rowOf}
-use Rattle.meaning.specs.Reading.{Answer, done, refused, within}
-use Rattle.reading.specs.Values.{valuesOf, termOf, termHeld}
+use Rattle.meaning.specs.Reading.{done, refused, within}
+use Rattle.reading.specs.Values.{valuesOf, termOf}
 use Rattle.reading.specs.Places.{At, StandsRow, SomeRow, IsTerm}
 use Rattle.reading.specs.Areas.{Filled, Gathering, Kept}
 use Rattle.reading.specs.Readers.{rowsAnswer, IfDone, SayRow, SayHead, SayHas}
@@ -38,7 +38,6 @@ use Rattle.reading.proofs.Held.{held-value}
 use Rattle.reading.proofs.Areas.{kept-self}
 use Rattle.reading.proofs.Written.{Wide, rows-there, form-there, filled-there, kept-there, insert-listable}
 use Rattle.reading.specs.declared.values.Env.{Env}
-use Rattle.reading.specs.declared.values.Read.{Read}
 use Rattle.reading.specs.declared.values.Read.the-variants.{Done, Refused}
 use Rattle.reading.specs.declared.values.Term as Held-term
 

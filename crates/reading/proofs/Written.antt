@@ -1,17 +1,17 @@
 -- A set that is written to the front of an area lies there. Of its rows only the order and the widths matter.
-use Prim.Native.Nat.{ℕ, zero, suc, _+_, _-_, _*_, _≤_, _<_}
+use Prim.Native.Nat.{ℕ, zero, suc, _+_, _*_, _≤_}
 use mathlib.Core.Path.{_≡_, refl, sym, ap, subst, _∙_}
-use mathlib.Core.Logic.{_⊎_, inl, inr}
-use mathlib.Core.Bool.{Bool, true, false, _&&_}
-use mathlib.Core.List.{List, [], _∷_, _++_, map}
+use mathlib.Core.Logic.{inl, inr}
+use mathlib.Core.Bool.{true}
+use mathlib.Core.List.{List, [], _∷_, map}
 use native.Mathlib.Omega.{arith}
-use lib.ListN.{length, take, drop, getD, length-append, length-drop, length-map}
+use lib.ListN.{length, take, drop, getD, length-drop, length-map}
 use lib.Seq.{length-take-le}
 use Rattle.rows.specs.Word.{All}
-use Rattle.rows.specs.Ordered.{_∈_, ascending, insert}
+use Rattle.rows.specs.Ordered.{ascending, insert}
 use Rattle.rows.specs.Row.{Row, rowBefore}
-use Rattle.rows.specs.Sets.{RowSet, only, allBut, listing}
-use Rattle.rows.specs.Layout.{rowWords, rowIn, soundRow, flat, pieces, every, formWord, setWords, written, put, rowsIn, formed, setIn, soundSet}
+use Rattle.rows.specs.Sets.{RowSet, listing}
+use Rattle.rows.specs.Layout.{rowWords, rowIn, soundRow, pieces, every, formWord, setWords, written, rowsIn, formed, setIn, soundSet}
 use Rattle.rows.proofs.Case.{and-true, true-and}
 use Rattle.rows.proofs.Order.{row-order}
 use Rattle.rows.proofs.Ordered.{Ascending, all-in, all-of, insert-∈, insert-ascending, true-ascending}

@@ -1,5 +1,4 @@
 -- What the values that the code hands about stand for.
-use mathlib.Core.List.{List}
 use lib.ListN.{take}
 use Rattle.policy.specs.Syntax.{Term, atom, var, Slot, old, new, Body, head, draw, same, different, absent}
 use Rattle.meaning.specs.Values.{Values}

@@ -54,7 +54,8 @@ shared-slice-read-polarity c =
 clear-requires : tie.Need-clear-requires
 clear-requires c κs =
     let long = c .before .before .before .before .before .before .before .before .pre .3 in
-    (omega arith, name-form (c .before .before .before .before .before .before .before .before .pre .1))
+    let form = name-form (c .before .before .before .before .before .before .before .before .pre .1) in
+    (omega arith, omega arith)
 
 returns : tie.Need-returns
 returns c =
