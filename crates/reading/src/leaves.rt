@@ -1,5 +1,4 @@
 // What the readers do in one step: rows and sets in the area, without reading an expression inside another.
-ghost use mathlib.Core.Path.{_≡_};
 ghost use Prim.Native.Nat.{ℕ, _+_, _*_, _≤_, _<_};
 ghost use lib.ListN.{length, drop};
 ghost use Rattle.rows.specs.Layout.{setRoom};
@@ -48,7 +47,7 @@ fn row_of(words: &[u32], at: usize, env: Env) -> Row
     }
 }
 
-// The rows written there, in a set of this form.
+// The rows written there, in a set of this form: no more than a set lists, so there is room for each.
 pub fn read_rows(words: &[u32], at: usize, form: u32, env: Env, area: &mut [u32])
     requires { ⌜ (env .count ≤ 16) × (form ≤ 1) × (setRoom ≤ length (now area)) × SomeRows (now words) at ⌝ }
     ensures { λ _. ⌜ SayRows (now (words .entry)) at form env (now (area .exit)) ⌝ }

@@ -1,6 +1,5 @@
 // The readers of expressions and of guards, which call each other. An expression's set is left at the area's front; what lies behind it is free.
 // A comprehension gathers its rows at the front, and from `free` on the area is free: below it lie the sets that are drawn from.
-ghost use Prim.Native.Nat.{_<_};
 ghost use Rattle.reading.specs.Readers.{AskExpr, AskTwo, AskBody, AskDraw, AskAbsent, SayExpr, SayTwo, SayBody, SayDraw, SayAbsent, AskWhole, SayWhole};
 use crate::leaves::combine;
 use crate::leaves::has_row;
@@ -25,6 +24,7 @@ use rows::row::load;
 use rows::row::wide;
 use rows::set::clear;
 
+// An expression, by its code.
 fn read_expr(
     words: &[u32],
     at: usize,
