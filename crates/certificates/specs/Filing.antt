@@ -8,19 +8,11 @@ use Rattle.refusals.specs.Table.{badStore, badCertificate, storeFull}
 use Rattle.rows.specs.Ordered.{lists, same, insert, wordsBefore}
 use Rattle.certificates.specs.Certificate.{soundRecord, recordBefore}
 use Rattle.certificates.specs.Store.{capacity, records, soundStore, withRecords}
-use Rattle.certificates.specs.declared.Filing.{Filing}
-use Rattle.certificates.specs.declared.Filing.the-variants.{Filed, Held, Refused}
 
 -- "Filing answers Filed, Held or Refused with a number."
 pub data FilingReply : Type 0 where
   filed held : FilingReply
   refused : ℕ → FilingReply
-
--- the code's enum, case by case
-unfoldable pub replyIs : Filing → FilingReply
-replyIs Filed = filed
-replyIs Held = held
-replyIs (Refused n) = refused n
 
 -- the reply to words filed where these records are held: "Filing: 8, 9, Held, 10"; 8 is the store's, below
 unfoldable pub replyGiven : List (List ℕ) → List ℕ → FilingReply

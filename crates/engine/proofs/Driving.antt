@@ -15,15 +15,16 @@ use Rattle.policy.specs.Polarity.{Known, Verdict, verdictWord}
 use Rattle.policy.specs.Table.{Entry, table, readTable}
 use Rattle.policy.specs.Judgement.{checked, check, knownOf}
 use Rattle.policy.specs.Part.{noEntry, partWords}
-use Rattle.policy.proofs.PartAnswers.{table-sound, definition-part}
+use Rattle.judging.proofs.PartAnswers.{table-sound, definition-part}
 use Rattle.policy.proofs.Judging.{AcceptedDefinition, Accepted, none, one, AcceptedPair, check-accepted}
 use Rattle.meaning.specs.Evidence.{Evidence}
 use Rattle.meaning.specs.Reading.{Answer, done, refused, read}
-use Rattle.reading.specs.Areas.{Filled, setsIn}
-use Rattle.reading.specs.Readers.{From, SoundFrom, AskWhole, SayWhole, setAnswer, IfDone}
-use Rattle.reading.specs.declared.values.Read.{Read}
-use Rattle.reading.specs.declared.values.Read.the-variants as read
-use Rattle.engine.specs.Query.{Outcome, answered, declined, readFrom, answerArea}
+use Rattle.leaves.specs.Areas.{Filled, setsIn}
+use Rattle.reading.specs.Readers.{From, SoundFrom, AskWhole, SayWhole}
+use Rattle.leaves.specs.Leaves.{setAnswer, IfDone}
+use Rattle.leaves.specs.declared.values.Read.{Read}
+use Rattle.leaves.specs.declared.values.Read.the-variants as read
+use Rattle.demands.specs.Query.{Outcome, answered, declined, readFrom, answerArea}
 use Rattle.engine.specs.Reply.{replyTo}
 use Rattle.engine.specs.declared.Progress.{Progress}
 use Rattle.engine.specs.declared.Progress.the-variants.{Done, Stopped}

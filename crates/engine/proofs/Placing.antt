@@ -16,8 +16,8 @@ use Rattle.rows.specs.Sets.{RowSet}
 use Rattle.rows.specs.Layout.{setRoom, rowIn, soundRow, pieces, every, rowsIn, formed, setIn, setWords, soundSet, put, written}
 use Rattle.rows.proofs.Case.{Case, isTrue, isFalse, split}
 use Rattle.rows.proofs.LayoutLaws.{Sound, true-sound, sound-true, sound-length, sound-few, sound-written}
-use Rattle.reading.specs.Areas.{Filled, setsIn}
-use Rattle.reading.proofs.Areas.{SameFront, set-same, filled-same}
+use Rattle.leaves.specs.Areas.{Filled, setsIn}
+use Rattle.leaves.proofs.Areas.{SameFront, set-same, filled-same}
 use Rattle.engine.specs.Steps.{Placed}
 
 drop-split : (l k : ℕ) (ys : List ℕ) → l ≤ k → k ≤ length ys → drop l (take k ys) ++ drop k ys ≡ drop l ys

@@ -14,16 +14,16 @@ use Rattle.certificates.specs.Store.{soundStore}
 use Rattle.policy.specs.Syntax.{Expr}
 use Rattle.policy.specs.Polarity.{Verdict, verdictWord}
 use Rattle.policy.specs.Judgement.{checked, check, JudgementReply, verdict, refused, judge}
-use Rattle.policy.specs.Checks.{judgementOf}
-use Rattle.policy.specs.declared.Judgement.the-variants as judgement
+use Rattle.judging.specs.Reply.{judgementOf}
+use Rattle.judging.specs.declared.Judgement.the-variants as judgement
 use Rattle.policy.proofs.Judging.{judge-checked}
-use Rattle.engine.specs.Query.{Outcome, declined, readFrom, definitionRoom, scratchRoom, roomy, Call, outcomeFrom, queryCall, answerArea}
-use Rattle.engine.specs.Refusal.{judged, unsound, short}
+use Rattle.demands.specs.Query.{Outcome, declined, readFrom, definitionRoom, scratchRoom, roomy, Call, outcomeFrom, queryCall, answerArea}
+use Rattle.demands.specs.Refusal.{judged, unsound, short}
 use Rattle.engine.specs.Reply.{replyTo, Replied}
 use Rattle.engine.specs.Steps.{namesIn, Ready, ReadAll}
 use Rattle.engine.specs.declared.Reply.{Reply}
 use Rattle.engine.specs.declared.Reply.the-variants.{Refused}
-use Rattle.engine.proofs.Outcome.{call-declined, call-reads}
+use Rattle.demands.proofs.Outcome.{call-declined, call-reads}
 
 -- a call that was declined
 declines : (store : List ℕ) (c : Call) (n part : ℕ) → queryCall store c ≡ declined n part → Replied store c (Refused n part) (c .answer)

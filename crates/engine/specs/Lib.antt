@@ -1,8 +1,2 @@
-pub mod Query
 pub mod Reply
-pub mod Refusal
-pub mod Demand1
-pub mod Demand2
-pub mod Demand3
-pub mod Cases
 pub mod Steps

@@ -3,7 +3,7 @@ use Prim.Native.Nat.{ℕ}
 use mathlib.Core.Path.{_≡_}
 use mathlib.Core.List.{List}
 use Rattle.policy.specs.Polarity.{verdictWord}
-use Rattle.engine.specs.Query.{Outcome, answered, declined, Call, queryCall, answerArea}
+use Rattle.demands.specs.Query.{Outcome, answered, declined, Call, queryCall, answerArea}
 use Rattle.engine.specs.declared.Reply.{Reply}
 use Rattle.engine.specs.declared.Reply.the-variants.{Answered, Refused}
 

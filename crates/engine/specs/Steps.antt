@@ -11,8 +11,8 @@ use Rattle.policy.specs.Syntax.{Expr}
 use Rattle.policy.specs.Polarity.{Verdict, verdictWord}
 use Rattle.policy.specs.Judgement.{checked, check}
 use Rattle.meaning.specs.Evidence.{Evidence, namesHeld}
-use Rattle.reading.specs.Areas.{Filled, setsIn}
-use Rattle.engine.specs.Query.{Outcome, answered, declined, readFrom, definitionRoom, scratchRoom, answerArea}
+use Rattle.leaves.specs.Areas.{Filled, setsIn}
+use Rattle.demands.specs.Query.{Outcome, answered, declined, readFrom, definitionRoom, scratchRoom, answerArea}
 use Rattle.engine.specs.Reply.{replyTo}
 use Rattle.engine.specs.declared.Reply.{Reply}
 use Rattle.engine.specs.declared.Progress.{Progress}

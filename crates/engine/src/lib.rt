@@ -5,19 +5,21 @@ ghost use mathlib.Core.Bool.{true, _&&_};
 ghost use lib.Dec.{leb};
 ghost use lib.ListN.{length, getD};
 ghost use Rattle.rows.specs.Layout.{setRoom, setIn, setWords, soundSet, put};
-ghost use Rattle.engine.specs.Query.{definitionRoom, scratchRoom};
+ghost use Rattle.demands.specs.Query.{definitionRoom, scratchRoom};
 ghost use Rattle.engine.specs.Reply.{Replied};
 ghost use Rattle.engine.specs.Steps.{Ready, ReadDefinitions, ReadAll};
-use certificates::sound_store;
-use policy::Judgement;
-use policy::judge;
-use policy::parts::part;
+use judging::Judgement;
+use judging::judge;
+use judging::parts::part;
 use reading::Read;
 use reading::read_whole;
 use refusals::BAD_STORE;
 use refusals::NO_PART;
 use refusals::QUERY_PART;
-use rows::set::copy;
+use refusals::SHORT_AREA;
+use rows::SET_ROOM;
+use sets::set::copy;
+use store::sound_store;
 
 pub enum Reply {
     Answered { verdict: u32, draws: u32 },
@@ -29,10 +31,6 @@ enum Progress {
     Done(u32),
     Stopped { number: u32, part: u32 },
 }
-
-const SHORT_AREA: u32 = 11;
-
-const SET_ROOM: usize = 642;
 
 const DEFINITION_ROOM: usize = 10272;
 

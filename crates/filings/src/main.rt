@@ -1,7 +1,7 @@
 // Files into a real store and prints what it found. Each line of `stdout` was checked by hand against document 01, "Store and filing".
-use certificates::Filing;
-use certificates::certificates_of;
-use certificates::file;
+use store::Filing;
+use store::certificates_of;
+use store::file;
 
 const K0: u32 = 2147483648;
 

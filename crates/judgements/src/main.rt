@@ -4,9 +4,9 @@
 ghost use Prim.Native.Nat.{_≤_, _<_};
 ghost use mathlib.Core.Path.{_≡_};
 ghost use lib.ListN.{length};
-use policy::Judgement;
-use policy::judge;
-use policy::parts::part;
+use judging::Judgement;
+use judging::judge;
+use judging::parts::part;
 
 const BAR: u8 = 124;
 

@@ -4,13 +4,5 @@ pub mod Leaves
 pub mod Decoding
 pub mod Decoded
 pub mod Scope
-pub mod Answering
-pub mod TermAnswers
-pub mod RowAnswers
-pub mod CheckAnswers
-pub mod CycleAnswers
 pub mod Judging
-pub mod TableAnswers
-pub mod PartAnswers
-pub mod JudgeAnswers
 pub mod Judged

@@ -8,7 +8,3 @@ pub mod Table
 pub mod Judgement
 pub mod Judged
 pub mod Part
-pub mod Entries
-pub mod Places
-pub mod Answers
-pub mod Checks

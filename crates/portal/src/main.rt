@@ -1,7 +1,7 @@
 // Asks the engine, by real calls on areas full of other words, and prints what it replied. Each line of `stdout` was checked by hand against document 01.
 ghost use Prim.Native.Nat.{_≤_, _+_};
 ghost use lib.ListN.{length};
-use certificates::file;
+use store::file;
 use engine::Reply;
 use engine::query;
 

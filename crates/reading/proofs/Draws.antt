@@ -13,29 +13,30 @@ use borrow.Author.Tests.{lt-ltb, le-ltb}
 use Rattle.rows.specs.Row.{Row}
 use Rattle.rows.specs.Sets.{RowSet, only, allBut}
 use Rattle.rows.specs.Layout.{fiveAt, rowsIn, formed, setIn}
-use Rattle.rows.specs.Values.{wordsOf, rowOf}
-use Rattle.rows.specs.declared.row.Row as Held
+use Rattle.sets.specs.Values.{wordsOf, rowOf}
+use Rattle.sets.specs.declared.row.Row as Held
 use Rattle.rows.proofs.Case.{never}
 use Rattle.rows.proofs.LayoutLaws.{true-sound, rows-count, row-at}
-use Rattle.rows.proofs.RowLaws.{loaded-row, loaded-width}
-use Rattle.rows.proofs.SetWords.{width-at}
+use Rattle.sets.proofs.RowLaws.{loaded-row, loaded-width}
+use Rattle.sets.proofs.SetWords.{width-at}
 use Rattle.policy.specs.Syntax.{Slot, Expr, Body, draw}
 use Rattle.policy.specs.Words.{fresh}
 use Rattle.meaning.specs.Values.{Values}
 use Rattle.meaning.specs.Reading.{Answer, done, refused, Reading, after, drawable, tick, match, onMatch, drawEach, read}
-use Rattle.reading.specs.Values.{valuesOf}
-use Rattle.reading.specs.Places.{StandsBody, StandsDraw, SomeExpr, SomePattern, PastExpr, PastPattern}
-use Rattle.reading.specs.Areas.{Gathering, Kept}
-use Rattle.reading.specs.Readers.{rowsAnswer, IfDone, matchedAs, From, gathering, MeansBody, AskExpr, AskBody, AskDraw, SayExpr, SayBody, SayDraw, SayMatch}
-use Rattle.reading.proofs.Places.{expr-some, slots-scope}
-use Rattle.reading.proofs.Past.{pattern-here, rest-is, rest-here}
-use Rattle.reading.proofs.Areas.{SameFront, rows-same, word-same, filled-same, gathering-same, finite-set, kept-self, kept-less, kept-then, kept-part, givenBack, back-kept, part-length}
+use Rattle.leaves.specs.Values.{valuesOf}
+use Rattle.leaves.specs.Places.{StandsBody, StandsDraw, SomeExpr, SomePattern, PastExpr, PastPattern}
+use Rattle.leaves.specs.Areas.{Gathering, Kept}
+use Rattle.leaves.specs.Leaves.{rowsAnswer, IfDone, matchedAs, SayMatch}
+use Rattle.reading.specs.Readers.{From, gathering, MeansBody, AskExpr, AskBody, AskDraw, SayExpr, SayBody, SayDraw}
+use Rattle.leaves.proofs.Places.{expr-some, slots-scope}
+use Rattle.leaves.proofs.Past.{pattern-here, rest-is, rest-here}
+use Rattle.leaves.proofs.Areas.{SameFront, rows-same, word-same, filled-same, gathering-same, finite-set, kept-self, kept-less, kept-then, kept-part, givenBack, back-kept, part-length}
 use Rattle.reading.proofs.Exprs.{after-done, after-refused, refused-means, some-room}
 use Rattle.reading.proofs.Guards.{Operand, operand, operand-rows}
-use Rattle.reading.specs.declared.values.Env.{Env}
-use Rattle.reading.specs.declared.values.Matched.{Matched}
-use Rattle.reading.specs.declared.values.Read.{Read}
-use Rattle.reading.specs.declared.values.Read.the-variants.{Done, Refused}
+use Rattle.leaves.specs.declared.values.Env.{Env}
+use Rattle.leaves.specs.declared.values.Matched.{Matched}
+use Rattle.leaves.specs.declared.values.Read.{Read}
+use Rattle.leaves.specs.declared.values.Read.the-variants.{Done, Refused}
 
 -- ---- one draw
 

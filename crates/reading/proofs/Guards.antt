@@ -15,20 +15,21 @@ use Rattle.policy.specs.Words.{guardCount}
 use Rattle.meaning.specs.Values.{value, rowOf}
 use Rattle.meaning.specs.Reading.{Answer, done, Reading, read}
 use Rattle.meaning.proofs.Steps.{either}
-use Rattle.reading.specs.Values.{valuesOf, termOf}
-use Rattle.reading.specs.Places.{StandsBody, SomeRow, SomeExpr, SomeGuard, PastRow, PastExpr, IsGuard}
-use Rattle.reading.specs.Areas.{Filled, Gathering, Kept, roomOf, bodyRoom}
-use Rattle.reading.specs.Readers.{rowsAnswer, IfDone, From, gathering, Means, AskExpr, AskBody, AskDraw, AskAbsent, SayExpr, SayBody, SayDraw, SayAbsent, SayHead, SayHas}
-use Rattle.reading.proofs.Places.{on-head, on-draw, on-same, on-different, on-absent, in-head, in-draw, in-same, in-different, in-absent, expr-some, row-length}
-use Rattle.reading.proofs.Held.{held-value}
-use Rattle.reading.proofs.Past.{operand-here, over-is, over-here}
-use Rattle.reading.proofs.Areas.{SameFront, rows-same, gathering-same, kept-self, kept-then, givenBack, back-length, back-part, back-front, back-kept, part-length, part-whole}
+use Rattle.leaves.specs.Values.{valuesOf, termOf}
+use Rattle.leaves.specs.Places.{StandsBody, SomeRow, SomeExpr, SomeGuard, PastRow, PastExpr, IsGuard}
+use Rattle.leaves.specs.Areas.{Filled, Gathering, Kept, roomOf, bodyRoom}
+use Rattle.leaves.specs.Leaves.{rowsAnswer, IfDone, SayHead, SayHas}
+use Rattle.reading.specs.Readers.{From, gathering, Means, AskExpr, AskBody, AskDraw, AskAbsent, SayExpr, SayBody, SayDraw, SayAbsent}
+use Rattle.leaves.proofs.Places.{on-head, on-draw, on-same, on-different, on-absent, in-head, in-draw, in-same, in-different, in-absent, expr-some, row-length}
+use Rattle.leaves.proofs.Held.{held-value}
+use Rattle.leaves.proofs.Past.{operand-here, over-is, over-here}
+use Rattle.leaves.proofs.Areas.{SameFront, rows-same, gathering-same, kept-self, kept-then, givenBack, back-length, back-part, back-front, back-kept, part-length, part-whole}
 use Rattle.reading.proofs.Exprs.{after-done, after-refused, done-means, refused-means, done-filled, some-room}
-use Rattle.reading.specs.declared.values.Env.{Env}
-use Rattle.reading.specs.declared.values.Read.{Read}
-use Rattle.reading.specs.declared.values.Read.the-variants.{Done, Refused}
-use Rattle.reading.specs.declared.values.Term as Held-term
-use Rattle.reading.specs.declared.values.Guard.the-variants.{Draw, Same, Different, Absent}
+use Rattle.leaves.specs.declared.values.Env.{Env}
+use Rattle.leaves.specs.declared.values.Read.{Read}
+use Rattle.leaves.specs.declared.values.Read.the-variants.{Done, Refused}
+use Rattle.leaves.specs.declared.values.Term as Held-term
+use Rattle.leaves.specs.declared.values.Guard.the-variants.{Draw, Same, Different, Absent}
 
 -- ---- a step that is one of two
 

@@ -1,14 +1,4 @@
-mod Places
-mod Held
-mod Past
-pub mod Areas
-mod Match
-mod Exprs
-mod Guards
-mod Draws
-mod Whole
-mod Written
-mod Rows
-mod Literals
-mod Named
-mod Combined
+pub mod Exprs
+pub mod Guards
+pub mod Draws
+pub mod Whole

@@ -1,51 +1,24 @@
 -- What the readers ask and what they say, of whatever stands in the words.
 use Prim.Native.Nat.{ℕ, _+_, _*_, _≤_, _<_}
 use mathlib.Core.Path.{_≡_}
-use mathlib.Core.Bool.{Bool, true, false}
-use mathlib.Core.List.{List, [], map}
-use mathlib.Core.Option.{Option, none, some}
-use lib.ListN.{length, getD, drop}
-use Rattle.rows.specs.Ordered.{insert}
-use Rattle.rows.specs.Row.{Row, rowBefore}
-use Rattle.rows.specs.Name.{Polarity}
-use Rattle.rows.specs.Sets.{RowSet, only, mostRows, has, unite, subtract}
-use Rattle.rows.specs.Layout.{setRoom, rowIn, fiveAt, soundRow, pieces, rowsIn, formed, setIn}
-use Rattle.rows.specs.Values as held
-use Rattle.rows.specs.declared.row.Row as Held-row
-use Rattle.certificates.specs.Certificate.{recordWords}
+use mathlib.Core.Bool.{Bool, true}
+use mathlib.Core.List.{List, []}
+use lib.ListN.{length, drop}
+use Rattle.rows.specs.Row.{Row}
+use Rattle.rows.specs.Sets.{RowSet}
+use Rattle.rows.specs.Layout.{setRoom, rowsIn}
 use Rattle.certificates.specs.Store.{certificates, soundStore}
 use Rattle.policy.specs.Syntax.{Term, Slot, Expr, Body, draw, absent}
-use Rattle.policy.specs.Words.{fresh}
 use Rattle.policy.specs.Decode.{parse, parsed}
-use Rattle.meaning.specs.Values.{Values, value, rowOf}
+use Rattle.meaning.specs.Values.{Values}
 use Rattle.meaning.specs.Evidence.{namesHeld}
-use Rattle.meaning.specs.Reading.{Answer, done, refused, Reading, after, within, small, rowsOf, match, read, gather}
-use Rattle.reading.specs.Values.{valuesOf}
-use Rattle.reading.specs.Places.{At, nameWords, Stands, StandsRow, StandsRows, StandsPattern, StandsBody, StandsTwo, StandsDraw, StandsAbsent}
-use Rattle.reading.specs.Areas.{Filled, Gathering, Kept, setsIn, roomOf, bodyRoom}
-use Rattle.reading.specs.declared.values.Env.{Env}
-use Rattle.reading.specs.declared.values.Matched.{Matched}
-use Rattle.reading.specs.declared.values.Read.{Read}
-use Rattle.reading.specs.declared.values.Read.the-variants.{Done, Refused}
-
--- ---- answers: the number that the code gives, and the set that it leaves at the area's front
-
-unfoldable pub setAnswer : Read → List ℕ → Answer RowSet
-setAnswer (Done k) area = done (setIn area) k
-setAnswer (Refused n) area = refused n
-
--- while a comprehension's rows are gathered
-unfoldable pub rowsAnswer : Read → List ℕ → Answer (List Row)
-rowsAnswer (Done k) area = done (rowsIn area) k
-rowsAnswer (Refused n) area = refused n
-
--- what holds of the area if the reading is done
-unfoldable pub IfDone : (List ℕ → Type 0) → Read → List ℕ → Type 0
-IfDone P (Done k) area = P area
-IfDone P (Refused n) area = Unit {0}
-
-unfoldable pub matchedAs : Matched → Option Values
-matchedAs m = elim (m .ok) [ true ↦ some (valuesOf (m .env)) | false ↦ none ]
+use Rattle.meaning.specs.Reading.{Answer, Reading, after, small, read, gather}
+use Rattle.leaves.specs.Values.{valuesOf}
+use Rattle.leaves.specs.Places.{Stands, StandsBody, StandsTwo, StandsDraw, StandsAbsent}
+use Rattle.leaves.specs.Leaves.{setAnswer, rowsAnswer, IfDone, combined}
+use Rattle.leaves.specs.Areas.{Filled, Gathering, Kept, setsIn, roomOf, bodyRoom}
+use Rattle.leaves.specs.declared.values.Env.{Env}
+use Rattle.leaves.specs.declared.values.Read.{Read}
 
 -- ---- what is read from besides the words: the store, and the sets of the definitions known
 
@@ -81,10 +54,6 @@ pub record SayExpr (f : From) (ws : List ℕ) (at : ℕ) (env : Env) (k : ℕ) (
   pub means : Means f ws at env k (setAnswer r area)
 
 -- ---- a union or a difference
-
-unfoldable pub combined : Bool → RowSet → RowSet → RowSet
-combined true x y = subtract x y
-combined false x y = unite x y
 
 pub record MeansTwo (f : From) (ws : List ℕ) (at : ℕ) (minus : Bool) (env : Env) (k : ℕ) (a : Answer RowSet) : Type 0 where
   pub says : (x y : Expr) → StandsTwo (f .known) (env .count) ws at x y →
@@ -159,56 +128,6 @@ pub record SayAbsent (f : From) (ws : List ℕ) (at left : ℕ) (env : Env) (k f
   pub gathering : IfDone Gathering r area
   pub means : MeansAbsent f ws at left env k (rowsIn entry) (rowsAnswer r area)
   pub kept : Kept free entry area
-
--- ---- what the leaves say
-
--- the row that the terms come to
-pub record SayRow (ws : List ℕ) (at : ℕ) (env : Env) (r : Held-row.Row) : Type 0 where
-  pub some : 1 ≤ r .width
-  pub few : r .width ≤ 4
-  pub means : (n : ℕ) (ts : List Term) → StandsRow n ws at ts → held.rowOf r ≡ rowOf (valuesOf env) ts
-
--- the rows written there, in a set of this form
-pub record SayRows (ws : List ℕ) (at form : ℕ) (env : Env) (area : List ℕ) : Type 0 where
-  pub filled : Filled area
-  pub means : (n : ℕ) (rs : List (List Term)) → StandsRows n ws at rs → (k : ℕ) → small (formed form (rowsOf (valuesOf env) rs)) k ≡ done (setIn area) k
-
-pub record SayDefinition (known d : ℕ) (defs area : List ℕ) : Type 0 where
-  pub filled : Filled area
-  pub means : setIn area ≡ getD (setsIn known defs) d (only [])
-
--- so many records, whose rows are sound, as many as a set lists at most
-pub record Records (rs : List ℕ) (count : ℕ) : Type 0 where
-  pub whole : recordWords * count ≤ length rs
-  pub few : count ≤ mostRows
-  pub sound : (i : ℕ) → i < count → soundRow (fiveAt rs (recordWords * i + 3)) ≡ true
-
-unfoldable pub recordRows : List ℕ → ℕ → List Row
-unfolding pieces rowIn
-recordRows rs count = map (λ w. rowIn (drop 3 w)) (pieces recordWords count rs)
-
-pub record SayName (store ws : List ℕ) (at : ℕ) (env : Env) (k : ℕ) (r : Read) (area : List ℕ) : Type 0 where
-  pub filled : IfDone Filled r area
-  pub means : (t : Term) (n : ℕ) (p : Polarity) → At ws at (nameWords t n p) → small (namesHeld (certificates store) (value (valuesOf env) t) n p) k ≡ setAnswer r area
-
--- the left set lies at the front, the right one behind it
-pub record SayCombined (minus : Bool) (k : ℕ) (entry : List ℕ) (r : Read) (area : List ℕ) : Type 0 where
-  pub filled : IfDone Filled r area
-  pub means : small (combined minus (setIn entry) (setIn (drop setRoom entry))) k ≡ setAnswer r area
-
-pub record SayHead (ws : List ℕ) (at : ℕ) (env : Env) (k : ℕ) (entry : List ℕ) (r : Read) (area : List ℕ) : Type 0 where
-  pub gathering : IfDone Gathering r area
-  pub means : (n : ℕ) (ts : List Term) → StandsRow n ws at ts → within (insert rowBefore (rowOf (valuesOf env) ts) (rowsIn entry)) k ≡ rowsAnswer r area
-  pub kept : (free : ℕ) → Kept free entry area
-
--- a pattern against the row x
-pub record SayMatch (ws : List ℕ) (at : ℕ) (env : Env) (x : Row) (r : Matched) : Type 0 where
-  pub means : (p : List Slot) → StandsPattern (env .count) ws at p → match p (valuesOf env) x ≡ matchedAs r
-  pub count : (p : List Slot) → StandsPattern (env .count) ws at p → r .ok ≡ true → r .env .count ≡ env .count + fresh p
-
--- whether the row that the terms come to belongs to the set
-pub record SayHas (ws : List ℕ) (at : ℕ) (env : Env) (set : List ℕ) (r : Bool) : Type 0 where
-  pub means : (n : ℕ) (ts : List Term) → StandsRow n ws at ts → has (setIn set) (rowOf (valuesOf env) ts) ≡ r
 
 -- ---- a whole definition or query
 

@@ -1,9 +1,322 @@
-// Reading: the words of a checked expression, evaluated to a set of rows.
-mod leaves;
-mod names;
-mod readers;
-mod skip;
-mod values;
+// The readers of expressions and of guards, which call each other. An expression's set is left at the area's front; what lies behind it is free.
+// A comprehension gathers its rows at the front, and from `free` on the area is free: below it lie the sets that are drawn from.
+ghost use Rattle.reading.specs.Readers.{AskExpr, AskTwo, AskBody, AskDraw, AskAbsent, SayExpr, SayTwo, SayBody, SayDraw, SayAbsent, AskWhole, SayWhole};
+use leaves::combine;
+use leaves::has_row;
+use leaves::insert_head;
+use leaves::match_row;
+use leaves::names::read_name;
+use leaves::read_definition;
+use leaves::read_rows;
+use leaves::skip::skip_expr;
+use leaves::skip::skip_pattern;
+use leaves::skip::skip_row;
+use leaves::values::Env;
+use leaves::values::Guard;
+pub use leaves::values::Read;
+use leaves::values::guard_at;
+use leaves::values::value_of;
+use refusals::COMPLEMENT_DRAWN;
+use refusals::TOO_MANY_DRAWS;
+use rows::SET_ROOM;
+use sets::row::load;
+use sets::row::wide;
+use sets::set::clear;
 
-pub use readers::read_whole;
-pub use values::Read;
+const MOST_DRAWS: u32 = 1000000;
+
+// An expression, by its code.
+fn read_expr(
+    words: &[u32],
+    at: usize,
+    env: Env,
+    store: &[u32],
+    defs: &[u32],
+    known: usize,
+    draws: u32,
+    area: &mut [u32],
+) -> Read
+    requires { ⌜ AskExpr (record { store = now store; defs = now defs; known = known }) (now words) at env (now area) ⌝ }
+    ensures { λ r. ⌜ SayExpr (record { store = now (store .entry); defs = now (defs .entry); known = known }) (now (words .entry)) at env draws r (now (area .exit)) ⌝ }
+{
+    let code = words[at];
+    let body = at + 1;
+    if code == 1 {
+        read_rows(words, body, 0, env, area);
+        return Read::Done(draws);
+    }
+    if code == 2 {
+        read_rows(words, body, 1, env, area);
+        return Read::Done(draws);
+    }
+    if code == 3 {
+        let d = words[body];
+        read_definition(defs, known, d, area);
+        return Read::Done(draws);
+    }
+    if code == 4 {
+        return read_name(words, body, env, store, draws, area);
+    }
+    if code == 5 {
+        return read_two(words, body, false, env, store, defs, known, draws, area);
+    }
+    if code == 6 {
+        return read_two(words, body, true, env, store, defs, known, draws, area);
+    }
+    let count = words[body];
+    clear(area, 0);
+    read_guards(
+        words,
+        at + 2,
+        count,
+        env,
+        store,
+        defs,
+        known,
+        draws,
+        area,
+        SET_ROOM,
+    )
+}
+
+// A union or a difference: the right operand is read into the area behind the left one's set.
+fn read_two(
+    words: &[u32],
+    at: usize,
+    minus: bool,
+    env: Env,
+    store: &[u32],
+    defs: &[u32],
+    known: usize,
+    draws: u32,
+    area: &mut [u32],
+) -> Read
+    requires { ⌜ AskTwo (record { store = now store; defs = now defs; known = known }) (now words) at env (now area) ⌝ }
+    ensures { λ r. ⌜ SayTwo (record { store = now (store .entry); defs = now (defs .entry); known = known }) (now (words .entry)) at minus env draws r (now (area .exit)) ⌝ }
+{
+    match read_expr(words, at, env, store, defs, known, draws, area) {
+        Read::Refused(n) => Read::Refused(n),
+        Read::Done(used) => {
+            let second = skip_expr(words, at);
+            match read_expr(
+                words,
+                second,
+                env,
+                store,
+                defs,
+                known,
+                used,
+                &mut area[SET_ROOM..],
+            ) {
+                Read::Refused(n) => Read::Refused(n),
+                Read::Done(total) => combine(minus, total, area),
+            }
+        }
+    }
+}
+
+// The guards left, then the head.
+fn read_guards(
+    words: &[u32],
+    at: usize,
+    left: u32,
+    env: Env,
+    store: &[u32],
+    defs: &[u32],
+    known: usize,
+    draws: u32,
+    area: &mut [u32],
+    free: usize,
+) -> Read
+    requires { ⌜ AskBody (record { store = now store; defs = now defs; known = known }) (now words) at left env (now area) free ⌝ }
+    ensures { λ r. ⌜ SayBody (record { store = now (store .entry); defs = now (defs .entry); known = known }) (now (words .entry)) at left env draws free (now (area .entry)) r (now (area .exit)) ⌝ }
+{
+    if left == 0 {
+        return insert_head(words, at, env, draws, area);
+    }
+    match guard_at(words, at) {
+        Guard::Draw => read_draw(
+            words,
+            at + 1,
+            left - 1,
+            env,
+            store,
+            defs,
+            known,
+            draws,
+            area,
+            free,
+        ),
+        Guard::Same(x, y) => {
+            let a = value_of(env, x);
+            let b = value_of(env, y);
+            if a == b {
+                return read_guards(
+                    words,
+                    at + 5,
+                    left - 1,
+                    env,
+                    store,
+                    defs,
+                    known,
+                    draws,
+                    area,
+                    free,
+                );
+            }
+            Read::Done(draws)
+        }
+        Guard::Different(x, y) => {
+            let a = value_of(env, x);
+            let b = value_of(env, y);
+            if a != b {
+                return read_guards(
+                    words,
+                    at + 5,
+                    left - 1,
+                    env,
+                    store,
+                    defs,
+                    known,
+                    draws,
+                    area,
+                    free,
+                );
+            }
+            Read::Done(draws)
+        }
+        Guard::Absent => read_absent(
+            words,
+            at + 1,
+            left - 1,
+            env,
+            store,
+            defs,
+            known,
+            draws,
+            area,
+            free,
+        ),
+    }
+}
+
+// A draw: its operand is read into the free area, and for each of its rows that matches the guards that follow are read.
+fn read_draw(
+    words: &[u32],
+    at: usize,
+    left: u32,
+    env: Env,
+    store: &[u32],
+    defs: &[u32],
+    known: usize,
+    draws: u32,
+    area: &mut [u32],
+    free: usize,
+) -> Read
+    requires { ⌜ AskDraw (record { store = now store; defs = now defs; known = known }) (now words) at left env (now area) free ⌝ }
+    ensures { λ r. ⌜ SayDraw (record { store = now (store .entry); defs = now (defs .entry); known = known }) (now (words .entry)) at left env draws free (now (area .entry)) r (now (area .exit)) ⌝ }
+{
+    match read_expr(words, at, env, store, defs, known, draws, &mut area[free..]) {
+        Read::Refused(n) => Read::Refused(n),
+        Read::Done(before) => {
+            let pattern = skip_expr(words, at);
+            let rest = skip_pattern(words, pattern);
+            let form = area[free];
+            if form != 0 {
+                return Read::Refused(COMPLEMENT_DRAWN);
+            }
+            let count = area[free + 1];
+            let mut used = before;
+            let mut i: u32 = 0;
+            while i < count {
+                if MOST_DRAWS <= used {
+                    return Read::Refused(TOO_MANY_DRAWS);
+                }
+                used += 1;
+                let row = load(area, free + 2 + 5 * wide(i));
+                i += 1;
+                let got = match_row(words, pattern, env, row);
+                if got.ok {
+                    let inner = got.env;
+                    match read_guards(
+                        words,
+                        rest,
+                        left,
+                        inner,
+                        store,
+                        defs,
+                        known,
+                        used,
+                        area,
+                        free + SET_ROOM,
+                    ) {
+                        Read::Refused(n) => {
+                            return Read::Refused(n);
+                        }
+                        Read::Done(d) => {
+                            used = d;
+                        }
+                    }
+                }
+            }
+            Read::Done(used)
+        }
+    }
+}
+
+// An absent guard: its operand is read into the free area, which is free again for the guards that follow.
+fn read_absent(
+    words: &[u32],
+    at: usize,
+    left: u32,
+    env: Env,
+    store: &[u32],
+    defs: &[u32],
+    known: usize,
+    draws: u32,
+    area: &mut [u32],
+    free: usize,
+) -> Read
+    requires { ⌜ AskAbsent (record { store = now store; defs = now defs; known = known }) (now words) at left env (now area) free ⌝ }
+    ensures { λ r. ⌜ SayAbsent (record { store = now (store .entry); defs = now (defs .entry); known = known }) (now (words .entry)) at left env draws free (now (area .entry)) r (now (area .exit)) ⌝ }
+{
+    let inner = skip_row(words, at);
+    match read_expr(
+        words,
+        inner,
+        env,
+        store,
+        defs,
+        known,
+        draws,
+        &mut area[free..],
+    ) {
+        Read::Refused(n) => Read::Refused(n),
+        Read::Done(used) => {
+            if has_row(words, at, env, &area[free..]) {
+                return Read::Done(used);
+            }
+            let rest = skip_expr(words, inner);
+            read_guards(words, rest, left, env, store, defs, known, used, area, free)
+        }
+    }
+}
+
+// A whole definition or query that was checked: a sound store, the sets of the `known` definitions before it, and the draws made so far.
+pub fn read_whole(
+    words: &[u32],
+    store: &[u32],
+    defs: &[u32],
+    known: usize,
+    draws: u32,
+    area: &mut [u32],
+) -> Read
+    requires { ⌜ AskWhole (record { store = now store; defs = now defs; known = known }) (now words) (now area) ⌝ }
+    ensures { λ r. ⌜ SayWhole (record { store = now (store .entry); defs = now (defs .entry); known = known }) (now (words .entry)) draws r (now (area .exit)) ⌝ }
+{
+    let env = Env {
+        count: 0,
+        values: [0u32; 16],
+    };
+    read_expr(words, 0, env, store, defs, known, draws, area)
+}

@@ -19,6 +19,14 @@ pub const BAD_CERTIFICATE: u32 = 9;
 
 pub const STORE_FULL: u32 = 10;
 
+pub const SHORT_AREA: u32 = 11;
+
+pub const COMPLEMENT_DRAWN: u32 = 12;
+
+pub const TOO_MANY_ROWS: u32 = 13;
+
+pub const TOO_MANY_DRAWS: u32 = 14;
+
 // The parts that are no definition.
 pub const QUERY_PART: u32 = 16;
 

@@ -3,16 +3,7 @@ pub mod Order
 pub mod Ordered
 pub mod Sets
 pub mod LayoutLaws
-pub mod RowLaws
 pub mod Put
 pub mod Scan
-pub mod SetWords
 pub mod Place
-pub mod Laid
-pub mod Inserting
-pub mod Seeking
-pub mod Filtering
 pub mod Joining
-pub mod Merging
-pub mod Combining
-pub mod Standing

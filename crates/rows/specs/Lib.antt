@@ -4,5 +4,3 @@ pub mod Row
 pub mod Name
 pub mod Sets
 pub mod Layout
-pub mod Values
-pub mod Private

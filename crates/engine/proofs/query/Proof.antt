@@ -4,7 +4,7 @@ use borrow.Author.Tests.{not-true, not-false}
 use borrow.Author.Needs.{needs}
 use denote.Ref.{now}
 use Rattle.policy.specs.Judgement.{judge}
-use Rattle.engine.specs.Query.{roomy, Call}
+use Rattle.demands.specs.Query.{roomy, Call}
 use Rattle.engine.proofs.Replying.{verdict-in, refusal-in, refuses-judged, refuses-store, refuses-areas, answer-room, is-ready, replies}
 use Rattle.engine.proofs.query.Statement.{statement}
 use Rattle.engine.proofs.query.Tie as tie

@@ -1,0 +1,5 @@
+pub mod Seeking
+pub mod Filtering
+pub mod Merging
+pub mod Combining
+pub mod Standing

@@ -1,0 +1,25 @@
+-- Each way out is a law of `CycleAnswers`.
+use Rattle.checker.specs.Checks.{knownIn}
+use Rattle.checker.proofs.CycleAnswers.{head-refused, head-found}
+use borrow.Author.Needs.{needs}
+use Rattle.checker.proofs.check_head.Statement.{statement}
+use Rattle.checker.proofs.check_head.Tie as tie
+
+read-row-requires : tie.Need-read-row-requires
+read-row-requires c κs = search needs
+
+enum-known-n : tie.Need-enum-known-n
+enum-known-n c = search needs
+
+enum-known-next : tie.Need-enum-known-next
+enum-known-next c = search needs
+
+returns : tie.Need-returns
+returns c = let a = c .before .before .before .before .before .args in head-refused (a .words .now) (a .at) (a .variables) (a .draws) (knownIn (a .earlier)) (c .before .before .before .read-row .ensures) (c .before .n .given .1)
+
+returns-2 : tie.Need-returns-2
+returns-2 c = let a = c .before .before .before .before .before .args in head-found (a .words .now) (a .at) (a .variables) (a .draws) (knownIn (a .earlier)) (c .before .before .before .read-row .ensures) (c .before .next .given .1)
+
+pub check-head-spec : {M : Type 1} → statement M
+check-head-spec =
+    tie.close (tie.spec read-row-requires enum-known-n enum-known-next returns returns-2)

@@ -1,0 +1,25 @@
+-- Each way out is a law of `CheckAnswers`.
+use Rattle.checker.specs.Checks.{knownIn}
+use Rattle.checker.proofs.CheckAnswers.{literal-found, literal-refused}
+use borrow.Author.Needs.{needs}
+use Rattle.checker.proofs.check_literal.Statement.{statement}
+use Rattle.checker.proofs.check_literal.Tie as tie
+
+read-rows-requires : tie.Need-read-rows-requires
+read-rows-requires c κs = search needs
+
+enum-known-n : tie.Need-enum-known-n
+enum-known-n c = search needs
+
+enum-known-next : tie.Need-enum-known-next
+enum-known-next c = search needs
+
+returns : tie.Need-returns
+returns c = let a = c .before .before .before .before .before .args in literal-refused (a .words .now) (a .at) (a .variables) (a .draws) (knownIn (a .earlier)) (a .code) (c .before .before .before .before .before .pre .0) (c .before .before .before .before .before .pre .1) (c .before .before .before .read-rows .ensures) (c .before .n .given .1)
+
+returns-2 : tie.Need-returns-2
+returns-2 c = let a = c .before .before .before .before .before .args in literal-found (a .words .now) (a .at) (a .variables) (a .draws) (knownIn (a .earlier)) (a .code) (c .before .before .before .before .before .pre .0) (c .before .before .before .before .before .pre .1) (c .before .before .before .read-rows .ensures) (c .before .next .given .1)
+
+pub check-literal-spec : {M : Type 1} → statement M
+check-literal-spec =
+    tie.close (tie.spec read-rows-requires enum-known-n enum-known-next returns returns-2)

@@ -1,0 +1,529 @@
+// An expression checked in one pass over its words: refusals 3, 4 and 5 at the first word that breaks a rule, and on the way which polarities
+// it has, whether it is open, and whether every draw is from a set that is not.
+ghost use Prim.Native.Nat.{_+_, _≤_};
+ghost use mathlib.Core.Path.{_≡_};
+ghost use mathlib.Core.Bool.{_&&_, _||_};
+ghost use mathlib.Core.List.{[], _∷_, _++_};
+ghost use lib.ListN.{length, drop};
+ghost use Rattle.policy.specs.Decode.{isDraw, isAbsent, parse};
+ghost use Rattle.policy.specs.Judgement.{checkQuery};
+ghost use Rattle.terms.specs.Answers.{Answers};
+ghost use Rattle.checker.specs.Checks.{unionOf, differenceOf, drawOf, absentOf, knownIn, checkingIs, noneInside, inside, exprFacts, codeFacts, bodyFacts, guardFacts, wholeOf, admitOf, declaredOf, definitionParsed, knownAs};
+use rows::LAST_NAME;
+use terms::Guard;
+use terms::GuardRead;
+use terms::Passed;
+use terms::PatternRead;
+use terms::WordRead;
+use terms::read_guard;
+use terms::read_issuer;
+use terms::read_pattern;
+use terms::read_row;
+use terms::read_rows;
+use terms::word_between;
+
+const LAST_CODE: u32 = 7;
+
+const MOST_LEVELS: u32 = 15;
+
+const MOST_QUERY_WORDS: usize = 1024;
+
+const MOST_GUARDS: u32 = 8;
+
+const MOST_DRAWS: u32 = 8;
+
+// The polarities that an expression has, whether it is open, and whether its draws are from closed sets only.
+pub struct Facts {
+    pub plus: bool,
+    pub minus: bool,
+    pub open: bool,
+    pub draws_closed: bool,
+}
+
+// What is known of the definitions before: which are declared − and which are open.
+pub struct Earlier {
+    pub count: u32,
+    pub minus: [bool; 16],
+    pub open: [bool; 16],
+}
+
+// The facts, the place of the next word and the draws met so far.
+pub enum Checking {
+    Found(Facts, usize, u32),
+    Refused(u32),
+}
+
+fn both(a: bool, b: bool) -> bool
+    ensures { λ r. ⌜ r ≡ (a && b) ⌝ }
+{
+    a && b
+}
+
+fn either(a: bool, b: bool) -> bool
+    ensures { λ r. ⌜ r ≡ (a || b) ⌝ }
+{
+    a || b
+}
+
+fn union_of(a: Facts, b: Facts) -> Facts
+    ensures { λ r. ⌜ r ≡ unionOf a b ⌝ }
+{
+    Facts {
+        plus: both(a.plus, b.plus),
+        minus: both(a.minus, b.minus),
+        open: either(a.open, b.open),
+        draws_closed: both(a.draws_closed, b.draws_closed),
+    }
+}
+
+// What stands to the right of a difference counts with the opposite polarity.
+fn difference_of(a: Facts, b: Facts) -> Facts
+    ensures { λ r. ⌜ r ≡ differenceOf a b ⌝ }
+{
+    Facts {
+        plus: both(a.plus, b.minus),
+        minus: both(a.minus, b.plus),
+        open: a.open,
+        draws_closed: both(a.draws_closed, b.draws_closed),
+    }
+}
+
+// A draw from `drawn`, before the other guards.
+fn draw_of(drawn: Facts, rest: Facts) -> Facts
+    ensures { λ r. ⌜ r ≡ drawOf drawn rest ⌝ }
+{
+    Facts {
+        plus: both(drawn.plus, rest.plus),
+        minus: both(drawn.minus, rest.minus),
+        open: false,
+        draws_closed: both(!drawn.open, both(drawn.draws_closed, rest.draws_closed)),
+    }
+}
+
+// The set that a row is absent from counts with the opposite polarity.
+fn absent_of(lacking: Facts, rest: Facts) -> Facts
+    ensures { λ r. ⌜ r ≡ absentOf lacking rest ⌝ }
+{
+    Facts {
+        plus: both(lacking.minus, rest.plus),
+        minus: both(lacking.plus, rest.minus),
+        open: false,
+        draws_closed: both(lacking.draws_closed, rest.draws_closed),
+    }
+}
+
+// Codes 1 and 2: the rows.
+fn check_literal(
+    words: &[u32],
+    at: usize,
+    variables: u32,
+    draws: u32,
+    earlier: Earlier,
+    code: u32,
+) -> Checking
+    requires { ⌜ (1 ≤ code) × (code ≤ 2) ⌝ }
+    ensures { λ r. ⌜ Answers (now (words .entry)) at (checkingIs r) (codeFacts (knownIn earlier) noneInside variables code (drop at (now (words .entry))) draws) ⌝ }
+{
+    match read_rows(words, at, variables) {
+        Passed::Refused(n) => Checking::Refused(n),
+        Passed::To(next) => {
+            let facts = Facts {
+                plus: true,
+                minus: true,
+                open: code == 2,
+                draws_closed: true,
+            };
+            Checking::Found(facts, next, draws)
+        }
+    }
+}
+
+// Code 3: an earlier definition.
+fn check_definition(
+    words: &[u32],
+    at: usize,
+    variables: u32,
+    draws: u32,
+    earlier: Earlier,
+) -> Checking
+    requires { ⌜ earlier .count ≤ 16 ⌝ }
+    ensures { λ r. ⌜ Answers (now (words .entry)) at (checkingIs r) (codeFacts (knownIn earlier) noneInside variables 3 (drop at (now (words .entry))) draws) ⌝ }
+{
+    if words.len() <= at {
+        return Checking::Refused(refusals::BAD_WORD);
+    }
+    let d = words[at];
+    if earlier.count <= d {
+        return Checking::Refused(refusals::NOT_IN_SCOPE);
+    }
+    let i = d as usize;
+    let minus = earlier.minus[i];
+    let facts = Facts {
+        plus: !minus,
+        minus: minus,
+        open: earlier.open[i],
+        draws_closed: true,
+    };
+    Checking::Found(facts, at + 1, draws)
+}
+
+// Code 4: issuer, name, polarity.
+fn check_name(words: &[u32], at: usize, variables: u32, draws: u32, earlier: Earlier) -> Checking
+    ensures { λ r. ⌜ Answers (now (words .entry)) at (checkingIs r) (codeFacts (knownIn earlier) noneInside variables 4 (drop at (now (words .entry))) draws) ⌝ }
+{
+    match read_issuer(words, at, variables) {
+        Passed::Refused(n) => Checking::Refused(n),
+        Passed::To(name) => match word_between(words, name, 0, LAST_NAME) {
+            WordRead::Refused(n) => Checking::Refused(n),
+            WordRead::Found(_) => match word_between(words, name + 1, 0, 1) {
+                WordRead::Refused(n) => Checking::Refused(n),
+                WordRead::Found(polarity) => {
+                    let minus = polarity == 1;
+                    let facts = Facts {
+                        plus: !minus,
+                        minus: minus,
+                        open: minus,
+                        draws_closed: true,
+                    };
+                    Checking::Found(facts, name + 2, draws)
+                }
+            },
+        },
+    }
+}
+
+// The head of a comprehension.
+fn check_head(words: &[u32], at: usize, variables: u32, draws: u32, earlier: Earlier) -> Checking
+    ensures { λ r. ⌜ Answers (now (words .entry)) at (checkingIs r) (bodyFacts (knownIn earlier) noneInside 0 variables (drop at (now (words .entry))) draws) ⌝ }
+{
+    match read_row(words, at, variables) {
+        Passed::Refused(n) => Checking::Refused(n),
+        Passed::To(next) => {
+            let facts = Facts {
+                plus: true,
+                minus: true,
+                open: false,
+                draws_closed: true,
+            };
+            Checking::Found(facts, next, draws)
+        }
+    }
+}
+
+// An expression, with so many levels of depth left; with none left it is refused at its code word.
+pub fn check_expr(
+    words: &[u32],
+    at: usize,
+    levels: u32,
+    variables: u32,
+    draws: u32,
+    earlier: Earlier,
+) -> Checking
+    requires { ⌜ earlier .count ≤ 16 ⌝ }
+    ensures { λ r. ⌜ Answers (now (words .entry)) at (checkingIs r) (exprFacts (knownIn earlier) levels variables (drop at (now (words .entry))) draws) ⌝ }
+{
+    match word_between(words, at, 1, LAST_CODE) {
+        WordRead::Refused(n) => Checking::Refused(n),
+        WordRead::Found(code) => {
+            if levels == 0 {
+                Checking::Refused(refusals::TOO_DEEP)
+            } else {
+                check_code(words, at + 1, levels - 1, variables, draws, earlier, code)
+            }
+        }
+    }
+}
+
+// What follows a code.
+fn check_code(
+    words: &[u32],
+    at: usize,
+    levels: u32,
+    variables: u32,
+    draws: u32,
+    earlier: Earlier,
+    code: u32,
+) -> Checking
+    requires { ⌜ (earlier .count ≤ 16) × (1 ≤ code) × (code ≤ 7) ⌝ }
+    ensures { λ r. ⌜ Answers (now (words .entry)) at (checkingIs r) (codeFacts (knownIn earlier) (inside (knownIn earlier) levels) variables code (drop at (now (words .entry))) draws) ⌝ }
+{
+    if code <= 2 {
+        return check_literal(words, at, variables, draws, earlier, code);
+    }
+    if code == 3 {
+        return check_definition(words, at, variables, draws, earlier);
+    }
+    if code == 4 {
+        return check_name(words, at, variables, draws, earlier);
+    }
+    if code <= 6 {
+        return check_two(words, at, levels, variables, draws, earlier, code);
+    }
+    match word_between(words, at, 0, MOST_GUARDS) {
+        WordRead::Refused(n) => Checking::Refused(n),
+        WordRead::Found(count) => check_guards(
+            words,
+            at + 1,
+            levels,
+            variables,
+            draws,
+            earlier,
+            count,
+        ),
+    }
+}
+
+// The two parts of a union, code 5, or of a difference, code 6.
+fn check_two(
+    words: &[u32],
+    at: usize,
+    levels: u32,
+    variables: u32,
+    draws: u32,
+    earlier: Earlier,
+    code: u32,
+) -> Checking
+    requires { ⌜ (earlier .count ≤ 16) × (5 ≤ code) × (code ≤ 6) ⌝ }
+    ensures { λ r. ⌜ Answers (now (words .entry)) at (checkingIs r) (codeFacts (knownIn earlier) (inside (knownIn earlier) levels) variables code (drop at (now (words .entry))) draws) ⌝ }
+{
+    match check_expr(words, at, levels, variables, draws, earlier) {
+        Checking::Refused(n) => Checking::Refused(n),
+        Checking::Found(left, middle, met) => match check_expr(
+            words,
+            middle,
+            levels,
+            variables,
+            met,
+            earlier,
+        ) {
+            Checking::Refused(n) => Checking::Refused(n),
+            Checking::Found(right, next, total) => {
+                if code == 5 {
+                    Checking::Found(union_of(left, right), next, total)
+                } else {
+                    Checking::Found(difference_of(left, right), next, total)
+                }
+            }
+        },
+    }
+}
+
+// The guards that are left, and then the head.
+fn check_guards(
+    words: &[u32],
+    at: usize,
+    levels: u32,
+    variables: u32,
+    draws: u32,
+    earlier: Earlier,
+    left: u32,
+) -> Checking
+    requires { ⌜ earlier .count ≤ 16 ⌝ }
+    ensures { λ r. ⌜ Answers (now (words .entry)) at (checkingIs r) (bodyFacts (knownIn earlier) (inside (knownIn earlier) levels) left variables (drop at (now (words .entry))) draws) ⌝ }
+{
+    if left == 0 {
+        return check_head(words, at, variables, draws, earlier);
+    }
+    match read_guard(words, at, variables) {
+        GuardRead::Refused(n) => Checking::Refused(n),
+        GuardRead::Found(guard, next) => match guard {
+            Guard::Draw => check_draw(words, next, levels, variables, draws, earlier, left - 1),
+            Guard::Same(_, _) => check_guards(
+                words,
+                next,
+                levels,
+                variables,
+                draws,
+                earlier,
+                left - 1,
+            ),
+            Guard::Different(_, _) => check_guards(
+                words,
+                next,
+                levels,
+                variables,
+                draws,
+                earlier,
+                left - 1,
+            ),
+            Guard::Absent => check_absent(words, next, levels, variables, draws, earlier, left - 1),
+        },
+    }
+}
+
+// A draw, counted where it begins: its expression, its pattern, and the guards after it.
+fn check_draw(
+    words: &[u32],
+    at: usize,
+    levels: u32,
+    variables: u32,
+    draws: u32,
+    earlier: Earlier,
+    left: u32,
+) -> Checking
+    requires { ⌜ earlier .count ≤ 16 ⌝ }
+    ensures { λ r. ⌜ Answers (now (words .entry)) at (checkingIs r) (guardFacts (knownIn earlier) (inside (knownIn earlier) levels) left variables isDraw (drop at (now (words .entry))) draws) ⌝ }
+{
+    if MOST_DRAWS <= draws {
+        return Checking::Refused(refusals::TOO_DEEP);
+    }
+    match check_expr(words, at, levels, variables, draws + 1, earlier) {
+        Checking::Refused(n) => Checking::Refused(n),
+        Checking::Found(drawn, pattern, met) => match read_pattern(words, pattern, variables) {
+            PatternRead::Refused(n) => Checking::Refused(n),
+            PatternRead::Found(scope, rest) => match check_guards(
+                words,
+                rest,
+                levels,
+                scope,
+                met,
+                earlier,
+                left,
+            ) {
+                Checking::Refused(n) => Checking::Refused(n),
+                Checking::Found(others, next, total) => Checking::Found(
+                    draw_of(drawn, others),
+                    next,
+                    total,
+                ),
+            },
+        },
+    }
+}
+
+// An absent guard: its row, its expression, and the guards after it.
+fn check_absent(
+    words: &[u32],
+    at: usize,
+    levels: u32,
+    variables: u32,
+    draws: u32,
+    earlier: Earlier,
+    left: u32,
+) -> Checking
+    requires { ⌜ earlier .count ≤ 16 ⌝ }
+    ensures { λ r. ⌜ Answers (now (words .entry)) at (checkingIs r) (guardFacts (knownIn earlier) (inside (knownIn earlier) levels) left variables isAbsent (drop at (now (words .entry))) draws) ⌝ }
+{
+    match read_row(words, at, variables) {
+        Passed::Refused(n) => Checking::Refused(n),
+        Passed::To(set) => match check_expr(words, set, levels, variables, draws, earlier) {
+            Checking::Refused(n) => Checking::Refused(n),
+            Checking::Found(lacking, rest, met) => match check_guards(
+                words,
+                rest,
+                levels,
+                variables,
+                met,
+                earlier,
+                left,
+            ) {
+                Checking::Refused(n) => Checking::Refused(n),
+                Checking::Found(others, next, total) => Checking::Found(
+                    absent_of(lacking, others),
+                    next,
+                    total,
+                ),
+            },
+        },
+    }
+}
+
+// A whole definition or query.
+pub enum Whole {
+    Checked(Facts),
+    Refused(u32),
+}
+
+// Its words, and none left over.
+pub fn check_whole(words: &[u32], earlier: Earlier) -> Whole
+    requires { ⌜ earlier .count ≤ 16 ⌝ }
+    ensures { λ r. ⌜ r ≡ wholeOf (knownIn earlier) (parse (length (knownIn earlier)) (now (words .entry))) ⌝ }
+{
+    match check_expr(words, 0, MOST_LEVELS, 0, 0, earlier) {
+        Checking::Refused(n) => Whole::Refused(n),
+        Checking::Found(facts, next, _) => {
+            if next < words.len() {
+                Whole::Refused(refusals::BAD_WORD)
+            } else {
+                Whole::Checked(facts)
+            }
+        }
+    }
+}
+
+// 6 unless it has the polarity asked for, then 7 unless its draws are from closed sets.
+fn admit(facts: Facts, had: bool) -> Whole
+    ensures { λ r. ⌜ r ≡ admitOf facts had ⌝ }
+{
+    let closed = facts.draws_closed;
+    if !had {
+        return Whole::Refused(refusals::NO_POLARITY);
+    }
+    if !closed {
+        return Whole::Refused(refusals::OPEN_DRAW);
+    }
+    Whole::Checked(facts)
+}
+
+fn declared(facts: Facts, polarity: u32) -> bool
+    ensures { λ r. ⌜ r ≡ declaredOf facts polarity ⌝ }
+{
+    if polarity == 0 {
+        facts.plus
+    } else {
+        facts.minus
+    }
+}
+
+// A definition's words, with the polarity that it declares.
+pub fn judge_definition(words: &[u32], polarity: u32, earlier: Earlier) -> Whole
+    requires { ⌜ earlier .count ≤ 16 ⌝ }
+    ensures { λ r. ⌜ r ≡ wholeOf (knownIn earlier) (definitionParsed (knownIn earlier) polarity (now (words .entry))) ⌝ }
+{
+    match check_whole(words, earlier) {
+        Whole::Refused(n) => Whole::Refused(n),
+        Whole::Checked(facts) => admit(facts, declared(facts, polarity)),
+    }
+}
+
+// A query's words: 1 to 1,024 of them.
+pub fn judge_query(words: &[u32], earlier: Earlier) -> Whole
+    requires { ⌜ earlier .count ≤ 16 ⌝ }
+    ensures { λ r. ⌜ r ≡ wholeOf (knownIn earlier) (checkQuery (knownIn earlier) (now (words .entry))) ⌝ }
+{
+    if words.len() == 0 {
+        return Whole::Refused(refusals::BAD_WORD);
+    }
+    if MOST_QUERY_WORDS < words.len() {
+        return Whole::Refused(refusals::BAD_WORD);
+    }
+    match check_whole(words, earlier) {
+        Whole::Refused(n) => Whole::Refused(n),
+        Whole::Checked(facts) => admit(facts, either(facts.plus, facts.minus)),
+    }
+}
+
+// Before any definition.
+pub fn none_earlier() -> Earlier
+    ensures { λ r. ⌜ (r .count ≡ 0) × (knownIn r ≡ []) ⌝ }
+{
+    Earlier {
+        count: 0,
+        minus: [false; 16],
+        open: [false; 16],
+    }
+}
+
+// One definition more.
+pub fn with_definition(earlier: Earlier, polarity: u32, open: bool) -> Earlier
+    requires { ⌜ earlier .count ≤ 15 ⌝ }
+    ensures { λ r. ⌜ (r .count ≡ earlier .count + 1) × (knownIn r ≡ knownIn earlier ++ (knownAs polarity «open» ∷ [])) ⌝ }
+{
+    let n = earlier.count;
+    let i = n as usize;
+    let mut next = earlier;
+    next.minus[i] = polarity != 0;
+    next.open[i] = open;
+    next.count = n + 1;
+    next
+}

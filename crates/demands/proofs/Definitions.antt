@@ -1,0 +1,131 @@
+-- Checked definitions, one after the other: the sets read for them are proper and have what the definitions mean, and their meanings follow their
+-- declared polarities from world to world.
+use Prim.Native.Nat.{ℕ, zero, suc}
+use mathlib.Core.Path.{_≡_, refl, sym, _∙_, ap, subst}
+use mathlib.Core.Logic.{_↔_}
+use mathlib.Core.List.{List, [], _∷_, _++_}
+use native.Mathlib.Omega.{arith}
+use lib.Dec.{T}
+use lib.ListN.{length, getD}
+use Rattle.rows.specs.Word.{All, IsWord, Words}
+use Rattle.rows.specs.Row.{Row, IsRow}
+use Rattle.rows.specs.Name.{plus}
+use Rattle.rows.specs.Sets.{RowSet, only, has, listing}
+use Rattle.rows.proofs.Case.{iff-refl}
+use Rattle.rows.proofs.Sets.{none-proper}
+use Rattle.policy.specs.Syntax.{Expr}
+use Rattle.policy.specs.Words.{exprWords}
+use Rattle.policy.specs.WellFormed.{Fit}
+use Rattle.policy.specs.Decode.{parse, parsed}
+use Rattle.policy.specs.Polarity.{Known, unknown, Verdict}
+use Rattle.policy.specs.Table.{Entry, entryWords}
+use Rattle.policy.specs.Judgement.{knownOf}
+use Rattle.policy.proofs.Decoding.{parse-words, parse-fits}
+use Rattle.policy.proofs.Judging.{AcceptedDefinition, Accepted, none, one, entry-words}
+use Rattle.meaning.specs.Evidence.{Evidence}
+use Rattle.meaning.specs.Reading.{Answer, done, refused, read}
+use Rattle.meaning.specs.World.{World}
+use Rattle.meaning.specs.Belonging.{Meanings, Belongs, meanings}
+use Rattle.meaning.proofs.Proper.{Tidy, ProperNames, TidySets, read-tidy}
+use Rattle.meaning.proofs.Faithful.{Shows, Agree, read-rows}
+use Rattle.meaning.proofs.Monotone.{Below, Along, along-same, Ways, monotone}
+use Rattle.demands.specs.Query.{Outcome, answered, declined, readFrom}
+
+-- a whole expression that was parsed from words keeps the rules, and its words are words
+pub record Sound (known : ℕ) (e : Expr) : Type 0 where
+  pub fit : Fit known 0 e
+  pub words : Words (exprWords e 0)
+
+pub parsed-sound : (known : ℕ) (ws : List ℕ) (e : Expr) → parse known ws ≡ parsed e → Words ws → Sound known e
+parsed-sound known ws e p w = record { fit = parse-fits known ws e p .fit; words = subst Words (parse-words known ws e p) w }
+
+-- no values are words
+pub no-values : Words []
+unfolding All
+no-values = tt
+
+-- one more at the end of a list
+length-snoc {ℓ} : {A : Type ℓ} (xs : List A) (x : A) → length (xs ++ (x ∷ [])) ≡ suc (length xs)
+length-snoc [] x = refl
+length-snoc (y ∷ xs) x = ap suc (length-snoc xs x)
+
+tidy-snoc : (sets : List RowSet) → TidySets sets → (s : RowSet) → Tidy s → TidySets (sets ++ (s ∷ []))
+tidy-snoc [] t s h zero = h
+tidy-snoc [] t s h (suc d) = t d
+tidy-snoc (y ∷ sets) t s h zero = t zero
+tidy-snoc (y ∷ sets) t s h (suc d) = tidy-snoc sets (λ c. t (suc c)) s h d
+
+agree-snoc : (sets : List RowSet) (D : Meanings) → length sets ≡ length D → Agree sets D → (s : RowSet) (P : Row → Type 0) → ((r : Row) → IsRow r → T (has s r) ↔ P r) →
+    Agree (sets ++ (s ∷ [])) (D ++ (P ∷ []))
+agree-snoc [] [] m g s P h zero r i = h r i
+agree-snoc [] [] m g s P h (suc d) r i = g d r i
+agree-snoc [] (x ∷ D) m g s P h d r i = absurd (omega arith)
+agree-snoc (y ∷ sets) [] m g s P h d r i = absurd (omega arith)
+agree-snoc (y ∷ sets) (x ∷ D) m g s P h zero r i = g zero r i
+agree-snoc (y ∷ sets) (x ∷ D) m g s P h (suc d) r i = agree-snoc sets D (omega arith) (λ c q j. g (suc c) q j) s P h d r i
+
+ways-snoc : (ks : List Known) (D E : Meanings) → length ks ≡ length D → length ks ≡ length E → Ways ks D E →
+    (k : Known) (P Q : Row → Type 0) → ((r : Row) → Along (k .declared) (P r) (Q r)) → Ways (ks ++ (k ∷ [])) (D ++ (P ∷ [])) (E ++ (Q ∷ []))
+ways-snoc [] [] [] m n w k P Q a zero r = a r
+ways-snoc [] [] [] m n w k P Q a (suc d) r = along-same plus ⊥
+ways-snoc [] [] (y ∷ E) m n w k P Q a d r = absurd (omega arith)
+ways-snoc [] (x ∷ D) E m n w k P Q a d r = absurd (omega arith)
+ways-snoc (l ∷ ks) [] E m n w k P Q a d r = absurd (omega arith)
+ways-snoc (l ∷ ks) (x ∷ D) [] m n w k P Q a d r = absurd (omega arith)
+ways-snoc (l ∷ ks) (x ∷ D) (y ∷ E) m n w k P Q a zero r = w zero r
+ways-snoc (l ∷ ks) (x ∷ D) (y ∷ E) m n w k P Q a (suc d) r = ways-snoc ks D E (omega arith) (omega arith) (λ c q. w (suc c) q) k P Q a d r
+
+-- from world to world, through the definitions
+pub ways : (W U : World) → Below W U → {policy : List ℕ} {xs : List Entry} {ks ls : List Known} {es : List Expr} → Accepted policy xs ks es ls →
+    (D E : Meanings) → length ks ≡ length D → length ks ≡ length E → Ways ks D E → Ways ls (meanings W es D) (meanings U es E)
+unfolding meanings
+ways W U b none D E m n w = w
+ways W U b (one {x = x} {ks = ks} {e = e} a rest) D E m n w =
+    ways W U b rest (D ++ (Belongs W D e [] ∷ [])) (E ++ (Belongs U E e [] ∷ []))
+    (length-snoc ks (knownOf x e ks) ∙ ap suc m ∙ sym (length-snoc D (Belongs W D e [])))
+    (length-snoc ks (knownOf x e ks) ∙ ap suc n ∙ sym (length-snoc E (Belongs U E e [])))
+    (ways-snoc ks D E m n w (knownOf x e ks) (Belongs W D e []) (Belongs U E e []) (λ r. monotone W U b ks D E w e (knownOf x e ks .declared) (a .has) [] r))
+
+-- an answered call read the query, last, from sets that have what the definitions mean
+pub record Reached (names : Evidence) (D : Meanings) (q : Expr) (S : RowSet) (j : ℕ) : Type 1 where
+  pub sets : List RowSet
+  pub draws : ℕ
+  pub last : read names sets q [] draws ≡ done S j
+  pub agree : Agree sets D
+  pub tidy : TidySets sets
+
+end-reached : (v w : Verdict) (j : ℕ) (S : RowSet) (a : Answer RowSet) →
+    (elim a as (λ c. Outcome) [ done s k ↦ answered v k s | refused n ↦ declined n 16 ]) ≡ answered w j S → a ≡ done S j
+end-reached v w j S (done s k) e = cc
+end-reached v w j S (refused n) e = let z : _≡_ {A = ℕ} 0 1 = cc in absurd (omega arith)
+
+module _ (names : Evidence) (W : World) (shows : Shows names W) (proper : ProperNames names) (policy : List ℕ) (words : Words policy) (q : Expr) (v : Verdict) where
+  pub reached : {xs : List Entry} {ks ls : List Known} {es : List Expr} → Accepted policy xs ks es ls → (sets : List RowSet) (D : Meanings) (k : ℕ) → length sets ≡ length D →
+      Agree sets D → TidySets sets → (w : Verdict) (j : ℕ) (S : RowSet) → readFrom names es q v sets k ≡ answered w j S → Reached names (meanings W es D) q S j
+  unfolding readFrom meanings
+  reached none sets D k m g t w j S h =
+      record { sets = sets; draws = k; last = end-reached v w j S (read names sets q [] k) h; agree = g; tidy = t }
+  reached (one {x = x} {ks = ks} {e = e} {es = es} a rest) sets D k m g t w j S h =
+      go (λ s i l g′ t′ f. reached rest (sets ++ (s ∷ [])) (D ++ (Belongs W D e [] ∷ [])) i l g′ t′ w j S f) (read names sets e [] k) refl
+    where
+      go : ((s : RowSet) (i : ℕ) → length (sets ++ (s ∷ [])) ≡ length (D ++ (Belongs W D e [] ∷ [])) → Agree (sets ++ (s ∷ [])) (D ++ (Belongs W D e [] ∷ [])) →
+          TidySets (sets ++ (s ∷ [])) → readFrom names es q v (sets ++ (s ∷ [])) i ≡ answered w j S → Reached names (meanings W es (D ++ (Belongs W D e [] ∷ []))) q S j) →
+          (b : Answer RowSet) → read names sets e [] k ≡ b → Reached names (meanings W es (D ++ (Belongs W D e [] ∷ []))) q S j
+      go ih (done s i) f =
+          let o = parsed-sound (length ks) (entryWords policy x) e (a .parses) (entry-words policy x words) in
+          ih s i (length-snoc sets s ∙ ap suc m ∙ sym (length-snoc D (Belongs W D e [])))
+          (agree-snoc sets D m g s (Belongs W D e []) (λ r z. read-rows names W shows proper sets D g t e (length ks) 0 (o .fit) (o .words) [] no-values k s i f r z))
+          (tidy-snoc sets t s (read-tidy names sets proper t e (length ks) 0 (o .fit) (o .words) [] no-values k s i f))
+          (rw (f, readFrom) at h)
+      go ih (refused n) f =
+          let g : declined n (length sets) ≡ answered w j S = rw (f, readFrom) at h in
+          let z : _≡_ {A = ℕ} 0 1 = cc in absurd (omega arith)
+
+-- before the first definition
+pub none-agree : Agree [] []
+unfolding has
+none-agree d r i = iff-refl
+
+pub none-tidy : TidySets []
+unfolding listing
+none-tidy d = record { proper = none-proper; few = omega arith }

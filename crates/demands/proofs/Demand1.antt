@@ -1,0 +1,75 @@
+-- Demand 1 holds.
+use Prim.Native.Nat.{ℕ, _<_, _≤_}
+use mathlib.Core.Path.{_≡_, refl, sym, _∙_, ap, subst}
+use mathlib.Core.Bool.{true, false}
+use mathlib.Core.List.{List}
+use native.Mathlib.Omega.{arith}
+use lib.Dec.{ltb}
+use lib.ListN.{length}
+use borrow.Author.Tests.{lt-ltb, le-ltb}
+use Rattle.rows.specs.Ordered.{_∈_, lists}
+use Rattle.rows.proofs.Case.{Case, isTrue, isFalse, split, never}
+use Rattle.certificates.specs.Certificate.{soundRecord, recordBefore}
+use Rattle.certificates.specs.Store.{capacity, countOf, records, soundStore}
+use Rattle.certificates.specs.Filing.{FilingReply, refused, replyGiven, fileReply, storeBy, storeAfter}
+use Rattle.certificates.proofs.Sound.{records-length, sound-store}
+use Rattle.certificates.proofs.Filings.{listed, not-listed, Replied, unsound, known, full, new, replied}
+use Rattle.demands.specs.Query.{Call, queryCall, declined, answerArea}
+use Rattle.demands.specs.Demand1.{Filing, eight, nine, isHeld, ten, isNew, Theorem}
+use Rattle.demands.proofs.Outcome.{call-declined}
+
+module _ (store w : List ℕ) where
+  given : soundStore store ≡ true → {r : FilingReply} → Replied (records store) w r → Filing store w r
+  given s (unsound a) = nine s a
+  given s (known a i) = isHeld s a i
+  given s (full a i n) =
+      let l = records-length store in
+      let m = sound-store store s .few in
+      ten s a i (omega arith)
+  given s (new a i n) = let l = records-length store in isNew s a i (omega arith)
+
+  why : Filing store w (fileReply store w)
+  unfolding fileReply
+  why = go (split (soundStore store))
+    where
+      go : Case (soundStore store) → Filing store w (fileReply store w)
+      go (isFalse s) = rw (s, fileReply) (eight s)
+      go (isTrue s) = rw (s, fileReply) (given s (replied (records store) w))
+
+  is-listed : w ∈ records store → lists recordBefore (records store) w ≡ true
+  is-listed i = go (split (lists recordBefore (records store) w))
+    where
+      go : Case (lists recordBefore (records store) w) → lists recordBefore (records store) w ≡ true
+      go (isTrue e) = e
+      go (isFalse e) = absurd (not-listed (records store) w e i)
+
+  is-new : (¬ (w ∈ records store)) → lists recordBefore (records store) w ≡ false
+  is-new n = go (split (lists recordBefore (records store) w))
+    where
+      go : Case (lists recordBefore (records store) w) → lists recordBefore (records store) w ≡ false
+      go (isTrue e) = absurd (n (listed (records store) w e))
+      go (isFalse e) = e
+
+  so : {r : FilingReply} → Filing store w r → fileReply store w ≡ r
+  unfolding fileReply replyGiven
+  so (eight s) = rw (s, fileReply)
+  so (nine s a) = rw (s, a, fileReply, replyGiven)
+  so (isHeld s a i) = rw (s, a, is-listed i, fileReply, replyGiven)
+  so (ten s a i n) = let l = records-length store in rw (s, a, is-new i, le-ltb (length (records store)) capacity (omega arith), fileReply, replyGiven)
+  so (isNew s a i n) = let l = records-length store in rw (s, a, is-new i, lt-ltb (length (records store)) capacity (omega arith), fileReply, replyGiven)
+
+store-stays : (store w : List ℕ) (n : ℕ) → fileReply store w ≡ refused n → storeAfter store w ≡ store
+unfolding storeAfter storeBy
+store-stays store w n e = ap (λ (r : FilingReply). storeBy r store w) e
+
+answer-stays : (store : List ℕ) (c : Call) (n part : ℕ) → queryCall store c ≡ declined n part → answerArea (queryCall store c) (c .answer) ≡ c .answer
+unfolding answerArea
+answer-stays store c n part e = ap (λ o. answerArea o (c .answer)) e
+
+pub demand-1 : Theorem
+demand-1 = record {
+  filing = λ store w r. (λ e. subst (Filing store w) e (why store w), λ f. so store w f);
+  storeStays = store-stays;
+  query = call-declined;
+  answerStays = answer-stays;
+}

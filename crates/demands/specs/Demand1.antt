@@ -1,0 +1,32 @@
+-- Demand 1: "Every call ends, and for every input the following hold: a malformed policy, query, store or certificate gets the refusal number that
+-- document 01 lists; a refused filing leaves the store unchanged; a refused query leaves the answer area unchanged."
+-- (That every call ends is what the checker shows of each function; these are the definitions that the contracts of the calls cite.)
+use Prim.Native.Nat.{ℕ, _<_}
+use mathlib.Core.Path.{_≡_}
+use mathlib.Core.Logic.{_↔_}
+use mathlib.Core.Bool.{true, false}
+use mathlib.Core.List.{List}
+use Rattle.refusals.specs.Table.{badStore, badCertificate, storeFull}
+use Rattle.rows.specs.Ordered.{_∈_}
+use Rattle.certificates.specs.Certificate.{soundRecord}
+use Rattle.certificates.specs.Store.{capacity, countOf, records, soundStore, certificates}
+use Rattle.certificates.specs.Filing.{FilingReply, filed, held, refused, fileReply, storeAfter}
+use Rattle.meaning.specs.Evidence.{namesHeld}
+use Rattle.demands.specs.Query.{declined, Call, queryCall, answerArea}
+use Rattle.demands.specs.Refusal.{Refusal}
+
+-- which reply applies to words filed: "Filing: 8, 9, Held, 10"
+pub data Filing (store w : List ℕ) : FilingReply → Type 0 where
+  eight : soundStore store ≡ false → Filing store w (refused badStore)
+  nine : soundStore store ≡ true → soundRecord w ≡ false → Filing store w (refused badCertificate)
+  isHeld : soundStore store ≡ true → soundRecord w ≡ true → w ∈ records store → Filing store w held
+  ten : soundStore store ≡ true → soundRecord w ≡ true → (¬ (w ∈ records store)) → countOf store ≡ capacity → Filing store w (refused storeFull)
+  isNew : soundStore store ≡ true → soundRecord w ≡ true → (¬ (w ∈ records store)) → countOf store < capacity → Filing store w filed
+
+pub record Theorem : Type 0 where
+  -- each reply to a filing is given exactly where it applies, and a refused filing leaves the store unchanged
+  pub filing : (store w : List ℕ) (r : FilingReply) → (fileReply store w ≡ r) ↔ Filing store w r
+  pub storeStays : (store w : List ℕ) (n : ℕ) → fileReply store w ≡ refused n → storeAfter store w ≡ store
+  -- each refusal of a query is met exactly where it applies, and a refused query leaves the answer area unchanged
+  pub query : (store : List ℕ) (c : Call) (n part : ℕ) → (queryCall store c ≡ declined n part) ↔ Refusal (soundStore store) (namesHeld (certificates store)) c n part
+  pub answerStays : (store : List ℕ) (c : Call) (n part : ℕ) → queryCall store c ≡ declined n part → answerArea (queryCall store c) (c .answer) ≡ c .answer

@@ -1,0 +1,52 @@
+-- Demand 2: "An answered query equals the QCM meaning of policy and query in the minimal model of the filed certificates, as rows, form, verdict and number
+-- of draws; refusals occur under the listed conditions and under no others." (The refusals: `query` of Demand 1.)
+use Prim.Native.Nat.{ℕ, _+_, _*_}
+use mathlib.Core.Path.{_≡_}
+use mathlib.Core.Logic.{_↔_}
+use mathlib.Core.Bool.{true}
+use mathlib.Core.List.{List, [], _++_}
+use lib.Dec.{T}
+use lib.ListN.{length, drop}
+use Rattle.rows.specs.Word.{Words}
+use Rattle.rows.specs.Row.{Row, IsRow}
+use Rattle.rows.specs.Sets.{RowSet, has, listing}
+use Rattle.rows.specs.Layout.{setWords, soundSet, setIn}
+use Rattle.certificates.specs.Store.{certificates}
+use Rattle.policy.specs.Syntax.{Expr}
+use Rattle.policy.specs.Polarity.{Verdict}
+use Rattle.policy.specs.Judgement.{checked, unchecked, check, verdict, judge}
+use Rattle.meaning.specs.Evidence.{Evidence, namesHeld}
+use Rattle.meaning.specs.World.{World, Minimal}
+use Rattle.meaning.specs.Belonging.{BelongsTo}
+use Rattle.demands.specs.Query.{answered, readFrom, Call, queryCall, answerArea}
+
+-- the policy and the query of a call are words
+pub record CallWords (c : Call) : Type 0 where
+  pub policy : Words (c .policy)
+  pub query : Words (c .query)
+
+-- the row belongs to the query under the policy, in this world
+unfoldable pub InQuery : Call → World → Row → Type 0
+unfolding check BelongsTo
+InQuery c W r = elim (check (c .policy) (c .query)) [ checked es q v ↦ BelongsTo W es q r | unchecked n part ↦ ⊥ ]
+
+-- the answer's layout: its words are a sound set, that of the answer, and past them the area is as it was
+pub record LaidOut (area now : List ℕ) (S : RowSet) : Type 0 where
+  pub words : now ≡ setWords S ++ drop (2 + 5 * length (listing S)) area
+  pub sound : soundSet now ≡ true
+  pub reads : setIn now ≡ S
+
+-- an answer: the verdict is the judgement's, the set (its form too) and the draws are those of reading from these names
+pub record Answer (names : Evidence) (c : Call) (v : Verdict) (k : ℕ) (S : RowSet) : Type 0 where
+  pub verdictIs : judge (c .policy) (c .query) ≡ verdict v
+  pub isRead : (es : List Expr) × (q : Expr) × (check (c .policy) (c .query) ≡ checked es q v) × (readFrom names es q v [] 0 ≡ answered v k S)
+  pub laidOut : LaidOut (c .answer) (answerArea (answered v k S) (c .answer)) S
+
+-- and its rows are those that belong to the query in the minimal model, which there is
+pub record Demand2 (store : List ℕ) (c : Call) (v : Verdict) (k : ℕ) (S : RowSet) : Type 1 where
+  pub answer : Answer (namesHeld (certificates store)) c v k S
+  pub rows : (W : World) → Minimal (certificates store) W → (r : Row) → IsRow r → T (has S r) ↔ InQuery c W r
+  pub model : (W : World) × Minimal (certificates store) W
+
+abbrev pub Theorem : Type 1
+Theorem = (store : List ℕ) → Words store → (c : Call) → CallWords c → (v : Verdict) (k : ℕ) (S : RowSet) → queryCall store c ≡ answered v k S → Demand2 store c v k S

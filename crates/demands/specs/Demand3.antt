@@ -1,0 +1,98 @@
+-- Demand 3, over a list of filings as a whole.
+--
+-- "For every list of filings from an empty store, refused ones included, and at whatever point of it: any query under any policy is answered
+-- exactly when no listed refusal applies, with document 01's verdict and layout. A row is in a lower answer exactly when it belongs to the query
+-- in every world where all certificates accepted so far are true. A row is missing from an upper answer exactly when it is missing in every such
+-- world. In each such world by itself, a row is in an exact answer exactly when it belongs to the query. Take two points of the list that both
+-- answer the same query under the same policy: every row of the earlier lower answer is in the later one, every row of the later upper answer is
+-- in the earlier one, and exact answers are equal in form and rows."
+use Prim.Native.Nat.{ℕ, _+_, _*_}
+use mathlib.Core.Path.{_≡_}
+use mathlib.Core.Logic.{_↔_}
+use mathlib.Core.Bool.{true}
+use mathlib.Core.List.{List, _∷_, _++_, map}
+use lib.Dec.{T}
+use lib.ListN.{length, drop}
+use Rattle.rows.specs.Word.{All, Words}
+use Rattle.rows.specs.Ordered.{_∈_}
+use Rattle.rows.specs.Row.{Row, IsRow}
+use Rattle.rows.specs.Sets.{RowSet, has}
+use Rattle.certificates.specs.Certificate.{Certificate, recordWords, certificateOf}
+use Rattle.certificates.specs.Store.{countOf, records, soundStore}
+use Rattle.certificates.specs.Filing.{replyGiven, fileReply, storeAt, accepted}
+use Rattle.policy.specs.Polarity.{Verdict, exact, lower, upper}
+use Rattle.meaning.specs.Evidence.{namesHeld}
+use Rattle.meaning.specs.World.{World, AllTrue}
+use Rattle.demands.specs.Query.{answered, declined, Call, queryCall}
+use Rattle.demands.specs.Refusal.{Refusal}
+use Rattle.demands.specs.Demand2.{CallWords, InQuery, Answer}
+
+-- "An empty store is a sound one with the count 0, whatever words follow."
+pub record EmptyStore (store : List ℕ) : Type 0 where
+  pub words : Words store
+  pub sound : soundStore store ≡ true
+  pub none : countOf store ≡ 0
+
+-- "A point lies before the first filing or after any of them."
+pub record Point (filings : List (List ℕ)) : Type 0 where
+  pub passed : List (List ℕ)
+  pub ahead : List (List ℕ)
+  pub whole : filings ≡ passed ++ ahead
+
+pub record Earlier {filings : List (List ℕ)} (p q : Point filings) : Type 0 where
+  pub between : List (List ℕ)
+  pub reached : q .passed ≡ p .passed ++ between
+
+-- what the certificates accepted by these filings say
+unfoldable pub heldAfter : List (List ℕ) → List Certificate
+unfolding accepted certificateOf
+heldAfter passed = map certificateOf (accepted passed)
+
+-- what the store holds at a point
+pub record Holds (first now : List ℕ) (passed : List (List ℕ)) : Type 0 where
+  pub sound : soundStore now ≡ true
+  pub just : (w : List ℕ) → (w ∈ records now) ↔ (w ∈ accepted passed)
+  pub count : countOf now ≡ length (accepted passed)
+  pub size : length now ≡ length first
+  pub untouched : drop (1 + recordWords * countOf now) now ≡ drop (1 + recordWords * countOf now) first
+
+-- what a verdict promises of the rows, where these certificates are held
+pub record Bounds (cs : List Certificate) (c : Call) (v : Verdict) (S : RowSet) : Type 1 where
+  pub lowerRows : v ≡ lower → (r : Row) → IsRow r → T (has S r) ↔ ((W : World) → AllTrue W cs → InQuery c W r)
+  pub upperRows : v ≡ upper → (r : Row) → IsRow r → (¬ T (has S r)) ↔ ((W : World) → AllTrue W cs → ¬ InQuery c W r)
+  pub exactRows : v ≡ exact → (W : World) → AllTrue W cs → (r : Row) → IsRow r → T (has S r) ↔ InQuery c W r
+
+-- two answers to one query under one policy, the second at a later point
+pub record Grows (v v′ : Verdict) (S S′ : RowSet) : Type 0 where
+  pub same : v ≡ v′
+  pub lowerGrows : v ≡ lower → (r : Row) → IsRow r → T (has S r) → T (has S′ r)
+  pub upperShrinks : v ≡ upper → (r : Row) → IsRow r → T (has S′ r) → T (has S r)
+  pub exactStays : v ≡ exact → S ≡ S′
+
+pub record Demand3 (store : List ℕ) (filings : List (List ℕ)) : Type 1 where
+  -- each filing is answered by what was accepted before it
+  pub replies : (p : Point filings) (w : List ℕ) (rest : List (List ℕ)) → p .ahead ≡ w ∷ rest →
+      fileReply (storeAt store (p .passed)) w ≡ replyGiven (accepted (p .passed)) w
+  -- the store is sound and holds just what was accepted
+  pub holds : (p : Point filings) → Holds store (storeAt store (p .passed)) (p .passed)
+  -- a call is refused with just the refusals that apply where the store is sound (8 never does) and says what was accepted
+  pub refuses : (p : Point filings) (c : Call) (n part : ℕ) →
+      (queryCall (storeAt store (p .passed)) c ≡ declined n part) ↔ Refusal true (namesHeld (heldAfter (p .passed))) c n part
+  -- and answered exactly when none does
+  pub answers : (p : Point filings) (c : Call) →
+      ((v : Verdict) × (k : ℕ) × (S : RowSet) × (queryCall (storeAt store (p .passed)) c ≡ answered v k S)) ↔
+      (¬ ((n : ℕ) × (part : ℕ) × Refusal true (namesHeld (heldAfter (p .passed))) c n part))
+  -- an answer has document 01's verdict and layout, with the set and the draws that reading gives,
+  pub answer : (p : Point filings) (c : Call) → CallWords c → (v : Verdict) (k : ℕ) (S : RowSet) →
+      queryCall (storeAt store (p .passed)) c ≡ answered v k S → Answer (namesHeld (heldAfter (p .passed))) c v k S
+  -- and the rows that its verdict promises;
+  pub bounds : (p : Point filings) (c : Call) → CallWords c → (v : Verdict) (k : ℕ) (S : RowSet) →
+      queryCall (storeAt store (p .passed)) c ≡ answered v k S → Bounds (heldAfter (p .passed)) c v S
+  -- over two points lower answers grow, upper answers shrink, exact answers stay; the areas lent may differ
+  pub later : (p q : Point filings) → Earlier p q → (c d : Call) → CallWords c → c .policy ≡ d .policy → c .query ≡ d .query →
+      (v v′ : Verdict) (k k′ : ℕ) (S S′ : RowSet) →
+      queryCall (storeAt store (p .passed)) c ≡ answered v k S → queryCall (storeAt store (q .passed)) d ≡ answered v′ k′ S′ → Grows v v′ S S′
+
+-- the theorem
+abbrev pub Theorem : Type 1
+Theorem = (store : List ℕ) → EmptyStore store → (filings : List (List ℕ)) → All Words filings → Demand3 store filings

@@ -1,0 +1,6 @@
+pub mod Query
+pub mod Refusal
+pub mod Demand1
+pub mod Demand2
+pub mod Demand3
+pub mod Cases

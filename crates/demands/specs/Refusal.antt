@@ -1,0 +1,24 @@
+-- Document 01, refusal table: which refusal applies to a query call, in the order "1, 2; each definition, then the query; 8; 11; then reading, first met".
+use Prim.Native.Nat.{ℕ}
+use mathlib.Core.Path.{_≡_}
+use mathlib.Core.Bool.{Bool, true, false}
+use mathlib.Core.List.{List, []}
+use Rattle.refusals.specs.Table.{badStore, shortArea, noPart}
+use Rattle.policy.specs.Syntax.{Expr}
+use Rattle.policy.specs.Polarity.{Verdict}
+use Rattle.policy.specs.Judgement.{checked, check, refused, judge}
+use Rattle.meaning.specs.Evidence.{Evidence}
+use Rattle.demands.specs.Query.{declined, readFrom, roomy, Call}
+
+-- the store being sound or not, and its names these, the refusal of this number and part applies to the call
+pub data Refusal (sound : Bool) (names : Evidence) (c : Call) : ℕ → ℕ → Type 0 where
+  -- 1 to 7
+  judged : {n part : ℕ} → judge (c .policy) (c .query) ≡ refused n part → Refusal sound names c n part
+  -- 8
+  unsound : {es : List Expr} {q : Expr} {v : Verdict} → check (c .policy) (c .query) ≡ checked es q v → sound ≡ false → Refusal sound names c badStore noPart
+  -- 11
+  short : {es : List Expr} {q : Expr} {v : Verdict} → check (c .policy) (c .query) ≡ checked es q v → sound ≡ true → roomy c ≡ false →
+      Refusal sound names c shortArea noPart
+  -- 12, 13 and 14, the first that is met while reading
+  reading : {es : List Expr} {q : Expr} {v : Verdict} {n part : ℕ} → check (c .policy) (c .query) ≡ checked es q v → sound ≡ true → roomy c ≡ true →
+      readFrom names es q v [] 0 ≡ declined n part → Refusal sound names c n part

@@ -1,0 +1,3 @@
+pub mod TableAnswers
+pub mod PartAnswers
+pub mod JudgeAnswers

@@ -1,0 +1,3 @@
+pub mod Reply
+pub mod Places
+pub mod Entries

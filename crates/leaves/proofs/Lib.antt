@@ -1,0 +1,10 @@
+pub mod Places
+pub mod Held
+pub mod Past
+pub mod Areas
+pub mod Match
+pub mod Written
+pub mod Rows
+pub mod Literals
+pub mod Named
+pub mod Combined

@@ -1,0 +1,155 @@
+-- The rows of a literal, put in from the first to the last; and the set of a definition, copied.
+use Prim.Native.Nat.{ℕ, _+_, _-_, _*_, _≤_, _<_}
+use mathlib.Core.Path.{_≡_, refl, sym, ap, subst, _∙_}
+use mathlib.Core.Logic.{_⊎_, inl, inr, _↔_}
+use mathlib.Core.Bool.{true}
+use mathlib.Core.List.{List, [], _∷_, map}
+use native.Mathlib.Omega.{arith}
+use lib.ListN.{length, take, drop, getD}
+use borrow.Author.Tests.{le-leb, lt-leb}
+use Rattle.rows.specs.Ordered.{_∈_, insert, join}
+use Rattle.rows.specs.Row.{Row, rowBefore}
+use Rattle.rows.specs.Sets.{RowSet, listing}
+use Rattle.rows.specs.Layout.{rowsIn, formed, setIn, soundSet, written}
+use Rattle.sets.specs.Values as held
+use Rattle.sets.specs.declared.row.Row as Held-row
+use Rattle.rows.proofs.Case.{_then_, iff-refl, iff-sym, both-or}
+use Rattle.rows.proofs.Order.{row-order}
+use Rattle.rows.proofs.Ordered.{Ascending, insert-∈, insert-ascending, join-ascending, ascending-unique}
+use Rattle.rows.proofs.LayoutLaws.{listing-in, rows-count, true-sound}
+use Rattle.sets.proofs.SetWords.{sound-ascending}
+use Rattle.policy.specs.Syntax.{Term}
+use Rattle.meaning.specs.Values.{Values, rowOf}
+use Rattle.meaning.specs.Reading.{done, refused, small, rowsOf}
+use Rattle.leaves.specs.Values.{valuesOf}
+use Rattle.leaves.specs.Places.{SomeRow, SomeRows, PastRow}
+use Rattle.leaves.specs.Areas.{Filled, Empty}
+use Rattle.leaves.specs.Leaves.{SayRow, SayRows, SayDefinition}
+use Rattle.leaves.proofs.Past.{RowsLeft, RowsNext, rows-inside, rows-next, rows-none}
+use Rattle.leaves.proofs.Areas.{sets-at, part-whole}
+use Rattle.leaves.proofs.Written.{filled-there, set-there, sound-listable}
+use Rattle.leaves.proofs.Rows.{Listed, insert-grows}
+use Rattle.leaves.specs.declared.values.Env.{Env}
+
+-- ---- a set that is small, and one that is not
+
+pub small-few : (s : RowSet) (k : ℕ) → length (listing s) ≤ 128 → small s k ≡ done s k
+unfolding small
+small-few s k h = rw (le-leb (length (listing s)) 128 h, small)
+
+pub small-many : (s : RowSet) (k : ℕ) → 128 < length (listing s) → small s k ≡ refused 13
+unfolding small
+small-many s k h = rw (lt-leb (length (listing s)) 128 h, small)
+
+-- ---- inserts commute, so the rows may go in from the first to the last
+
+insert-swap : (r s : Row) (xs : List Row) → Ascending rowBefore row-order xs → insert rowBefore r (insert rowBefore s xs) ≡ insert rowBefore s (insert rowBefore r xs)
+insert-swap r s xs a =
+    ascending-unique rowBefore row-order _ _
+    (insert-ascending rowBefore row-order r _ (insert-ascending rowBefore row-order s xs a)) (insert-ascending rowBefore row-order s _ (insert-ascending rowBefore row-order r xs a))
+    (λ t. two r s t then swap then iff-sym (two s r t))
+  where
+    two : (r s t : Row) → (t ∈ insert rowBefore r (insert rowBefore s xs)) ↔ ((t ≡ r) ⊎ ((t ≡ s) ⊎ (t ∈ xs)))
+    two r s t = insert-∈ rowBefore row-order r (insert rowBefore s xs) t then both-or iff-refl (insert-∈ rowBefore row-order s xs t)
+
+    swap : {A B C : Type 0} → (A ⊎ (B ⊎ C)) ↔ (B ⊎ (A ⊎ C))
+    swap = (
+      λ h. elim h [ inl a ↦ inr (inl a) | inr x ↦ elim x [ inl b ↦ inl b | inr c ↦ inr (inr c) ] ],
+      λ h. elim h [ inl b ↦ inr (inl b) | inr x ↦ elim x [ inl a ↦ inl a | inr c ↦ inr (inr c) ] ],
+    )
+
+join-first : (x : Row) (xs found : List Row) → Ascending rowBefore row-order found → join rowBefore (x ∷ xs) found ≡ join rowBefore xs (insert rowBefore x found)
+unfolding join
+join-first x [] found a = refl
+join-first x (y ∷ ys) found a = insert-swap x y (join rowBefore ys found) (join-ascending rowBefore row-order ys found a) ∙ ap (insert rowBefore y) (join-first x ys found a)
+
+rows-join : (vs : Values) (rs : List (List Term)) → rowsOf vs rs ≡ join rowBefore (map (rowOf vs) rs) []
+unfolding rowsOf join
+rows-join vs [] = refl
+rows-join vs (r ∷ rs) = ap (insert rowBefore (rowOf vs r)) (rows-join vs rs)
+
+-- ---- the loop: i rows are in, and whatever those left come to with them, all come to
+
+pub record Filling (ws : List ℕ) (at form : ℕ) (env : Env) (area : List ℕ) (next i : ℕ) : Type 0 where
+  pub within : i ≤ getD ws at 0
+  pub n : ℕ
+  pub rs : List (List Term)
+  pub left : RowsLeft ws next (getD ws at 0 - i) n rs
+  pub filled : Filled area
+  pub is : getD area 0 0 ≡ form
+  pub few : length (rowsIn area) ≤ i
+  pub means : (z : List Row) → ((n : ℕ) (rs : List (List Term)) → RowsLeft ws next (getD ws at 0 - i) n rs → join rowBefore (map (rowOf (valuesOf env)) rs) (rowsIn area) ≡ z) →
+      (n : ℕ) (rs : List (List Term)) → RowsLeft ws (at + 1) (getD ws at 0) n rs → join rowBefore (map (rowOf (valuesOf env)) rs) [] ≡ z
+
+pub literal-few : {ws : List ℕ} {at : ℕ} → SomeRows ws at → getD ws at 0 ≤ 128
+literal-few s = omega (arith, rows-inside (s .here) .many, s .here .fit .few)
+
+pub filling-start : {ws : List ℕ} {at form : ℕ} {env : Env} {area : List ℕ} → SomeRows ws at → Empty form area → Filling ws at form env area (at + 1) 0
+filling-start {ws} {at} {form} {env} {area} s m =
+    let w : getD ws at 0 ≡ getD ws at 0 - 0 = omega arith in
+    record {
+      within = omega arith;
+      n = s .n;
+      rs = s .rs;
+      left = subst (λ (k : ℕ). RowsLeft ws (at + 1) k (s .n) (s .rs)) w (rows-inside (s .here));
+      filled = m .filled;
+      is = m .is;
+      few = omega (arith, ap length (m .none));
+      means = λ z g n rs h. ap (join rowBefore (map (rowOf (valuesOf env)) rs)) (sym (m .none)) ∙ g n rs (subst (λ (k : ℕ). RowsLeft ws (at + 1) k n rs) w h);
+    }
+
+module _ {ws : List ℕ} {at form : ℕ} {env : Env} {area : List ℕ} {next i : ℕ} (iv : Filling ws at form env area next i) where
+  pub filling-row : i < getD ws at 0 → SomeRow ws next
+  filling-row h = record { n = iv .n; ts = _; here = rows-next (omega arith) (iv .left) .row }
+
+  pub filling-next : {r : Held-row.Row} {now : List ℕ} {after : ℕ} → i < getD ws at 0 → SayRow ws next env r → Listed area (held.rowOf r) now → PastRow ws next after → Filling ws at form env now after (i + 1)
+  unfolding join
+  filling-next {r} {now} {after} h s l q =
+      let e : getD ws at 0 - i - 1 ≡ getD ws at 0 - (i + 1) = omega arith in
+      let on : (n : ℕ) (rs : List (List Term)) (x : RowsNext ws next (getD ws at 0 - i) n rs) → RowsLeft ws after (getD ws at 0 - (i + 1)) n (x .others) =
+      λ n rs x. subst (λ (k : ℕ). RowsLeft ws after k n (x .others)) e (subst (λ (k : ℕ). RowsLeft ws k (getD ws at 0 - i - 1) n (x .others)) (sym (q .past n (x .r) (x .row))) (x .rest)) in
+      let w = rows-next (omega arith) (iv .left) in
+      let few = iv .few in
+      record {
+        within = omega arith;
+        n = iv .n;
+        rs = w .others;
+        left = on (iv .n) (iv .rs) w;
+        filled = l .filled;
+        is = l .form ∙ iv .is;
+        few = omega (arith, ap length (l .rows), insert-grows rowBefore (held.rowOf r) (rowsIn area));
+        means = λ z g. iv .means z (λ n rs t.
+            let x = rows-next (omega arith) t in
+            ap (λ (ys : List (List Term)). join rowBefore (map (rowOf (valuesOf env)) ys) (rowsIn area)) (x .is)
+            ∙ join-first (rowOf (valuesOf env) (x .r)) (map (rowOf (valuesOf env)) (x .others)) (rowsIn area) (sound-ascending area (iv .filled .sound))
+            ∙ ap (λ (y : Row). join rowBefore (map (rowOf (valuesOf env)) (x .others)) (insert rowBefore y (rowsIn area))) (sym (s .means n (x .r) (x .row)))
+            ∙ ap (join rowBefore (map (rowOf (valuesOf env)) (x .others))) (sym (l .rows)) ∙ g n (x .others) (on n rs x));
+      }
+
+  pub filling-end : getD ws at 0 ≤ i → SayRows ws at form env area
+  unfolding join setIn
+  filling-end all = record {
+    filled = iv .filled;
+    means = λ n rs s k.
+        let e : rowsOf (valuesOf env) rs ≡ rowsIn area = rows-join (valuesOf env) rs
+        ∙ iv .means (rowsIn area) (λ m ts l. ap (λ (ys : List (List Term)). join rowBefore (map (rowOf (valuesOf env)) ys) (rowsIn area)) (rows-none (getD ws at 0 - i) (omega arith) l)) n rs (rows-inside s) in
+        let c = true-sound area (iv .filled .sound) .count in
+        ap (λ (xs : List Row). small (formed form xs) k) e ∙ ap (λ (f : ℕ). small (formed f (rowsIn area)) k) (sym (iv .is))
+        ∙ small-few (setIn area) k (omega (arith, ap length (listing-in area), rows-count area));
+  }
+
+-- ---- the set of a definition
+
+-- the part of the definition area that is lent; w is the definition's number, widened
+module _ (defs : List ℕ) {d w : ℕ} (e : w ≡ d) (f : Filled (drop (642 * d) defs)) where
+  lent : take (length defs - 642 * w) (drop (642 * w) defs) ≡ drop (642 * d) defs
+  lent = part-whole (642 * w) defs ∙ ap (λ (k : ℕ). drop (642 * k) defs) e
+
+  pub definition-sound : soundSet (take (length defs - 642 * w) (drop (642 * w) defs)) ≡ true
+  definition-sound = ap soundSet lent ∙ f .sound
+
+  pub definition-copied : {known : ℕ} (to : List ℕ) {area : List ℕ} → d < known → 642 ≤ length to → area ≡ written (setIn (take (length defs - 642 * w) (drop (642 * w) defs))) to → SayDefinition known d defs area
+  definition-copied {known} to {area} h long c =
+      let s = sound-listable (drop (642 * d) defs) (f .sound) in
+      let written-there : area ≡ written (setIn (drop (642 * d) defs)) to = c ∙ ap (λ (ws : List ℕ). written (setIn ws) to) lent in
+      record { filled = subst Filled (sym written-there) (filled-there s to long); means = ap setIn written-there ∙ set-there s to long ∙ sym (sets-at known d defs h) }

@@ -1,0 +1,4 @@
+pub mod Places
+pub mod Areas
+pub mod Values
+pub mod Leaves

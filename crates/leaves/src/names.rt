@@ -1,0 +1,65 @@
+// Reading a name: the rows that are certified for it.
+ghost use mathlib.Core.Path.{_≡_};
+ghost use mathlib.Core.Bool.{true};
+ghost use Prim.Native.Nat.{_≤_};
+ghost use lib.ListN.{length, getD};
+ghost use Rattle.rows.specs.Layout.{setRoom, formed, written};
+ghost use Rattle.certificates.specs.Store.{soundStore};
+ghost use Rattle.leaves.specs.Places.{SomeName};
+ghost use Rattle.leaves.specs.Leaves.{Records, recordRows, SayName};
+use crate::values::Env;
+use crate::values::Read;
+use crate::values::term_at;
+use crate::values::value_of;
+use certificates::RECORD_WORDS;
+use certificates::ROW_IN_RECORD;
+use refusals::TOO_MANY_ROWS;
+use rows::FIRST_KEY;
+use rows::MOST_LISTED;
+use sets::row::load;
+use sets::row::store as store_row;
+use sets::set::clear;
+use store::certificates_in;
+
+// Has an empty set list the rows of these records, which are in order.
+fn copy_rows(records: &[u32], count: usize, area: &mut [u32])
+    requires { ⌜ Records (now records) count × (setRoom ≤ length (now area)) × (getD (now area) 0 0 ≤ 1) ⌝ }
+    ensures { λ _. ⌜ now (area .exit) ≡ written (formed (getD (now (area .entry)) 0 0) (recordRows (now (records .entry)) count)) (now (area .entry)) ⌝ }
+{
+    let mut i: usize = 0;
+    while i < count {
+        let row = load(records, RECORD_WORDS * i + ROW_IN_RECORD);
+        store_row(area, 2 + 5 * i, row);
+        i += 1;
+    }
+    area[1] = count as u32;
+}
+
+// The certified rows of a name: + lists those that it has, − those that it has not. A number issues nothing.
+pub fn read_name(
+    words: &[u32],
+    at: usize,
+    env: Env,
+    store: &[u32],
+    draws: u32,
+    area: &mut [u32],
+) -> Read
+    requires { ⌜ (env .count ≤ 16) × SomeName (now words) at × (soundStore (now store) ≡ true) × (setRoom ≤ length (now area)) ⌝ }
+    ensures { λ r. ⌜ SayName (now (store .entry)) (now (words .entry)) at env draws r (now (area .exit)) ⌝ }
+{
+    let issuer = term_at(words, at);
+    let key = value_of(env, issuer);
+    let name = words[at + 2];
+    let polarity = words[at + 3];
+    clear(area, polarity);
+    if key < FIRST_KEY {
+        return Read::Done(draws);
+    }
+    let records = certificates_in(store, key, name, polarity);
+    let count = records.len() / RECORD_WORDS;
+    if MOST_LISTED < count {
+        return Read::Refused(TOO_MANY_ROWS);
+    }
+    copy_rows(records, count, area);
+    Read::Done(draws)
+}

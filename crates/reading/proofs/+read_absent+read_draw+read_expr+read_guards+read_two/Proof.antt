@@ -1,0 +1,194 @@
+mod Cycle
+mod Absent
+mod Draw
+mod Expr
+mod Guards
+mod Two
+use borrow.Author.Needs.{needs}
+use Rattle.reading.proofs.read_absent.Reads as read-absent
+use Rattle.reading.proofs.+read_absent+read_draw+read_expr+read_guards+read_two.Lts-read_absent as read-absent-lts
+use Rattle.reading.proofs.read_draw.Reads as read-draw
+use Rattle.reading.proofs.+read_absent+read_draw+read_expr+read_guards+read_two.Lts-read_draw as read-draw-lts
+use Rattle.reading.proofs.read_expr.Reads as read-expr
+use Rattle.reading.proofs.+read_absent+read_draw+read_expr+read_guards+read_two.Lts-read_expr as read-expr-lts
+use Rattle.reading.proofs.read_guards.Reads as read-guards
+use Rattle.reading.proofs.+read_absent+read_draw+read_expr+read_guards+read_two.Lts-read_guards as read-guards-lts
+use Rattle.reading.proofs.read_two.Reads as read-two
+use Rattle.reading.proofs.+read_absent+read_draw+read_expr+read_guards+read_two.Lts-read_two as read-two-lts
+use Rattle.reading.proofs.+read_absent+read_draw+read_expr+read_guards+read_two.{statement}
+use Rattle.reading.proofs.+read_absent+read_draw+read_expr+read_guards+read_two.Tie.{close}
+use Rattle.reading.proofs.+read_absent+read_draw+read_expr+read_guards+read_two.Proof.Cycle.{μ-read-absent, μ-read-draw, μ-read-expr, μ-read-guards, μ-read-two, read-absent-at, read-draw-at, read-expr-at, read-guards-at, read-two-at, read-draw-Inv-loop, read-draw-μ-loop, read-absent-claims, read-draw-claims, read-expr-claims, read-guards-claims, read-two-claims}
+use Rattle.reading.proofs.+read_absent+read_draw+read_expr+read_guards+read_two.Proof.Absent as absent
+use Rattle.reading.proofs.+read_absent+read_draw+read_expr+read_guards+read_two.Proof.Draw as draw
+use Rattle.reading.proofs.+read_absent+read_draw+read_expr+read_guards+read_two.Proof.Expr as expr
+use Rattle.reading.proofs.+read_absent+read_draw+read_expr+read_guards+read_two.Proof.Guards as guards
+use Rattle.reading.proofs.+read_absent+read_draw+read_expr+read_guards+read_two.Proof.Two as two
+
+pub +read-absent+read-draw+read-expr+read-guards+read-two-spec : {M : Type 1} → statement M
++read-absent+read-draw+read-expr+read-guards+read-two-spec =
+    close
+    μ-read-absent
+    μ-read-draw
+    μ-read-expr
+    μ-read-guards
+    μ-read-two
+    (λ t. read-absent-lts.spec (read-absent-claims t)
+    (read-absent-at t)
+    read-absent.Post
+    (absent.skip-row-requires t)
+    (absent.mul-read-expr t)
+    (absent.sub-read-expr t)
+    (absent.part-read-expr-start t)
+    (absent.part-read-expr-end t)
+    (absent.read-expr-requires t)
+    (λ c. search needs)
+    (λ c. search needs)
+    (absent.mul-has-row t)
+    (absent.sub-has-row t)
+    (absent.part-has-row-start t)
+    (absent.part-has-row-end t)
+    (absent.has-row-requires t)
+    (λ c. search needs)
+    (absent.returns t)
+    (absent.skip-expr-requires t)
+    (absent.read-guards-requires t)
+    (λ c. search needs)
+    (absent.returns-2 t)
+    (λ c. search needs)
+    (absent.returns-3 t))
+    (λ t. read-draw-lts.spec (read-draw-claims t)
+    (read-draw-at t)
+    read-draw.Post
+    read-draw-Inv-loop
+    read-draw-μ-loop
+    (draw.mul-read-expr t)
+    (draw.sub-read-expr t)
+    (draw.part-read-expr-start t)
+    (draw.part-read-expr-end t)
+    (draw.read-expr-requires t)
+    (λ c. search needs)
+    (λ c. search needs)
+    (draw.skip-expr-requires t)
+    (draw.skip-pattern-requires t)
+    (draw.mul-form t)
+    (draw.slice-read-form t)
+    (λ c. search needs)
+    (draw.returns t)
+    (draw.add-count t)
+    (draw.mul-count t)
+    (draw.slice-read-count t)
+    (draw.loop-holds t)
+    (λ c. search needs)
+    (draw.returns-2 t)
+    (λ c. search needs)
+    (draw.add-load t)
+    (λ c κs. search needs)
+    (draw.mul-load t)
+    (draw.add-load-2 t)
+    (draw.load-requires t)
+    (draw.add-i t)
+    (draw.match-row-requires t)
+    (draw.add-read-guards t)
+    (draw.read-guards-requires t)
+    (λ c. search needs)
+    (draw.same-length-3 t)
+    (draw.returns-3 t)
+    (λ c. search needs)
+    (λ c. search needs)
+    (draw.loop-again t)
+    (λ c. search needs)
+    (draw.loop-again-2 t)
+    (λ c. search needs)
+    (draw.returns-4 t)
+    (λ c. search needs)
+    (draw.returns-5 t))
+    (λ t. read-expr-lts.spec (read-expr-claims t)
+    (read-expr-at t)
+    read-expr.Post
+    (expr.mul-code t)
+    (expr.shared-slice-read-code t)
+    (expr.add-body t)
+    (expr.read-rows-requires t)
+    (λ c. search needs)
+    (expr.returns t)
+    (expr.read-rows-requires-2 t)
+    (λ c. search needs)
+    (expr.returns-2 t)
+    (expr.mul-d t)
+    (expr.shared-slice-read-d t)
+    (expr.read-definition-requires t)
+    (λ c. search needs)
+    (expr.returns-3 t)
+    (expr.read-name-requires t)
+    (λ c. search needs)
+    (expr.returns-4 t)
+    (expr.read-two-requires t)
+    (λ c. search needs)
+    (expr.returns-5 t)
+    (expr.read-two-requires-2 t)
+    (λ c. search needs)
+    (expr.returns-6 t)
+    (expr.mul-count t)
+    (expr.shared-slice-read-count t)
+    (expr.clear-requires t)
+    (expr.add-read-guards t)
+    (expr.read-guards-requires t)
+    (λ c. search needs)
+    (expr.returns-7 t))
+    (λ t. read-guards-lts.spec (read-guards-claims t)
+    (read-guards-at t)
+    read-guards.Post
+    (guards.insert-head-requires t)
+    (λ c. search needs)
+    (guards.returns t)
+    (guards.guard-at-requires t)
+    (λ c. search needs)
+    (guards.add-read-draw t)
+    (λ c. search needs)
+    (guards.read-draw-requires t)
+    (λ c. search needs)
+    (guards.value-of-requires t)
+    (guards.value-of-requires-2 t)
+    (guards.add-read-guards t)
+    (λ c. search needs)
+    (guards.read-guards-requires t)
+    (λ c. search needs)
+    (guards.returns-2 t)
+    (λ c. search needs)
+    (guards.value-of-requires-3 t)
+    (guards.value-of-requires-4 t)
+    (guards.add-read-guards-2 t)
+    (λ c. search needs)
+    (guards.read-guards-requires-2 t)
+    (λ c. search needs)
+    (guards.returns-3 t)
+    (λ c. search needs)
+    (guards.add-read-absent t)
+    (λ c. search needs)
+    (guards.read-absent-requires t)
+    (λ c. search needs)
+    (guards.returns-4 t)
+    (guards.returns-5 t)
+    (guards.returns-6 t)
+    (λ c. search needs)
+    (guards.returns-7 t))
+    λ t. read-two-lts.spec (read-two-claims t)
+    (read-two-at t)
+    read-two.Post
+    (two.read-expr-requires t)
+    (λ c. search needs)
+    (λ c. search needs)
+    (two.skip-expr-requires t)
+    (two.sub-read-expr t)
+    (two.part-read-expr-start t)
+    (two.part-read-expr-end t)
+    (two.read-expr-requires-2 t)
+    (λ c. search needs)
+    (λ c. search needs)
+    (two.combine-requires t)
+    (λ c. search needs)
+    (two.returns t)
+    (λ c. search needs)
+    (two.returns-2 t)
+    (λ c. search needs)
+    (two.returns-3 t)

@@ -1,0 +1,114 @@
+-- The measure, the invariant of a draw, and what each reader knows of those that it calls.
+use Prim.Native.Nat.{ℕ, _+_, _*_, _-_, _<_}
+use lib.ListN.{length}
+use Rattle.reading.proofs.Draws.{Drawing}
+use borrow.Fn.Kinds.{In}
+use borrow.Fn.PlainCycle.{Measures, is, falls, and}
+use Rattle.reading.proofs.read_absent.Reads as read-absent
+use Rattle.reading.proofs.read_absent.Kinds as read-absent-kinds
+use Rattle.reading.proofs.+read_absent+read_draw+read_expr+read_guards+read_two.Lts-read_absent as read-absent-lts
+use Rattle.reading.proofs.read_draw.Reads as read-draw
+use Rattle.reading.proofs.read_draw.Kinds as read-draw-kinds
+use Rattle.reading.proofs.+read_absent+read_draw+read_expr+read_guards+read_two.Lts-read_draw as read-draw-lts
+use Rattle.reading.proofs.read_expr.Reads as read-expr
+use Rattle.reading.proofs.read_expr.Kinds as read-expr-kinds
+use Rattle.reading.proofs.+read_absent+read_draw+read_expr+read_guards+read_two.Lts-read_expr as read-expr-lts
+use Rattle.reading.proofs.read_guards.Reads as read-guards
+use Rattle.reading.proofs.read_guards.Kinds as read-guards-kinds
+use Rattle.reading.proofs.+read_absent+read_draw+read_expr+read_guards+read_two.Lts-read_guards as read-guards-lts
+use Rattle.reading.proofs.read_two.Reads as read-two
+use Rattle.reading.proofs.read_two.Kinds as read-two-kinds
+use Rattle.reading.proofs.+read_absent+read_draw+read_expr+read_guards+read_two.Lts-read_two as read-two-lts
+use Rattle.leaves.proofs.combine.Reads as combine-reads
+use Rattle.leaves.proofs.has_row.Reads as has-row-reads
+use Rattle.leaves.proofs.insert_head.Reads as insert-head-reads
+use Rattle.leaves.proofs.match_row.Reads as match-row-reads
+use Rattle.leaves.proofs.read_definition.Reads as read-definition-reads
+use Rattle.leaves.proofs.read_rows.Reads as read-rows-reads
+use Rattle.leaves.proofs.names.read_name.Reads as read-name-reads
+use Rattle.leaves.proofs.skip.skip_expr.Reads as skip-expr-reads
+use Rattle.leaves.proofs.skip.skip_pattern.Reads as skip-pattern-reads
+use Rattle.leaves.proofs.skip.skip_row.Reads as skip-row-reads
+use Rattle.leaves.proofs.values.guard_at.Reads as guard-at-reads
+use Rattle.leaves.proofs.values.value_of.Reads as value-of-reads
+use Rattle.sets.proofs.row.load.Reads as load-reads
+use Rattle.sets.proofs.row.wide.Reads as wide-reads
+use Rattle.sets.proofs.set.clear.Reads as clear-reads
+
+abbrev pub μ-read-absent : Measures 4 read-absent-kinds.ps ℕ
+μ-read-absent κs a = 2 * (length (a .0 .now) - a .1 .0) + 1
+
+abbrev pub μ-read-draw : Measures 4 read-draw-kinds.ps ℕ
+μ-read-draw κs a = 2 * (length (a .0 .now) - a .1 .0) + 1
+
+abbrev pub μ-read-expr : Measures 4 read-expr-kinds.ps ℕ
+μ-read-expr κs a = 2 * (length (a .0 .now) - a .1 .0)
+
+abbrev pub μ-read-guards : Measures 4 read-guards-kinds.ps ℕ
+μ-read-guards κs a = 2 * (length (a .0 .now) - a .1 .0)
+
+abbrev pub μ-read-two : Measures 4 read-two-kinds.ps ℕ
+μ-read-two κs a = 2 * (length (a .0 .now) - a .1 .0) + 1
+
+abbrev pub read-absent-at : ℕ → In 4 read-absent-kinds.ps
+read-absent-at t =
+    and 4 read-absent-kinds.ps (is 4 read-absent-kinds.ps μ-read-absent t) read-absent.Pre
+
+abbrev pub read-absent-below : ℕ → In 4 read-absent-kinds.ps
+read-absent-below t =
+    and 4 read-absent-kinds.ps (falls 4 read-absent-kinds.ps _<_ μ-read-absent t) read-absent.Pre
+
+abbrev pub read-draw-at : ℕ → In 4 read-draw-kinds.ps
+read-draw-at t = and 4 read-draw-kinds.ps (is 4 read-draw-kinds.ps μ-read-draw t) read-draw.Pre
+
+abbrev pub read-draw-below : ℕ → In 4 read-draw-kinds.ps
+read-draw-below t =
+    and 4 read-draw-kinds.ps (falls 4 read-draw-kinds.ps _<_ μ-read-draw t) read-draw.Pre
+
+abbrev pub read-expr-at : ℕ → In 4 read-expr-kinds.ps
+read-expr-at t = and 4 read-expr-kinds.ps (is 4 read-expr-kinds.ps μ-read-expr t) read-expr.Pre
+
+abbrev pub read-expr-below : ℕ → In 4 read-expr-kinds.ps
+read-expr-below t =
+    and 4 read-expr-kinds.ps (falls 4 read-expr-kinds.ps _<_ μ-read-expr t) read-expr.Pre
+
+abbrev pub read-guards-at : ℕ → In 4 read-guards-kinds.ps
+read-guards-at t =
+    and 4 read-guards-kinds.ps (is 4 read-guards-kinds.ps μ-read-guards t) read-guards.Pre
+
+abbrev pub read-guards-below : ℕ → In 4 read-guards-kinds.ps
+read-guards-below t =
+    and 4 read-guards-kinds.ps (falls 4 read-guards-kinds.ps _<_ μ-read-guards t) read-guards.Pre
+
+abbrev pub read-two-at : ℕ → In 4 read-two-kinds.ps
+read-two-at t = and 4 read-two-kinds.ps (is 4 read-two-kinds.ps μ-read-two t) read-two.Pre
+
+abbrev pub read-two-below : ℕ → In 4 read-two-kinds.ps
+read-two-below t =
+    and 4 read-two-kinds.ps (falls 4 read-two-kinds.ps _<_ μ-read-two t) read-two.Pre
+
+abbrev pub read-draw-Inv-loop : read-draw-lts.InvT-loop
+read-draw-Inv-loop words at left env store defs known draws area₀ free before pattern rest form count used₀ i₀ area used i = Drawing (record { store = store; defs = defs; known = known }) words at left env free area₀ before area used i
+
+abbrev pub read-draw-μ-loop : read-draw-lts.MeasureT-loop
+read-draw-μ-loop words at left env store defs known draws area₀ free before pattern rest form count used₀ i₀ area used i = count - i
+
+-- what `read_absent` knows of the functions that it calls
+abbrev pub read-absent-claims : ℕ → read-absent-lts.Claims
+read-absent-claims t = (skip-row-reads.Asked, skip-row-reads.Learnt, read-expr-below t, read-expr.Post, has-row-reads.Asked, has-row-reads.Learnt, skip-expr-reads.Asked, skip-expr-reads.Learnt, read-guards-below t, read-guards.Post)
+
+-- what `read_draw` knows of the functions that it calls
+abbrev pub read-draw-claims : ℕ → read-draw-lts.Claims
+read-draw-claims t = (read-expr-below t, read-expr.Post, skip-expr-reads.Asked, skip-expr-reads.Learnt, skip-pattern-reads.Asked, skip-pattern-reads.Learnt, wide-reads.Asked, wide-reads.Learnt, load-reads.Asked, load-reads.Learnt, match-row-reads.Asked, match-row-reads.Learnt, read-guards-below t, read-guards.Post)
+
+-- what `read_expr` knows of the functions that it calls
+abbrev pub read-expr-claims : ℕ → read-expr-lts.Claims
+read-expr-claims t = (read-rows-reads.Asked, read-rows-reads.Learnt, read-definition-reads.Asked, read-definition-reads.Learnt, read-name-reads.Asked, read-name-reads.Learnt, read-two-below t, read-two.Post, clear-reads.Asked, clear-reads.Learnt, read-guards-below t, read-guards.Post)
+
+-- what `read_guards` knows of the functions that it calls
+abbrev pub read-guards-claims : ℕ → read-guards-lts.Claims
+read-guards-claims t = (insert-head-reads.Asked, insert-head-reads.Learnt, guard-at-reads.Asked, guard-at-reads.Learnt, read-draw-below t, read-draw.Post, value-of-reads.Asked, value-of-reads.Learnt, read-guards-below t, read-guards.Post, read-absent-below t, read-absent.Post)
+
+-- what `read_two` knows of the functions that it calls
+abbrev pub read-two-claims : ℕ → read-two-lts.Claims
+read-two-claims t = (read-expr-below t, read-expr.Post, skip-expr-reads.Asked, skip-expr-reads.Learnt, combine-reads.Asked, combine-reads.Learnt)

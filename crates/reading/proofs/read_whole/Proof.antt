@@ -1,0 +1,14 @@
+-- What was checked fits, and the area has room for it.
+use borrow.Author.Needs.{needs}
+use Rattle.reading.proofs.Whole.{ask-whole, say-whole}
+use Rattle.reading.proofs.read_whole.Statement.{statement}
+use Rattle.reading.proofs.read_whole.Tie as tie
+
+read-expr-requires : tie.Need-read-expr-requires
+read-expr-requires c κs = ask-whole (c .before .before .before .before .before .pre)
+
+returns : tie.Need-returns
+returns c = say-whole (c .before .before .read-expr .ensures)
+
+pub read-whole-spec : {M : Type 1} → statement M
+read-whole-spec = tie.close (tie.spec read-expr-requires (λ c. search needs) returns)

@@ -1,0 +1,4 @@
+pub mod RowLaws
+pub mod SetWords
+pub mod Laid
+pub mod Inserting

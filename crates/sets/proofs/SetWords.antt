@@ -1,0 +1,119 @@
+-- A set in words, as the code reads it: the rows where they stand.
+use Prim.Native.Nat.{ℕ, zero, suc, _+_, _*_, _≤_, _<_}
+use mathlib.Core.Path.{_≡_, sym, _∙_, ap, subst}
+use mathlib.Core.Bool.{true, false, not}
+use mathlib.Core.List.{List, []}
+use native.Mathlib.Omega.{arith}
+use lib.Dec.{eqb, eqb·suc-zero}
+use lib.ListN.{length, getD, drop}
+use Rattle.rows.specs.Ordered.{lists}
+use Rattle.rows.specs.Sets.{has}
+use Rattle.rows.specs.Row.{Row, rowBefore}
+use Rattle.rows.specs.Layout.{rowIn, fiveAt, soundRow, pieces, every, rowsIn, formed, setIn, soundSet}
+use Rattle.sets.specs.Values.{wordsOf, rowOf, orderOf}
+use Rattle.sets.specs.Private.{Finds}
+use Rattle.sets.specs.declared.row.Row as Held
+use Rattle.sets.specs.declared.row.Order as Order
+use Rattle.sets.specs.declared.row.Order.the-variants.{Before, Same, After}
+use Rattle.sets.specs.declared.set.Found as Found
+use Rattle.sets.specs.declared.set.Found.the-variants.{At, Missing}
+use Rattle.rows.proofs.Order.{row-order}
+use Rattle.rows.proofs.Ordered.{Ascending, ascending-true}
+use Rattle.rows.proofs.Place.{Between, gap-insert, gap-lists, found-lists}
+use Rattle.rows.proofs.LayoutLaws.{sound-width, piece-sound, row-at, rows-count, true-sound}
+use Rattle.sets.proofs.RowLaws.{five-width, loaded-row, before-order, after-order, same-order}
+
+pub width-at : (n : ℕ) (ws : List ℕ) (i : ℕ) → every soundRow (pieces 5 n (drop 2 ws)) ≡ true → i < n → getD ws (2 + 5 * i) 0 ≤ 4
+width-at n ws i e h = let s = sound-width (fiveAt ws (2 + 5 * i)) (piece-sound n ws i e h) .few in omega (arith, five-width ws (2 + 5 * i))
+
+-- row `i`, loaded, was compared with row `j`
+module _ (ws : List ℕ) (i j : ℕ) (h : i < getD ws 1 0) (k : j < getD ws 1 0) (r : Held.Row) (o : Order.Order)
+    (loaded : wordsOf r ≡ fiveAt ws (2 + 5 * i)) (compared : o ≡ orderOf (rowOf r) (rowIn (fiveAt ws (2 + 5 * j)))) where
+  rows-order : orderOf (getD (rowsIn ws) i []) (getD (rowsIn ws) j []) ≡ o
+  rows-order =
+      let e : getD (rowsIn ws) i [] ≡ rowOf r = row-at ws i h ∙ sym (loaded-row r ws (2 + 5 * i) loaded) in
+      let f : getD (rowsIn ws) j [] ≡ rowIn (fiveAt ws (2 + 5 * j)) = row-at ws j k in
+      cc
+
+  pub rows-before : o ≡ Before → rowBefore (getD (rowsIn ws) i []) (getD (rowsIn ws) j []) ≡ true
+  rows-before e = before-order _ _ (rows-order ∙ e)
+
+  pub rows-same : o ≡ Same → getD (rowsIn ws) i [] ≡ getD (rowsIn ws) j []
+  rows-same e = same-order _ _ (rows-order ∙ e)
+
+  pub rows-after : o ≡ After → rowBefore (getD (rowsIn ws) j []) (getD (rowsIn ws) i []) ≡ true
+  rows-after e = after-order _ _ (rows-order ∙ e)
+
+-- a row in hand was compared with row `m`
+module _ (ws : List ℕ) (m : ℕ) (h : m < getD ws 1 0) (r : Held.Row) (o : Order.Order) (compared : o ≡ orderOf (rowOf r) (rowIn (fiveAt ws (2 + 5 * m)))) where
+  row-order-at : orderOf (rowOf r) (getD (rowsIn ws) m []) ≡ o
+  row-order-at = ap (orderOf (rowOf r)) (row-at ws m h) ∙ sym compared
+
+  pub row-before : o ≡ Before → rowBefore (rowOf r) (getD (rowsIn ws) m []) ≡ true
+  row-before e = before-order _ _ (row-order-at ∙ e)
+
+  pub row-same : o ≡ Same → getD (rowsIn ws) m [] ≡ rowOf r
+  row-same e = sym (same-order _ _ (row-order-at ∙ e))
+
+  pub row-after : o ≡ After → rowBefore (getD (rowsIn ws) m []) (rowOf r) ≡ true
+  row-after e = after-order _ _ (row-order-at ∙ e)
+
+-- a sound set's rows ascend
+pub sound-ascending : (ws : List ℕ) → soundSet ws ≡ true → Ascending rowBefore row-order (rowsIn ws)
+sound-ascending ws e = ascending-true rowBefore row-order (rowsIn ws) (true-sound ws e .order)
+
+-- what the search answers
+pub finds-at : (xs : List Row) (r : Row) (i : ℕ) → i < length xs → getD xs i [] ≡ r → Finds xs r (At i)
+unfolding Finds
+finds-at xs r i h e = (found-lists rowBefore row-order [] xs r i h e, h, e)
+
+pub finds-missing : (xs : List Row) (r : Row) (low high : ℕ) → Between rowBefore row-order [] xs r low high → high ≤ low → Finds xs r (Missing low)
+unfolding Finds
+finds-missing xs r low high b h =
+    let o = b .order in
+    let g : Between rowBefore row-order [] xs r low low = let e : high ≡ low = omega arith in subst (Between rowBefore row-order [] xs r low) e b in
+    (gap-lists rowBefore row-order [] xs r low g, g .end, gap-insert rowBefore row-order [] xs r low g)
+
+-- the numbers of a sound set
+pub record Size (ws : List ℕ) : Type 0 where
+  pub header : 2 ≤ length ws
+  pub form : getD ws 0 0 ≤ 1
+  pub count : getD ws 1 0 ≡ length (rowsIn ws)
+  pub few : length (rowsIn ws) ≤ 128
+  pub whole : 2 + 5 * length (rowsIn ws) ≤ length ws
+
+pub size : (ws : List ℕ) → soundSet ws ≡ true → Size ws
+size ws e =
+    let s = true-sound ws e in
+    let c = rows-count ws in
+    record { header = s .header; form = s .form; count = sym c; few = omega (arith, s .count); whole = omega (arith, s .whole) }
+
+pub width-in : (ws : List ℕ) (i : ℕ) → soundSet ws ≡ true → i < length (rowsIn ws) → getD ws (2 + 5 * i) 0 ≤ 4
+width-in ws i e h = width-at (getD ws 1 0) ws i (true-sound ws e .pieces) (omega (arith, rows-count ws))
+
+pub at-listed : (xs : List Row) (r : Row) (f : Found.Found) (i : ℕ) → f ≡ At i → Finds xs r f → lists rowBefore xs r ≡ true
+unfolding Finds
+at-listed xs r f i e s = (subst (Finds xs r) e s) .0
+
+pub missing-unlisted : (xs : List Row) (r : Row) (f : Found.Found) (i : ℕ) → f ≡ Missing i → Finds xs r f → lists rowBefore xs r ≡ false
+unfolding Finds
+missing-unlisted xs r f i e s = (subst (Finds xs r) e s) .0
+
+-- what the form makes of it
+formed-listed : (n : ℕ) (xs : List Row) (r : Row) → lists rowBefore xs r ≡ true → eqb n 0 ≡ has (formed n xs) r
+unfolding formed has
+formed-listed zero xs r e = sym e
+formed-listed (suc n) xs r e = eqb·suc-zero n ∙ sym (ap not e)
+
+formed-unlisted : (n : ℕ) (xs : List Row) (r : Row) → lists rowBefore xs r ≡ false → not (eqb n 0) ≡ has (formed n xs) r
+unfolding formed has
+formed-unlisted zero xs r e = sym e
+formed-unlisted (suc n) xs r e = ap not (eqb·suc-zero n) ∙ sym (ap not e)
+
+pub has-listed : (ws : List ℕ) (r : Row) → lists rowBefore (rowsIn ws) r ≡ true → eqb (getD ws 0 0) 0 ≡ has (setIn ws) r
+unfolding setIn
+has-listed ws r e = formed-listed (getD ws 0 0) (rowsIn ws) r e
+
+pub has-unlisted : (ws : List ℕ) (r : Row) → lists rowBefore (rowsIn ws) r ≡ false → not (eqb (getD ws 0 0) 0) ≡ has (setIn ws) r
+unfolding setIn
+has-unlisted ws r e = formed-unlisted (getD ws 0 0) (rowsIn ws) r e
