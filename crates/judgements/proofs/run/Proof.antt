@@ -17,8 +17,8 @@ loop-holds c = search needs
 line-requires : tie.Need-line-requires Inv-loop μ-loop
 line-requires c κs = search needs
 
-past-line-requires : tie.Need-past-line-requires Inv-loop μ-loop
-past-line-requires c κs = search needs
+next-line-requires : tie.Need-next-line-requires Inv-loop μ-loop
+next-line-requires c κs = search needs
 
 loop-less : tie.Need-loop-less Inv-loop μ-loop
 loop-less c = search needs
@@ -37,7 +37,7 @@ run-spec =
     μ-loop
     loop-holds
     line-requires
-    past-line-requires
+    next-line-requires
     loop-less
     loop-again
     returns)

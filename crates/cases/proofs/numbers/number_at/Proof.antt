@@ -2,8 +2,8 @@
 use borrow.Author.Needs.{needs}
 use Prim.Native.Nat.{_≤_, _<_, _-_}
 use lib.ListN.{length}
-use Rattle.judgements.proofs.number_at.Statement.{statement}
-use Rattle.judgements.proofs.number_at.Tie as tie
+use Rattle.cases.proofs.numbers.number_at.Statement.{statement}
+use Rattle.cases.proofs.numbers.number_at.Tie as tie
 
 abbrev Inv-loop : tie.InvT-loop
 Inv-loop text at value₀ next₀ value next = (at < next) × (next ≤ length text)

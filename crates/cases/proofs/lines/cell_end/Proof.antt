@@ -2,8 +2,8 @@
 use borrow.Author.Needs.{needs}
 use Prim.Native.Nat.{_≤_, _-_}
 use lib.ListN.{length}
-use Rattle.judgements.proofs.past_name.Statement.{statement}
-use Rattle.judgements.proofs.past_name.Tie as tie
+use Rattle.cases.proofs.lines.cell_end.Statement.{statement}
+use Rattle.cases.proofs.lines.cell_end.Tie as tie
 
 abbrev Inv-loop : tie.InvT-loop
 Inv-loop text at next₀ next = (at ≤ next) × (next ≤ length text)
@@ -14,14 +14,14 @@ abbrev μ-loop : tie.MeasureT-loop
 loop-holds : tie.Need-loop-holds Inv-loop μ-loop
 loop-holds c = search needs
 
-shared-slice-read-byte : tie.Need-shared-slice-read-byte Inv-loop μ-loop
-shared-slice-read-byte c = search needs
+shared-slice-read-ends-cell : tie.Need-shared-slice-read-ends-cell Inv-loop μ-loop
+shared-slice-read-ends-cell c = search needs
+
+ends-cell-requires : tie.Need-ends-cell-requires Inv-loop μ-loop
+ends-cell-requires c κs = search needs
 
 returns : tie.Need-returns Inv-loop μ-loop
 returns c = search needs
-
-returns-2 : tie.Need-returns-2 Inv-loop μ-loop
-returns-2 c = search needs
 
 add-next : tie.Need-add-next Inv-loop μ-loop
 add-next c = search needs
@@ -32,20 +32,20 @@ loop-less c = search needs
 loop-again : tie.Need-loop-again Inv-loop μ-loop
 loop-again c = search needs
 
-returns-3 : tie.Need-returns-3 Inv-loop μ-loop
-returns-3 c = search needs
+returns-2 : tie.Need-returns-2 Inv-loop μ-loop
+returns-2 c = search needs
 
-pub past-name-spec : {M : Type 1} → statement M
-past-name-spec =
+pub cell-end-spec : {M : Type 1} → statement M
+cell-end-spec =
     tie.close
     (tie.spec
     Inv-loop
     μ-loop
     loop-holds
-    shared-slice-read-byte
+    shared-slice-read-ends-cell
+    ends-cell-requires
     returns
-    returns-2
     add-next
     loop-less
     loop-again
-    returns-3)
+    returns-2)

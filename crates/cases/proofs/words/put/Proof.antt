@@ -3,11 +3,11 @@ use borrow.Author.Needs.{needs}
 use Prim.Native.Nat.{_≤_}
 use mathlib.Core.Path.{_≡_}
 use lib.ListN.{length}
-use Rattle.judgements.proofs.put.Statement.{statement}
-use Rattle.judgements.proofs.put.Tie as tie
+use Rattle.cases.proofs.words.put.Statement.{statement}
+use Rattle.cases.proofs.words.put.Tie as tie
 
 abbrev Inv-loop : tie.InvT-loop
-Inv-loop words₀ from word times left₀ next₀ words left next = (length words ≡ length words₀) × (next ≤ length words₀)
+Inv-loop words₀ from word times left₀ next₀ words left next = (length words ≡ length words₀) × (from ≤ next) × (next ≤ length words₀)
 
 abbrev μ-loop : tie.MeasureT-loop
 μ-loop words₀ from word times left₀ next₀ words left next = left

@@ -2,8 +2,8 @@
 use borrow.Author.Needs.{needs}
 use Prim.Native.Nat.{_≤_, _<_, _-_}
 use lib.ListN.{length}
-use Rattle.judgements.proofs.past_line.Statement.{statement}
-use Rattle.judgements.proofs.past_line.Tie as tie
+use Rattle.cases.proofs.lines.next_line.Statement.{statement}
+use Rattle.cases.proofs.lines.next_line.Tie as tie
 
 abbrev Inv-loop : tie.InvT-loop
 Inv-loop text at next₀ next = (at < next) × (next ≤ length text)
@@ -38,8 +38,8 @@ loop-again c = search needs
 returns-2 : tie.Need-returns-2 Inv-loop μ-loop
 returns-2 c = search needs
 
-pub past-line-spec : {M : Type 1} → statement M
-past-line-spec =
+pub next-line-spec : {M : Type 1} → statement M
+next-line-spec =
     tie.close
     (tie.spec
     Inv-loop
