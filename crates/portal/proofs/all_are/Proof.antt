@@ -1,7 +1,7 @@
 -- The measure is the count of words left to look at.
+use borrow.Author.Needs.{needs}
 use Prim.Native.Nat.{_≤_, _-_}
 use lib.ListN.{length}
-use borrow.Author.Needs.{needs}
 use Rattle.portal.proofs.all_are.Statement.{statement}
 use Rattle.portal.proofs.all_are.Tie as tie
 
