@@ -80,8 +80,8 @@ uint64_t txb_query(const uint32_t *policy, size_t policy_words, const uint32_t *
 /* Judges a policy and a query without a store: the verdict that an answer would have, or a refusal from 1 to 7. Replies as txb_query does, without draws. */
 uint32_t txb_judge(const uint32_t *policy, size_t policy_words, const uint32_t *query, size_t query_words);
 
-/* Where the words of a part stand (0 to 15 a definition, 16 the query), to show what a refusal is about. Bit 63 is set for a part of the query; other parts
- * are of the policy. Empty if there is no such definition or the policy is refused with 1 or 2. */
+/* Where the words of a part stand (0 to 15 a definition, 16 the query), to show what a refusal is about. Bit 63 is set for the query, which is whole at any
+ * length; other parts are of the policy. Empty if there is no such definition or the policy is refused with 1 or 2. */
 uint64_t txb_part(const uint32_t *policy, size_t policy_words, const uint32_t *query, size_t query_words, uint32_t number);
 
 /* Where one name's certificates stand in the store, eight words each. Empty if there is none or the store is unsound. */
@@ -93,10 +93,10 @@ static inline uint32_t txb_refused_part(uint64_t reply) { return (uint32_t)(repl
 static inline uint32_t txb_verdict(uint64_t reply) { return (uint32_t)(reply >> 16 & 0xFF); }
 static inline uint32_t txb_draws(uint64_t reply) { return (uint32_t)(reply >> 32); }
 
-/* The reply of txb_part or txb_certificates_of, taken apart, in words. */
-static inline uint32_t txb_length(uint64_t reply) { return (uint32_t)reply; }
-static inline uint32_t txb_start(uint64_t reply) { return (uint32_t)(reply >> 32 & 0x7FFFFFFF); }
+/* The reply of txb_part or txb_certificates_of, taken apart, in words: length + start * 2^32, or for the query its length + 2^63. */
 static inline int txb_is_of_query(uint64_t reply) { return (int)(reply >> 63); }
+static inline size_t txb_length(uint64_t reply) { return (size_t)(txb_is_of_query(reply) ? reply & INT64_MAX : reply & UINT32_MAX); }
+static inline size_t txb_start(uint64_t reply) { return (size_t)(txb_is_of_query(reply) ? 0 : reply >> 32); }
 
 #ifdef __cplusplus
 }

@@ -46,8 +46,11 @@ impl Policy {
     /// The words of the definition or query that a refusal is about; none if there is no such definition or the policy's table is broken.
     pub fn part<'a>(&'a self, query: &'a Query, part: Part) -> &'a [u32] {
         let reply = calls::part(&self.words, query.words(), part.number());
-        let whole = if reply >> 63 == 1 { query.words() } else { self.words() };
-        &whole[within(reply & !(1 << 63))]
+        if reply >> 63 == 1 {
+            query.words()
+        } else {
+            &self.words[within(reply)]
+        }
     }
 }
 

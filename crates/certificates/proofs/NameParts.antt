@@ -1,4 +1,4 @@
--- One name's part of a sound store: it is unbroken, and its rows are in order.
+-- One name's part of a sound store: it is unbroken, its rows are in order, and where it lies.
 use Prim.Native.Nat.{ℕ, suc, _+_, _-_, _*_, _≤_}
 use mathlib.Core.Path.{_≡_, refl, sym, _∙_, ap}
 use mathlib.Core.Bool.{Bool, true, false, not, _&&_, _||_}
@@ -18,11 +18,12 @@ use Rattle.rows.proofs.Ordered.{Under, Ascending, all-in, all-of}
 use Rattle.rows.proofs.LayoutLaws.{flat-pieces, sound-width}
 use Rattle.certificates.specs.Certificate.{recordWords, soundRecord, recordBefore}
 use Rattle.certificates.specs.Store.{countOf, records, soundStore}
-use Rattle.certificates.specs.NamePart.{ofName, namePart}
+use Rattle.certificates.specs.NamePart.{ofName, namePart, nameStart}
+use Rattle.certificates.specs.Spans.{Spans}
 use Rattle.certificates.specs.Steps.{leading, placeIn}
 use Rattle.certificates.proofs.Pieces.{pieces-take, pieces-drop}
 use Rattle.certificates.proofs.Sound.{sound-record, sound-store}
-use Rattle.certificates.proofs.Stores.{place-few}
+use Rattle.certificates.proofs.Stores.{place-few, place-room}
 
 -- the elements of an ascending list from u on and before v
 module _ {A : Type 0} (before : A → A → Bool) (laws : StrictTotal before) (u v : A) (order : before u v ≡ true) where
@@ -148,3 +149,24 @@ module _ (key name polarity : ℕ) where
     pub part-none : soundStore store ≡ false → [] ≡ namePart store key name polarity
     unfolding namePart
     part-none e = rw (e, namePart)
+
+    -- where it lies: nowhere in an unsound store, else between the two places
+    pub spans-none : soundStore store ≡ false → Spans store key name polarity 0 0
+    unfolding nameStart
+    spans-none e = record { start = rw (e, nameStart); order = omega arith; inside = omega arith; near = omega arith; words = part-none e }
+
+    pub spans-found : soundStore store ≡ true → (p q : ℕ) → p ≡ placeIn (records store) (nameFirst key name polarity) →
+        q ≡ placeIn (records store) (namePast key name polarity) →
+        Spans store key name polarity (1 + recordWords * p) (1 + recordWords * q)
+    unfolding nameStart
+    spans-found sound p q e f =
+        let o = part-order in
+        let r = place-room store (namePast key name polarity) sound q f in
+        let few = r .0 in
+        record {
+          start = rw (sound, nameStart) (ap (λ (n : ℕ). 1 + recordWords * n) e);
+          order = omega arith;
+          inside = r .1;
+          near = omega arith;
+          words = part-words sound p q e f;
+        }

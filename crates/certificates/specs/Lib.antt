@@ -1,5 +1,6 @@
 pub mod Certificate
 pub mod Store
 pub mod Filing
-pub mod NamePart
 pub mod Steps
+pub mod NamePart
+pub mod Spans

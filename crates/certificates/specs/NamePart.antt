@@ -1,13 +1,15 @@
 -- Document 01, "Store and filing": "The certificates of one name form one unbroken part of the store, and the portal can be handed that part
 -- (empty if there is none or the store is unsound)." One name is here a key, a name and a polarity.
-use Prim.Native.Nat.{ℕ}
+use Prim.Native.Nat.{ℕ, _+_, _*_}
 use mathlib.Core.Bool.{Bool, true, false, _&&_}
-use mathlib.Core.List.{List, []}
+use mathlib.Core.List.{List, [], _∷_}
 use lib.Dec.{eqb}
 use lib.ListN.{getD}
 use Rattle.rows.specs.Ordered.{keep}
 use Rattle.rows.specs.Layout.{flat}
+use Rattle.certificates.specs.Certificate.{recordWords}
 use Rattle.certificates.specs.Store.{records, soundStore}
+use Rattle.certificates.specs.Steps.{placeIn}
 
 abbrev pub ofName : ℕ → ℕ → ℕ → List ℕ → Bool
 ofName key name polarity w = eqb (getD w 0 0) key && (eqb (getD w 1 0) name && eqb (getD w 2 0) polarity)
@@ -16,3 +18,8 @@ ofName key name polarity w = eqb (getD w 0 0) key && (eqb (getD w 1 0) name && e
 unfoldable pub namePart : List ℕ → ℕ → ℕ → ℕ → List ℕ
 unfolding soundStore records keep flat
 namePart store key name polarity = elim (soundStore store) [ true ↦ flat (keep (ofName key name polarity) (records store)) | false ↦ [] ]
+
+-- the word of the store where that part begins: past the count and the records that come before the name's; 0 where the store is unsound
+unfoldable pub nameStart : List ℕ → ℕ → ℕ → ℕ → ℕ
+unfolding soundStore records placeIn
+nameStart store key name polarity = elim (soundStore store) [ true ↦ 1 + recordWords * placeIn (records store) (key ∷ name ∷ polarity ∷ []) | false ↦ 0 ]

@@ -1,4 +1,4 @@
--- What the code's inner functions do, in terms of the store's words. No promise of a public call names any of this.
+-- What the code's inner functions do, in terms of the store's words. A portal's calls promise nothing by these but `placeIn`.
 use Prim.Native.Nat.{ℕ, suc, _+_, _-_, _*_}
 use mathlib.Core.Bool.{Bool, true, false, not, _&&_}
 use mathlib.Core.List.{List, [], _∷_, _++_}

@@ -8,6 +8,7 @@ ghost use Rattle.certificates.specs.Store.{soundStore};
 ghost use Rattle.store.specs.Reply.{replyIs};
 ghost use Rattle.certificates.specs.Filing.{fileReply, storeAfter};
 ghost use Rattle.certificates.specs.NamePart.{namePart};
+ghost use Rattle.certificates.specs.Spans.{Spans};
 use certificates::CAPACITY;
 use certificates::RECORD_WORDS;
 use record::sound_record;
@@ -44,16 +45,43 @@ pub fn file(store: &mut [u32], certificate: &[u32]) -> Filing
     Filing::Filed
 }
 
-// The certificates of one name in a store that is known to be sound, found without a look at the others.
-pub fn certificates_in<'a>(store: &'a [u32], key: u32, name: u32, polarity: u32) -> &'a [u32]
+// A stretch of the store's words: from the word `from` up to the word `to`.
+pub struct Span {
+    pub from: usize,
+    pub to: usize,
+}
+
+// Where the certificates of one name lie in a store that is known to be sound, found without a look at the others.
+pub fn span_in(store: &[u32], key: u32, name: u32, polarity: u32) -> Span
     requires { ⌜ soundStore (now store) ≡ true ⌝ }
-    ensures { λ r. ⌜ now r ≡ namePart (now (store .entry)) key name polarity ⌝ }
+    ensures { λ r. ⌜ Spans (now (store .entry)) key name polarity (r .from) (r .to) ⌝ }
 {
     // what is shorter comes first and no width is 5, so the name's records lie from `first` to `past`
     let first = [key, name, polarity];
     let past = [key, name, polarity, 5];
     let from = 1 + RECORD_WORDS * place_of(store, &first);
     let to = 1 + RECORD_WORDS * place_of(store, &past);
+    Span { from, to }
+}
+
+// The same in any store: an unsound one has no such certificates.
+pub fn span_of(store: &[u32], key: u32, name: u32, polarity: u32) -> Span
+    ensures { λ r. ⌜ Spans (now (store .entry)) key name polarity (r .from) (r .to) ⌝ }
+{
+    if !sound_store(store) {
+        return Span { from: 0, to: 0 };
+    }
+    span_in(store, key, name, polarity)
+}
+
+// The certificates of one name in a store that is known to be sound.
+pub fn certificates_in<'a>(store: &'a [u32], key: u32, name: u32, polarity: u32) -> &'a [u32]
+    requires { ⌜ soundStore (now store) ≡ true ⌝ }
+    ensures { λ r. ⌜ now r ≡ namePart (now (store .entry)) key name polarity ⌝ }
+{
+    let span = span_in(store, key, name, polarity);
+    let from = span.from;
+    let to = span.to;
     &store[from..to]
 }
 
@@ -61,8 +89,8 @@ pub fn certificates_in<'a>(store: &'a [u32], key: u32, name: u32, polarity: u32)
 pub fn certificates_of<'a>(store: &'a [u32], key: u32, name: u32, polarity: u32) -> &'a [u32]
     ensures { λ r. ⌜ now r ≡ namePart (now (store .entry)) key name polarity ⌝ }
 {
-    if !sound_store(store) {
-        return &store[..0];
-    }
-    certificates_in(store, key, name, polarity)
+    let span = span_of(store, key, name, polarity);
+    let from = span.from;
+    let to = span.to;
+    &store[from..to]
 }

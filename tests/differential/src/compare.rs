@@ -92,6 +92,12 @@ fn same_words(what: &str, tested: &[u32], expected: &[u32]) -> Result<(), String
     }
 }
 
+/// Of an empty place only its emptiness is promised, and whether it is the query.
+fn same_place(what: &str, tested: u64, expected: u64) -> Result<(), String> {
+    let promised = if expected as u32 == 0 { u64::from(u32::MAX) | OF_QUERY } else { u64::MAX };
+    equal(what, tested & promised, expected & promised)
+}
+
 pub struct Comparison<'a> {
     pub tested: &'a dyn Engine,
     pub expected: Evaluator,
@@ -152,9 +158,10 @@ impl<'a> Comparison<'a> {
             equal("the same query with other junk", self.query(case, store)?, reply)?;
         }
         equal("judgement", self.tested.judge(policy, query), Engine::judge(&self.expected, policy, query))?;
-        self.part(case)?;
+        let part = Engine::part(&self.expected, policy, query, case.number);
+        same_place(&format!("part {}", case.number), self.tested.part(policy, query, case.number), part)?;
         let certificates = Engine::certificates_of(&self.expected, store, case.name);
-        equal(&format!("certificates of {:?}", case.name), self.tested.certificates_of(store, case.name), certificates)
+        same_place(&format!("certificates of {:?}", case.name), self.tested.certificates_of(store, case.name), certificates)
     }
 
     fn query(&mut self, case: &Case, store: &[u32]) -> Result<u64, String> {
@@ -193,14 +200,6 @@ impl<'a> Comparison<'a> {
             None => "an unsound set", // only with a planted fault
         };
         *self.tally.answers.entry((verdict, table)).or_default() += 1;
-    }
-
-    /// Of an empty part only its emptiness is promised, and whose part it is.
-    fn part(&self, case: &Case) -> Result<(), String> {
-        let tested = self.tested.part(&case.policy, &case.query, case.number);
-        let expected = Engine::part(&self.expected, &case.policy, &case.query, case.number);
-        let promised = if expected as u32 == 0 { u64::from(u32::MAX) | OF_QUERY } else { u64::MAX };
-        equal(&format!("part {}", case.number), tested & promised, expected & promised)
     }
 }
 

@@ -1,0 +1,91 @@
+-- What each call packs is what its definition says, one law for each way that it returns.
+use Prim.Native.Nat.{ℕ, _+_, _*_, _≤_}
+use mathlib.Core.Path.{_≡_, sym, _∙_, ap}
+use mathlib.Core.List.{List}
+use native.Mathlib.Omega.{arith}
+use Rattle.certificates.specs.Filing.{FilingReply}
+use Rattle.store.specs.Reply.{replyIs}
+use Rattle.store.specs.declared.Filing.{Filing}
+use Rattle.store.specs.declared.Filing.the-variants as filing
+use Rattle.policy.specs.Polarity.{verdictWord}
+use Rattle.policy.specs.Judgement.{judge}
+use Rattle.judging.specs.Reply.{judgementOf}
+use Rattle.judging.specs.declared.Judgement.{Judgement}
+use Rattle.judging.specs.declared.Judgement.the-variants as judgement
+use Rattle.policy.proofs.Basics.{impossible}
+use Rattle.demands.specs.Query.{Outcome, answered, declined, Call, queryCall}
+use Rattle.engine.specs.Reply.{replyTo, Replied}
+use Rattle.engine.specs.declared.Reply.{Reply}
+use Rattle.engine.specs.declared.Reply.the-variants as reply
+use Rattle.engine.proofs.Replying.{verdict-in, refusal-in}
+use Rattle.capi.specs.Replies.{filingWord, replyWord, judgementWord, outcomeWord, Asked}
+use Rattle.capi.proofs.Refusals.{Small, judge-low}
+use Rattle.capi.proofs.Fields.{verdict-low}
+
+-- filing
+module _ (f : FilingReply) (r : Filing) (is : replyIs r ≡ f) where
+  pub filed-word : r ≡ filing.Filed → 0 ≡ filingWord f
+  unfolding replyIs filingWord
+  filed-word e = ap filingWord (ap replyIs (sym e) ∙ is)
+
+  pub held-word : r ≡ filing.Held → 1 ≡ filingWord f
+  unfolding replyIs filingWord
+  held-word e = ap filingWord (ap replyIs (sym e) ∙ is)
+
+  pub refused-word : (n : ℕ) → r ≡ filing.Refused n → n ≡ filingWord f
+  unfolding replyIs filingWord
+  refused-word n e = ap filingWord (ap replyIs (sym e) ∙ is)
+
+-- judging
+module _ (policy query : List ℕ) (r : Judgement) (is : r ≡ judgementOf (judge policy query)) where
+  pub verdict-small : (v : ℕ) → r ≡ judgement.Verdict v → v ≤ 2
+  verdict-small v e =
+      let t = verdict-in (judge policy query) v (sym e ∙ is) in
+      let w = t .2 in
+      omega (arith, verdict-low (t .0))
+
+  pub verdict-word : (v : ℕ) → r ≡ judgement.Verdict v → v * 65536 ≡ judgementWord (judge policy query)
+  unfolding judgementWord replyWord
+  verdict-word v e =
+      let t = verdict-in (judge policy query) v (sym e ∙ is) in
+      let w = t .2 in
+      rw (t .1) (omega arith)
+
+  pub refusal-small : (n part : ℕ) → r ≡ judgement.Refused n part → Small 7 n part
+  refusal-small n part e = judge-low policy query n part (refusal-in (judge policy query) n part (sym e ∙ is))
+
+  pub refusal-word : (n part : ℕ) → r ≡ judgement.Refused n part → n + part * 256 ≡ judgementWord (judge policy query)
+  unfolding judgementWord replyWord
+  refusal-word n part e = rw (refusal-in (judge policy query) n part (sym e ∙ is)) (omega arith)
+
+-- asking
+answered-word : (o : Outcome) (v k : ℕ) → reply.Answered v k ≡ replyTo o → (v ≤ 2) × (v * 65536 + k * 4294967296 ≡ outcomeWord o)
+unfolding replyTo outcomeWord replyWord
+answered-word (answered w j s) v k e =
+    let x : v ≡ verdictWord w = cc in
+    let y : k ≡ j = cc in
+    (omega (arith, verdict-low w), omega arith)
+answered-word (declined n part) v k e = impossible cc
+
+declined-word : (o : Outcome) (n part : ℕ) → reply.Refused n part ≡ replyTo o → n + part * 256 ≡ outcomeWord o
+unfolding replyTo outcomeWord replyWord
+declined-word (answered w j s) n part e = impossible cc
+declined-word (declined m p) n part e =
+    let x : n ≡ m = cc in
+    let y : part ≡ p = cc in
+    omega arith
+
+module _ (store : List ℕ) (c : Call) (r : Reply) (answer : List ℕ) (said : Replied store c r answer) where
+  pub answered-small : (v k : ℕ) → r ≡ reply.Answered v k → v ≤ 2
+  answered-small v k e = answered-word (queryCall store c) v k (sym e ∙ said .reply) .0
+
+  -- a and b are the fields, widened
+  pub asked-answered : (v k a b : ℕ) → r ≡ reply.Answered v k → a ≡ v → b ≡ k → Asked store c (a * 65536 + b * 4294967296) answer
+  asked-answered v k a b e x y =
+      let w = answered-word (queryCall store c) v k (sym e ∙ said .reply) .1 in
+      record { reply = omega arith; area = said .area }
+
+  pub asked-declined : (n part a b : ℕ) → r ≡ reply.Refused n part → a ≡ n → b ≡ part → Asked store c (a + b * 256) answer
+  asked-declined n part a b e x y =
+      let w = declined-word (queryCall store c) n part (sym e ∙ said .reply) in
+      record { reply = omega arith; area = said .area }

@@ -1,0 +1,43 @@
+-- A part of the policy lies within 8,192 words, and the query's length is below 2 ^ 61, so nothing wraps.
+use borrow.Author.Needs.{needs}
+use native.Mathlib.Omega.{arith}
+use Rattle.capi.proofs.Placing.{place-small, in-policy, in-query}
+use Rattle.capi.proofs.txb_part.Statement.{statement}
+use Rattle.capi.proofs.txb_part.Tie as tie
+
+place-of-requires : tie.Need-place-of-requires
+place-of-requires c κs = search needs
+
+enum-told : tie.Need-enum-told
+enum-told c = search needs
+
+add-result : tie.Need-add-result
+add-result c = search needs
+
+enum-known-start : tie.Need-enum-known-start
+enum-known-start c = search needs
+
+mul-result : tie.Need-mul-result
+mul-result c = omega (arith, place-small _ _ _ (c .before .before .before .place-of .ensures) _ _ (c .before .start .given .1))
+
+add-result-2 : tie.Need-add-result-2
+add-result-2 c = omega (arith, place-small _ _ _ (c .before .before .before .place-of .ensures) _ _ (c .before .start .given .1))
+
+returns : tie.Need-returns
+returns c = in-query _ _ _ (c .before .before .place-of .ensures) _ (c .enum-told .given .1)
+
+returns-2 : tie.Need-returns-2
+returns-2 c = in-policy _ _ _ (c .before .before .before .place-of .ensures) _ _ _ (c .before .start .given .1)
+
+pub txb-part-spec : {M : Type 1} → statement M
+txb-part-spec =
+    tie.close
+    (tie.spec
+    place-of-requires
+    enum-told
+    add-result
+    enum-known-start
+    mul-result
+    add-result-2
+    returns
+    returns-2)

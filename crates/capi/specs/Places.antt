@@ -1,0 +1,39 @@
+-- Where words stand, as one number: the length in the lower half, the start in the upper one.
+use Prim.Native.Nat.{ℕ, _+_, _-_, _*_, _/_, _%_, _^_}
+use mathlib.Core.Path.{_≡_}
+use mathlib.Core.Bool.{true, false}
+use mathlib.Core.List.{List}
+use lib.Dec.{leb}
+use lib.ListN.{length, take, drop}
+use Rattle.certificates.specs.NamePart.{namePart, nameStart}
+use Rattle.policy.specs.Part.{Place, inPolicy, wholeQuery, placeOf, partWords}
+
+unfoldable pub spanWord : ℕ → ℕ → ℕ
+spanWord start size = size + start * 2 ^ 32
+
+-- the words that such a number points to
+unfoldable pub spanWords : List ℕ → ℕ → List ℕ
+spanWords words w = take (w % 2 ^ 32) (drop (w / 2 ^ 32) words)
+
+-- one name's part of the store: the number, and the words that it points to, which are those that `certificates_of` hands back
+pub record CertificatesAt (store : List ℕ) (key name polarity word : ℕ) : Type 0 where
+  pub number : word ≡ spanWord (nameStart store key name polarity) (length (namePart store key name polarity))
+  pub words : spanWords store word ≡ namePart store key name polarity
+
+-- bit 63 marks the query, which stands there whole: its length is then all that is below that bit
+abbrev pub ofQuery : ℕ
+ofQuery = 2 ^ 63
+
+unfoldable pub placeWord : List ℕ → Place → ℕ
+unfolding spanWord
+placeWord query (inPolicy start size) = spanWord start size
+placeWord query wholeQuery = length query + ofQuery
+
+unfoldable pub placeWords : List ℕ → List ℕ → ℕ → List ℕ
+unfolding spanWords
+placeWords policy query w = elim (leb ofQuery w) [ true ↦ take (w - ofQuery) query | false ↦ spanWords policy w ]
+
+-- a part: the number, and the words that it points to, which are those that `part` hands back
+pub record PartAt (policy query : List ℕ) (number word : ℕ) : Type 0 where
+  pub place : word ≡ placeWord query (placeOf policy number)
+  pub words : placeWords policy query word ≡ partWords policy query number
