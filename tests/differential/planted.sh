@@ -1,15 +1,14 @@
 #!/usr/bin/env bash
-# Each planted fault must be noticed: a run with it ends with status 1 and failures. Words given go to cargo, as: planted.sh --features library
+# Each planted fault must be noticed: a run with it ends with status 1 and failures.
 set -eu
 cd "$(dirname "$0")"
-cargo build --quiet --release --offline "$@"
+cargo build --quiet --release --offline
 run=target/release/differential
-case " $* " in *library*) rehearse= ;; *) rehearse=--rehearse ;; esac
 count=$($run --faults | wc -l)
 passed=0 failed=0
 for ((k = 1; k <= count; k++)); do
     status=0
-    out=$($run 40000 --worlds 0 --plant $k $rehearse) || status=$?
+    out=$($run 40000 --worlds 0 --plant $k) || status=$?
     if [ $status = 1 ]; then
         passed=$((passed + 1))
     else

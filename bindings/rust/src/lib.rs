@@ -2,7 +2,7 @@
 //!
 //! The engine behind it is proved to do what document 01 says, on every input. This crate gives it types and owns its areas.
 //!
-//! ```no_run
+//! ```
 //! use txindurbe::{key, Certificate, Definition, Engine, Expression, Guard, Policy, Polarity, Query, Row, Slot, Store, Table, Term};
 //!
 //! const RELEASED: u16 = 1;

@@ -1,4 +1,4 @@
-//! Document 01's portal cases through the safe types. Needs the compiled library: `cargo test --features library`.
+//! Document 01's portal cases through the safe types. They link the compiled library: `rt staticlib capi` first.
 
 use txindurbe::{
     key, Certificate, Definition, Engine, Expression, Filing, Guard, Part, Polarity, Policy, Query, Refusal, Row, Rows, Slot, Store, Table, Term,

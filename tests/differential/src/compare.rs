@@ -207,10 +207,10 @@ impl<'a> Comparison<'a> {
 mod tests {
     use super::*;
     use crate::faults::Fault;
+    use crate::library::Library;
 
     fn run(expected: Evaluator, cases: u64, stop_at_failure: bool) -> Tally {
-        let sound = Evaluator::default();
-        let mut comparison = Comparison::new(&sound, expected, 7);
+        let mut comparison = Comparison::new(&Library, expected, 7);
         comparison.run(7, cases, stop_at_failure);
         comparison.tally
     }

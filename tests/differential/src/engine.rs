@@ -1,4 +1,4 @@
-//! The C interface as a trait: the compiled library has it, and so has the evaluator, so that the comparison can be rehearsed without the library.
+//! The C interface as a trait, which the compiled library and the evaluator both have, so that one is asked as the other is.
 
 use crate::evaluator::{certificates_of, Answer, Areas, Evaluator, Filing, Part, Refusal, Verdict};
 use crate::faults::Fault;

@@ -5,7 +5,6 @@ pub mod engine;
 pub mod evaluator;
 pub mod faults;
 pub mod generate;
-#[cfg(feature = "library")]
 pub mod library;
 pub mod random;
 pub mod worlds;

@@ -1,16 +1,16 @@
 //! The differential run: the compiled library beside the evaluator, on random and mutated words.
 //!
-//!     differential [CASES] [--seed S] [--worlds LISTS] [--plant K] [--rehearse]
+//!     differential [CASES] [--seed S] [--worlds LISTS] [--plant K]
 //!     differential --faults
 //!
 //! CASES queries and lists of filings (200,000), and LISTS lists of filings held against worlds (a hundredth of the cases). `--plant K` makes the evaluator
-//! wrong in one way, which the run must notice; it stops there. `--faults` lists the ways. `--rehearse` puts the evaluator in the library's place.
+//! wrong in one way, which the run must notice; it stops there. `--faults` lists the ways.
 
 use differential::compare::{Comparison, Tally};
-use differential::engine::Engine;
 use differential::evaluator::Evaluator;
 use differential::faults::Fault;
 use differential::generate::Generator;
+use differential::library::Library;
 use differential::worlds::{check, Seen, SMALL};
 use std::process::ExitCode;
 
@@ -19,11 +19,10 @@ struct Options {
     seed: u64,
     worlds: Option<u64>,
     fault: Option<Fault>,
-    rehearse: bool,
 }
 
 fn options(mut words: impl Iterator<Item = String>) -> Result<Options, String> {
-    let mut options = Options { cases: 200_000, seed: 2_026, worlds: None, fault: None, rehearse: false };
+    let mut options = Options { cases: 200_000, seed: 2_026, worlds: None, fault: None };
     while let Some(word) = words.next() {
         let mut number = || -> Result<u64, String> {
             let next = words.next().ok_or(format!("{word} wants a number"))?;
@@ -33,7 +32,6 @@ fn options(mut words: impl Iterator<Item = String>) -> Result<Options, String> {
             "--seed" => options.seed = number()?,
             "--worlds" => options.worlds = Some(number()?),
             "--plant" => options.fault = Some(planted(number()?)?),
-            "--rehearse" => options.rehearse = true,
             cases => options.cases = cases.parse().map_err(|_| format!("{cases} is no count of cases"))?,
         }
     }
@@ -45,43 +43,24 @@ fn planted(number: u64) -> Result<Fault, String> {
     place.and_then(|place| Fault::ALL.get(place)).copied().ok_or(format!("faults are 1 to {}", Fault::ALL.len()))
 }
 
-#[cfg(feature = "library")]
-fn library() -> Option<Box<dyn Engine>> {
-    Some(Box::new(differential::library::Library))
-}
-
-#[cfg(not(feature = "library"))]
-fn library() -> Option<Box<dyn Engine>> {
-    None
-}
-
-fn tested(options: &Options) -> Result<Box<dyn Engine>, String> {
-    if options.rehearse {
-        println!("a rehearsal: the evaluator stands in for the library");
-        return Ok(Box::new(Evaluator::default()));
-    }
-    library().ok_or("built without the library: use --features library, or --rehearse".into())
-}
-
-fn run(options: &Options) -> Result<Tally, String> {
-    let tested = tested(options)?;
+fn run(options: &Options) -> Tally {
     println!("seed {}", options.seed);
     if let Some(fault) = options.fault {
         println!("planted: {}", fault.meaning());
     }
-    let mut comparison = Comparison::new(tested.as_ref(), Evaluator { fault: options.fault }, options.seed);
+    let mut comparison = Comparison::new(&Library, Evaluator { fault: options.fault }, options.seed);
     comparison.run(options.seed, options.cases, options.fault.is_some());
     let mut tally = comparison.tally;
-    let seen = against_worlds(tested.as_ref(), options, &mut tally);
+    let seen = against_worlds(options, &mut tally);
     print_tally(&tally, &seen);
-    Ok(tally)
+    tally
 }
 
-fn against_worlds(tested: &dyn Engine, options: &Options, tally: &mut Tally) -> Seen {
+fn against_worlds(options: &Options, tally: &mut Tally) -> Seen {
     let mut generator = Generator::new(options.seed, &SMALL);
     let mut seen = Seen::default();
     for list in 0..options.worlds.unwrap_or(options.cases / 100) {
-        let result = check(tested, &mut generator, &mut seen);
+        let result = check(&Library, &mut generator, &mut seen);
         tally.count(result.map_err(|report| format!("worlds, list {list}, {report}")));
     }
     seen
@@ -119,7 +98,7 @@ fn main() -> ExitCode {
     if std::env::args().any(|word| word == "--faults") {
         return print_faults();
     }
-    match options(std::env::args().skip(1)).and_then(|options| run(&options)) {
+    match options(std::env::args().skip(1)).map(|options| run(&options)) {
         Ok(tally) => {
             println!("{} passed, {} failed", tally.passed, tally.failed);
             ExitCode::from((tally.failed > 0) as u8)

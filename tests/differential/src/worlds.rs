@@ -358,20 +358,24 @@ fn rows_asked(universe: &BTreeSet<Row>, atoms: &BTreeSet<u32>, points: &[Point])
 mod tests {
     use super::*;
     use crate::faults::Fault;
+    use crate::library::Library;
 
-    fn run(engine: Evaluator, lists: usize) -> (Result<(), String>, Seen) {
+    fn run(engine: &dyn Engine, lists: usize) -> (Result<(), String>, Seen) {
         let mut generator = Generator::new(3, &SMALL);
         let mut seen = Seen::default();
-        let result = (0..lists).try_for_each(|_| check(&engine, &mut generator, &mut seen));
+        let result = (0..lists).try_for_each(|_| check(engine, &mut generator, &mut seen));
         (result, seen)
     }
 
     #[test]
-    fn demand_3_holds_of_the_evaluator() {
-        let (result, seen) = run(Evaluator::default(), 400);
-        assert_eq!(result, Ok(()));
-        println!("points {:?}, worlds {}, undecided rows {}, refused {}", seen.points, seen.worlds, seen.undecided_rows, seen.refused);
-        assert!(seen.points.iter().all(|&count| count > 100) && seen.undecided_rows > 1_000, "{:?}", seen.points);
+    fn demand_3_holds_of_the_library_and_of_the_evaluator() {
+        let engines: [&dyn Engine; 2] = [&Library, &Evaluator::default()];
+        for engine in engines {
+            let (result, seen) = run(engine, 400);
+            assert_eq!(result, Ok(()));
+            println!("points {:?}, worlds {}, undecided rows {}, refused {}", seen.points, seen.worlds, seen.undecided_rows, seen.refused);
+            assert!(seen.points.iter().all(|&count| count > 100) && seen.undecided_rows > 1_000, "{:?}", seen.points);
+        }
     }
 
     #[test]
@@ -385,7 +389,7 @@ mod tests {
             Fault::AbsentNotTurnedRound,
         ];
         for fault in meanings {
-            let (result, _) = run(Evaluator { fault: Some(fault) }, 4_000);
+            let (result, _) = run(&Evaluator { fault: Some(fault) }, 4_000);
             assert!(result.is_err(), "{fault:?} is not noticed");
         }
     }
