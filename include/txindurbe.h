@@ -43,7 +43,7 @@ enum {
     TXB_HELD = 1                     /* it was there already */
 };
 
-/* Refusal numbers. txb_file gives 8, 9 and 10; the others come from a policy and query. */
+/* Refusal numbers. txb_file gives 8, 9 and 10, txb_judge 1 to 7, txb_query all but 9 and 10. */
 enum {
     TXB_POLICY_HEAD = 1,             /* policy: under 2 or over 8,192 words, another format, over 16 definitions, or the table is cut short */
     TXB_POLICY_TABLE = 2,            /* policy: a table entry breaks a rule, or the parts do not end with the policy */

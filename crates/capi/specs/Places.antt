@@ -8,6 +8,7 @@ use lib.ListN.{length, take, drop}
 use Rattle.certificates.specs.NamePart.{namePart, nameStart}
 use Rattle.policy.specs.Part.{Place, inPolicy, wholeQuery, placeOf, partWords}
 
+-- so many words from a word on
 unfoldable pub spanWord : ℕ → ℕ → ℕ
 spanWord start size = size + start * 2 ^ 32
 
@@ -20,15 +21,17 @@ pub record CertificatesAt (store : List ℕ) (key name polarity word : ℕ) : Ty
   pub number : word ≡ spanWord (nameStart store key name polarity) (length (namePart store key name polarity))
   pub words : spanWords store word ≡ namePart store key name polarity
 
--- bit 63 marks the query, which stands there whole: its length is then all that is below that bit
+-- bit 63 marks the query, whose length is then all that stands below that bit
 abbrev pub ofQuery : ℕ
 ofQuery = 2 ^ 63
 
+-- a part's place: some words of the policy, or the query
 unfoldable pub placeWord : List ℕ → Place → ℕ
 unfolding spanWord
 placeWord query (inPolicy start size) = spanWord start size
 placeWord query wholeQuery = length query + ofQuery
 
+-- the words that it points to: with the mark so many of the query's from its first on, else those of the policy
 unfoldable pub placeWords : List ℕ → List ℕ → ℕ → List ℕ
 unfolding spanWords
 placeWords policy query w = elim (leb ofQuery w) [ true ↦ take (w - ofQuery) query | false ↦ spanWords policy w ]

@@ -4,15 +4,15 @@ ghost use Rattle.certificates.specs.Filing.{fileReply, storeAfter};
 ghost use Rattle.policy.specs.Judgement.{judge};
 ghost use Rattle.capi.specs.Replies.{filingWord, judgementWord, lent, Asked};
 ghost use Rattle.capi.specs.Places.{PartAt, CertificatesAt};
-use store::Filing;
-use store::file;
-use store::span_of;
 use engine::Reply;
 use engine::query as ask;
 use judging::Judgement;
 use judging::judge;
 use judging::parts::Place;
 use judging::parts::place_of;
+use store::Filing;
+use store::file;
+use store::span_of;
 
 // 2^32: where the upper half of a reply begins.
 const UPPER: u64 = 4294967296;
