@@ -17,5 +17,6 @@ pub use printing::say;
 pub use printing::say_number;
 pub use printing::say_words;
 pub use words::Words;
+pub use words::at_most;
 pub use words::first_word;
 pub use words::read_words;

@@ -187,3 +187,11 @@ pub fn first_word(text: &[u8], at: usize) -> u32
     read_words(text, at, &mut words);
     words[0]
 }
+
+// So many words, but not more than there are.
+pub fn at_most(count: u32, most: usize) -> usize
+    ensures { λ r. ⌜ r ≤ most ⌝ }
+{
+    let n = count as usize;
+    if n < most { n } else { most }
+}

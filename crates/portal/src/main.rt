@@ -4,13 +4,13 @@
 //     NAME|POLICY|QUERY            asks the query under the policy, over the store as it is
 //     NAME|POLICY|QUERY|AREAS      the same with an answer, a definition and a scratch area of so many words, not 642 10272 16384
 //     file WORDS                   files certificates, eight words each
-//     count NUMBER                 writes the store's count; `count 0` makes it an empty store
+//     store WORDS                  writes the words over the first of the store; `store 0` makes it empty
 //     -- HEADING                   is printed
 ghost use Prim.Native.Nat.{_≤_};
 ghost use lib.ListN.{length};
 use cases::after;
+use cases::at_most;
 use cases::cell_end;
-use cases::first_word;
 use cases::is_at;
 use cases::is_bar;
 use cases::next_line;
@@ -103,14 +103,6 @@ fn say_reply(reply: Reply, answer: &[u32]) {
     }
 }
 
-// So many words, but not more than there are.
-fn at_most(count: u32, most: usize) -> usize
-    ensures { λ r. ⌜ r ≤ most ⌝ }
-{
-    let n = count as usize;
-    if n < most { n } else { most }
-}
-
 // Asks, and prints the reply.
 fn ask_with<'a>(
     store: &[u32],
@@ -191,23 +183,14 @@ fn file_at(text: &[u8], at: usize, store: &mut [u32])
     file_all(store, &words, found.count);
 }
 
-fn count_at(text: &[u8], at: usize, store: &mut [u32])
-    requires { ⌜ at ≤ length (now text) ⌝ }
-{
-    let count = first_word(text, at);
-    if 0 < store.len() {
-        store[0] = count;
-    }
-}
-
 // A line without bars.
 fn act(text: &[u8], at: usize, end: usize, store: &mut [u32])
     requires { ⌜ (at ≤ end) × (end ≤ length (now text)) ⌝ }
 {
     if is_at(text, at, b'f') {
         file_at(text, at, store);
-    } else if is_at(text, at, b'c') {
-        count_at(text, at, store);
+    } else if is_at(text, at, b's') {
+        read_words(text, at, store);
     } else {
         say(&text[at..end]);
         say(b"\n");
