@@ -1,5 +1,5 @@
 -- Rows kept and rows left out, in place: the kept ones move down to the first places.
-use Prim.Native.Nat.{ℕ, zero, suc, _+_, _*_, _-_, _≤_, _<_}
+use Prim.Native.Nat.{ℕ, suc, _+_, _*_, _-_, _≤_, _<_}
 use mathlib.Core.Path.{_≡_, refl, sym, _∙_, ap, subst}
 use mathlib.Core.Logic.{inl, inr}
 use mathlib.Core.Bool.{Bool, true, false}
@@ -7,7 +7,6 @@ use mathlib.Core.List.{List, [], _∷_, _++_, append-nil}
 use native.Mathlib.Omega.{arith}
 use lib.ListN.{length, getD, take, drop, set, length-append, length-drop}
 use lib.Seq.{take-suc, take-all, length-take-le, drop-drop, getD-take, getD-drop}
-use Rattle.rows.specs.Word.{All}
 use Rattle.rows.specs.Ordered.{lists, keep, common, without}
 use Rattle.rows.specs.Row.{Row, rowBefore}
 use Rattle.rows.specs.Sets.{RowSet, listing}
@@ -18,12 +17,14 @@ use Rattle.sets.specs.declared.row.Row as Held
 use Rattle.algebra.specs.declared.Place as Place
 use Rattle.rows.proofs.Case.{Case, isTrue, isFalse, split}
 use Rattle.rows.proofs.Order.{row-order}
+use Rattle.rows.proofs.Lists.{all-at, all-take}
+use Rattle.rows.proofs.Sets.{keep-all}
 use Rattle.rows.proofs.Place.{ascending-at}
 use Rattle.rows.proofs.Put.{part-after, part-before, put-then-after, put-none}
 use Rattle.rows.proofs.LayoutLaws.{row-reads, row-length, formed-listing, formed-word}
 use Rattle.sets.proofs.RowLaws.{loaded-row, loaded-width, five-width}
 use Rattle.sets.proofs.SetWords.{size, sound-ascending}
-use Rattle.sets.proofs.Laid.{Narrow, laid-length, laid-append, narrow-in, narrow-take, row-words-at, inner, count-put}
+use Rattle.sets.proofs.Laid.{Narrow, laid-length, laid-append, narrow-in, row-words-at, inner, count-put}
 
 -- ---- what is kept
 
@@ -45,15 +46,6 @@ keep-length f (x ∷ xs) = go (keep-length f xs) (split (f x))
     go ih (isTrue e) = rw (e, keep) (omega arith)
     go ih (isFalse e) = rw (e, keep) (omega arith)
 
-narrow-keep : (f : Row → Bool) (xs : List Row) → Narrow xs → Narrow (keep f xs)
-unfolding keep All
-narrow-keep f [] a = tt
-narrow-keep f (x ∷ xs) a = go (narrow-keep f xs (a .1)) (split (f x))
-  where
-    go : Narrow (keep f xs) → Case (f x) → Narrow (keep f (x ∷ xs))
-    go ih (isTrue e) = rw (e, keep) (a .0, ih)
-    go ih (isFalse e) = rw (e, keep) ih
-
 test : Bool → List Row → Row → Bool
 test b ys r = keeps b (lists rowBefore ys r)
 
@@ -66,7 +58,7 @@ pub picked-length : (b : Bool) (xs ys : List Row) → length (picked b xs ys) �
 picked-length b xs ys = omega (arith, ap length (picked-keep b xs ys), keep-length (test b ys) xs)
 
 pub picked-narrow : (b : Bool) (xs ys : List Row) → Narrow xs → Narrow (picked b xs ys)
-picked-narrow b xs ys a = subst Narrow (sym (picked-keep b xs ys)) (narrow-keep (test b ys) xs a)
+picked-narrow b xs ys a = subst Narrow (sym (picked-keep b xs ys)) (keep-all _ (test b ys) xs a)
 
 module _ (b : Bool) (xs ys : List Row) (i : ℕ) (h : i < length xs) where
   one-more : picked b (take (i + 1) xs) ys ≡ keep (test b ys) (take i xs) ++ keep (test b ys) (getD xs i [] ∷ [])
@@ -126,12 +118,6 @@ pub loaded-narrow : (r : Held.Row) (x : Row) (ws : List ℕ) (at : ℕ) → word
 unfolding rowWords
 loaded-narrow r x ws at e f h = omega (arith, loaded-width r ws at e, five-width ws at, ap (λ (l : List ℕ). getD l 0 0) f)
 
-pub narrow-at : (xs : List Row) (i : ℕ) → Narrow xs → i < length xs → length (getD xs i []) ≤ 4
-unfolding All
-narrow-at [] i a h = absurd (omega arith)
-narrow-at (x ∷ xs) zero a h = a .0
-narrow-at (x ∷ xs) (suc i) a h = narrow-at xs i (a .1) (omega arith)
-
 -- ---- the walk
 
 module _ (a : List ℕ) (from other : ℕ) (b : Bool) where
@@ -170,7 +156,7 @@ module _ (a : List ℕ) (from other : ℕ) (b : Bool) (rooms : Rooms a from othe
     so-far = picked b (take i mine) theirs
 
     so-far-length : length (laid (picked b (take i mine) theirs)) ≡ 5 * kept
-    so-far-length = omega (arith, laid-length (picked b (take i mine) theirs) (picked-narrow b (take i mine) theirs (narrow-take i mine (narrow-in (roomAt from a)))), f .count)
+    so-far-length = omega (arith, laid-length (picked b (take i mine) theirs) (picked-narrow b (take i mine) theirs (all-take _ i mine (narrow-in (roomAt from a)))), f .count)
 
     pub kept-few : kept ≤ i
     kept-few = omega (arith, f .count, f .within, picked-length b (take i mine) theirs, length-take-le i mine (f .within))
@@ -212,7 +198,7 @@ module _ (a : List ℕ) (from other : ℕ) (b : Bool) (rooms : Rooms a from othe
           let m = few in
           let r = rooms .one-room in
           let x : Row = getD mine i [] in
-          let five : length (rowWords x) ≡ 5 = row-length x (narrow-at mine i (narrow-in (roomAt from a)) h) in
+          let five : length (rowWords x) ≡ 5 = row-length x (all-at _ mine (narrow-in (roomAt from a)) i [] h) in
           let at : from + 2 + 5 * kept ≡ from + 2 + length (laid (picked b (take i mine) theirs)) = omega arith in
           record {
             within = omega arith;
@@ -265,7 +251,7 @@ module _ (a : List ℕ) (from other : ℕ) (b : Bool) (rooms : Rooms a from othe
       pub seek-ready : (soundSet (take (other + 642 - other) (drop other now)) ≡ true) × (r .width ≤ 4) × Passed (rowsIn (take (other + 642 - other) (drop other now))) (rowOf r) j
       seek-ready = (
         ap soundSet lent ∙ rooms .other-sound,
-        loaded-narrow r (getD mine i []) now (from + 2 + 5 * i) loaded (row-here h) (narrow-at mine i (narrow-in (roomAt from a)) h),
+        loaded-narrow r (getD mine i []) now (from + 2 + 5 * i) loaded (row-here h) (all-at _ mine (narrow-in (roomAt from a)) i [] h),
         subst (λ (x : Row). Passed (rowsIn (take (other + 642 - other) (drop other now))) x j) (sym row-is)
             (subst (λ (l : List ℕ). Passed (rowsIn l) (getD mine i []) j) (sym lent) (f .passed h)),
       )

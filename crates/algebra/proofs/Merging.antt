@@ -15,14 +15,15 @@ use Rattle.algebra.specs.Private.{lastOrder, roomAt, Rooms}
 use Rattle.sets.specs.declared.row.Order as Order
 use Rattle.sets.specs.declared.row.Order.the-variants.{Before, Same, After}
 use Rattle.rows.proofs.Order.{row-order}
-use Rattle.rows.proofs.Ordered.{Ascending, all-in, all-of, join-∈}
+use Rattle.rows.proofs.Lists.{all-in, all-of, all-at, all-drop}
+use Rattle.rows.proofs.Ordered.{Ascending, join-∈}
 use Rattle.rows.proofs.Joining.{join-shorter, last-place, last-front, last-rest, firsts-right, firsts-left, firsts-both, firsts-longer, firsts-none}
 use Rattle.rows.proofs.Put.{part-after, part-before, put-then-after, put-then-before, put-none, put-itself}
 use Rattle.rows.proofs.LayoutLaws.{row-reads, row-length}
 use Rattle.sets.proofs.RowLaws.{five-width, before-order, same-order, after-order}
 use Rattle.sets.proofs.SetWords.{sound-ascending}
-use Rattle.sets.proofs.Laid.{Narrow, laid-length, laid-append, narrow-in, narrow-drop, laid-front, inner, front-length}
-use Rattle.algebra.proofs.Filtering.{room-few, room-count, room-row, narrow-at}
+use Rattle.sets.proofs.Laid.{Narrow, laid-length, laid-append, narrow-in, laid-front, inner, front-length}
+use Rattle.algebra.proofs.Filtering.{room-few, room-count, room-row}
 
 -- ---- the order of two last rows
 
@@ -140,8 +141,8 @@ module _ (a : List ℕ) (rooms : Rooms a 0 642) where
           omega arith,
           h,
           omega arith,
-          λ k. omega (arith, five-width now (2 + 5 * (i - 1)), ap (λ (w : List ℕ). getD w 0 0) (e .mine k), narrow-at xs (i - 1) n (omega arith)),
-          omega (arith, five-width now (644 + 5 * (j - 1)), ap (λ (w : List ℕ). getD w 0 0) (e .theirs h), narrow-at ys (j - 1) m (omega arith)),
+          λ k. omega (arith, five-width now (2 + 5 * (i - 1)), ap (λ (w : List ℕ). getD w 0 0) (e .mine k), all-at _ xs n (i - 1) [] (omega arith)),
+          omega (arith, five-width now (644 + 5 * (j - 1)), ap (λ (w : List ℕ). getD w 0 0) (e .theirs h), all-at _ ys m (j - 1) [] (omega arith)),
         )
 
     module _ (o : Order.Order) (said : o ≡ lastOrder i (rowIn (fiveAt now (2 + 5 * (i - 1)))) (rowIn (fiveAt now (644 + 5 * (j - 1))))) where
@@ -218,7 +219,7 @@ module _ (a : List ℕ) (rooms : Rooms a 0 642) where
   ])
 
   rest-length : (k : ℕ) → length (laid (drop k both)) ≡ 5 * (length both - k)
-  rest-length k = omega (arith, laid-length (drop k both) (narrow-drop k both narrow-both), length-drop k both)
+  rest-length k = omega (arith, laid-length (drop k both) (all-drop _ k both narrow-both), length-drop k both)
 
   module _ (few : length both ≤ 128) where
     pub merging-start : (i j k : ℕ) → i ≡ length xs → j ≡ length ys → k ≡ length both → Merging a a i j k
@@ -318,7 +319,7 @@ module _ (a : List ℕ) (rooms : Rooms a 0 642) where
         merging-right b s =
             let e = merging-ends in
             let r = m .right in
-            merging-next i (j - 1) (getD ys (j - 1) []) (644 + 5 * (j - 1)) after (omega arith) (omega arith) (narrow-at ys (j - 1) (narrow-in (roomAt 642 a)) (omega arith))
+            merging-next i (j - 1) (getD ys (j - 1) []) (644 + 5 * (j - 1)) after (omega arith) (omega arith) (all-at _ ys (narrow-in (roomAt 642 a)) (j - 1) [] (omega arith))
             (right-last now i j e h o said b) (e .theirs h) s same
 
         pub merging-both : o ≡ Same → after ≡ put (2 + 5 * (k - 1)) (take 5 (drop (2 + 5 * (i - 1)) now)) now → Merging a after (i - 1) (j - 1) (k - 1)
@@ -326,7 +327,7 @@ module _ (a : List ℕ) (rooms : Rooms a 0 642) where
             let e = merging-ends in
             let l = m .left in
             let g = same-some now i j e h o said b in
-            merging-next (i - 1) (j - 1) (getD xs (i - 1) []) (2 + 5 * (i - 1)) after (omega arith) (omega arith) (narrow-at xs (i - 1) (narrow-in (roomAt 0 a)) (omega arith))
+            merging-next (i - 1) (j - 1) (getD xs (i - 1) []) (2 + 5 * (i - 1)) after (omega arith) (omega arith) (all-at _ xs (narrow-in (roomAt 0 a)) (i - 1) [] (omega arith))
             (both-last now i j e h o said b) (e .mine g) s same
 
         pub merging-left : o ≡ After → after ≡ put (2 + 5 * (k - 1)) (take 5 (drop (2 + 5 * (i - 1)) now)) now → Merging a after (i - 1) j (k - 1)
@@ -334,5 +335,5 @@ module _ (a : List ℕ) (rooms : Rooms a 0 642) where
             let e = merging-ends in
             let l = m .left in
             let g = after-some now i j e h o said b in
-            merging-next (i - 1) j (getD xs (i - 1) []) (2 + 5 * (i - 1)) after (omega arith) (omega arith) (narrow-at xs (i - 1) (narrow-in (roomAt 0 a)) (omega arith))
+            merging-next (i - 1) j (getD xs (i - 1) []) (2 + 5 * (i - 1)) after (omega arith) (omega arith) (all-at _ xs (narrow-in (roomAt 0 a)) (i - 1) [] (omega arith))
             (left-last now i j e h o said b) (e .mine g) s same

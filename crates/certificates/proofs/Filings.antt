@@ -15,7 +15,8 @@ use Rattle.rows.specs.Ordered.{_∈_, lists, insert}
 use Rattle.rows.specs.Layout.{flat, pieces}
 use Rattle.rows.proofs.Case.{Case, isTrue, isFalse, split, never, T-true, true-T, same-test, _then_, iff-refl, iff-sym, both-or}
 use Rattle.rows.proofs.Order.{words-order}
-use Rattle.rows.proofs.Ordered.{all-in, all-of, lists-iff, insert-∈, insert-ascending, insert-length}
+use Rattle.rows.proofs.Lists.{all-in, all-of}
+use Rattle.rows.proofs.Ordered.{lists-iff, insert-∈, insert-ascending, insert-length}
 use Rattle.rows.proofs.LayoutLaws.{pieces-flat, flat-length}
 use Rattle.certificates.specs.Certificate.{recordWords, soundRecord, recordBefore}
 use Rattle.certificates.specs.Store.{capacity, countOf, records, soundStore, withRecords}

@@ -14,7 +14,8 @@ use Rattle.rows.specs.Ordered.{StrictTotal, keep, wordsBefore}
 use Rattle.rows.specs.Layout.{flat}
 use Rattle.rows.proofs.Case.{Case, isTrue, isFalse, split, never}
 use Rattle.rows.proofs.Order.{words-order}
-use Rattle.rows.proofs.Ordered.{Under, Ascending, all-in, all-of}
+use Rattle.rows.proofs.Lists.{all-in, all-of}
+use Rattle.rows.proofs.Ordered.{Under, Ascending}
 use Rattle.rows.proofs.LayoutLaws.{flat-pieces, sound-width}
 use Rattle.certificates.specs.Certificate.{recordWords, soundRecord, recordBefore}
 use Rattle.certificates.specs.Store.{countOf, records, soundStore}

@@ -14,13 +14,13 @@ use Rattle.rows.specs.Row.{Row, rowBefore}
 use Rattle.rows.specs.Layout.{flat, pieces, rowIn, rowWords, fiveAt, soundRow}
 use Rattle.rows.proofs.Case.{Case, isTrue, isFalse, split, never, and-true, true-T}
 use Rattle.rows.proofs.Order.{step-less, step-equal, words-order, row-order}
-use Rattle.rows.proofs.Ordered.{Under, Ascending, all-in, all-of, keep-∈, keep-ascending}
-use Rattle.rows.proofs.LayoutLaws.{Sized, flat-length, pieces-flat, row-written}
+use Rattle.rows.proofs.Lists.{all-in, all-of}
+use Rattle.rows.proofs.Ordered.{Under, Ascending, keep-∈, keep-ascending}
+use Rattle.rows.proofs.LayoutLaws.{Sized, flat-length, pieces-flat, piece-at, row-written}
 use Rattle.certificates.specs.Certificate.{recordWords, soundRecord, recordBefore}
 use Rattle.certificates.specs.Store.{records, soundStore}
 use Rattle.certificates.specs.NamePart.{ofName, namePart}
 use Rattle.certificates.proofs.Sound.{sound-record, sound-sized, sound-store}
-use Rattle.certificates.proofs.Pieces.{pieces-at}
 use Rattle.certificates.proofs.Places.{element}
 use Rattle.certificates.proofs.NameParts.{nameFirst}
 
@@ -126,7 +126,7 @@ module _ (key name polarity : ℕ) where
     -- the row of its ith record, as its five words stand in the part
     module _ (i : ℕ) (below : i < length (keep (ofName key name polarity) (records store))) where
       ith : getD (keep (ofName key name polarity) (records store)) i [] ≡ take recordWords (drop (recordWords * i) (namePart store key name polarity))
-      ith = sym (ap (λ (rs : List (List ℕ)). getD rs i []) name-pieces) ∙ pieces-at recordWords i _ (namePart store key name polarity) below
+      ith = sym (ap (λ (rs : List (List ℕ)). getD rs i []) name-pieces) ∙ piece-at recordWords _ (namePart store key name polarity) i below
 
       pub name-row : fiveAt (namePart store key name polarity) (recordWords * i + 3) ≡ drop 3 (getD (keep (ofName key name polarity) (records store)) i [])
       name-row =

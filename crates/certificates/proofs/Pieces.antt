@@ -1,16 +1,16 @@
 -- Tests that each passes, and lists cut into pieces of one size: what the layout's own laws leave out.
-use Prim.Native.Nat.{ℕ, zero, suc, _-_, _*_, _≤_, _<_}
-use mathlib.Core.Path.{_≡_, refl, sym, _∙_, ap}
+use Prim.Native.Nat.{ℕ, zero, suc, _-_, _*_, _≤_}
+use mathlib.Core.Path.{_≡_, refl, sym, ap}
 use mathlib.Core.Bool.{Bool, true}
 use mathlib.Core.List.{List, [], _∷_, _++_, append-assoc}
 use native.Mathlib.Nat.{mul-zero, mul-suc, add-comm, sub-zero}
 use native.Mathlib.Omega.{arith}
-use lib.ListN.{getD, take, drop}
+use lib.ListN.{take, drop}
 use lib.Seq.{drop-drop}
-use Rattle.rows.specs.Word.{All, Words}
+use Rattle.rows.specs.Word.{All, IsWord, Words}
 use Rattle.rows.specs.Layout.{flat, pieces, every}
 use Rattle.rows.proofs.Case.{and-true, true-and}
-use Rattle.rows.proofs.LayoutLaws.{take-words, drop-words}
+use Rattle.rows.proofs.Lists.{all-take, all-drop}
 
 -- a test that each passes, as a type
 pub every-true : {A : Type 0} (f : A → Bool) (xs : List A) → every f xs ≡ true → All (λ x. f x ≡ true) xs
@@ -26,7 +26,7 @@ true-every f (x ∷ xs) a = true-and (f x) (every f xs) (a .0) (true-every f xs 
 pub pieces-words : (size n : ℕ) (ws : List ℕ) → Words ws → All Words (pieces size n ws)
 unfolding All pieces
 pieces-words size zero ws p = tt
-pieces-words size (suc n) ws p = (take-words size ws p, pieces-words size n (drop size ws) (drop-words size ws p))
+pieces-words size (suc n) ws p = (all-take IsWord size ws p, pieces-words size n (drop size ws) (all-drop IsWord size ws p))
 
 -- some of the pieces, and each by itself
 pub pieces-take : (size p n : ℕ) (ws : List ℕ) → p ≤ n → take p (pieces size n ws) ≡ pieces size p ws
@@ -46,12 +46,6 @@ pieces-drop size (suc p) zero ws h = absurd (omega arith)
 pieces-drop size (suc p) (suc n) ws h =
     let e : suc n - suc p ≡ n - p = omega arith in
     rw (pieces-drop size p n (drop size ws) (omega arith), further size p ws, e)
-
-pub pieces-at : (size i n : ℕ) (ws : List ℕ) → i < n → getD (pieces size n ws) i [] ≡ take size (drop (size * i) ws)
-unfolding pieces
-pieces-at size i zero ws h = absurd (omega arith)
-pieces-at size zero (suc n) ws h = rw (mul-zero size)
-pieces-at size (suc i) (suc n) ws h = pieces-at size i n (drop size ws) (omega arith) ∙ ap (take size) (further size i ws)
 
 pub flat-append : (xs ys : List (List ℕ)) → flat (xs ++ ys) ≡ flat xs ++ flat ys
 unfolding flat

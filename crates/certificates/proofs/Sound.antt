@@ -7,15 +7,16 @@ use native.Mathlib.Omega.{arith}
 use lib.Dec.{leb, eqb}
 use lib.ListN.{length, getD, drop, length-drop}
 use borrow.Author.Tests.{leb-true, eqb-true, le-leb}
-use Rattle.rows.specs.Word.{All, Words}
+use Rattle.rows.specs.Word.{All, IsWord, Words}
 use Rattle.rows.specs.Ordered.{ascending}
 use Rattle.rows.specs.Row.{IsRow, isKey}
 use Rattle.rows.specs.Name.{isName, isPolarity}
 use Rattle.rows.specs.Layout.{soundRow, every}
 use Rattle.rows.proofs.Case.{Case, isTrue, isFalse, split, never, and-true, true-and}
 use Rattle.rows.proofs.Order.{words-order}
+use Rattle.rows.proofs.Lists.{all-drop}
 use Rattle.rows.proofs.Ordered.{Ascending, ascending-true, true-ascending}
-use Rattle.rows.proofs.LayoutLaws.{Sized, length-pieces, drop-words, row-is}
+use Rattle.rows.proofs.LayoutLaws.{Sized, length-pieces, row-is}
 use Rattle.certificates.specs.Certificate.{recordWords, soundRecord, certificateOf, recordBefore}
 use Rattle.certificates.specs.Store.{capacity, storeWords, countOf, records, soundStore}
 use Rattle.certificates.proofs.Pieces.{every-true, true-every, pieces-words}
@@ -46,7 +47,7 @@ pub about-row : (w : List ℕ) → soundRecord w ≡ true → Words w → IsRow 
 unfolding certificateOf
 about-row w e p =
     let s = sound-record w e in
-    row-is (drop 3 w) (omega (arith, length-drop 3 w, s .eight)) (s .row) (drop-words 3 w p)
+    row-is (drop 3 w) (omega (arith, length-drop 3 w, s .eight)) (s .row) (all-drop IsWord 3 w p)
 
 -- the records of a store
 pub records-length : (store : List ℕ) → length (records store) ≡ countOf store
@@ -55,7 +56,7 @@ records-length store = length-pieces recordWords (countOf store) (drop 1 store)
 
 pub records-words : (store : List ℕ) → Words store → All Words (records store)
 unfolding records
-records-words store p = pieces-words recordWords (countOf store) (drop 1 store) (drop-words 1 store p)
+records-words store p = pieces-words recordWords (countOf store) (drop 1 store) (all-drop IsWord 1 store p)
 
 abbrev pub AllSound : List (List ℕ) → Type 0
 AllSound = All (λ w. soundRecord w ≡ true)

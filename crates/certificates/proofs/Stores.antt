@@ -14,19 +14,19 @@ use Rattle.rows.specs.Layout.{flat, every, put}
 use Rattle.rows.proofs.Case.{Case, isTrue, isFalse, split}
 use Rattle.rows.proofs.Order.{words-order}
 use Rattle.rows.proofs.Ordered.{insert-length}
-use Rattle.rows.proofs.LayoutLaws.{flat-pieces}
+use Rattle.rows.proofs.LayoutLaws.{flat-pieces, piece-at}
 use Rattle.rows.proofs.Put.{put-then-before}
 use Rattle.certificates.specs.Certificate.{recordWords, soundRecord, recordBefore}
 use Rattle.certificates.specs.Store.{capacity, storeWords, countOf, records, soundStore, withRecords}
 use Rattle.certificates.specs.Steps.{recordAt, soundAt, placeIn, heldAt, putIn}
-use Rattle.certificates.proofs.Pieces.{pieces-at, pieces-take, pieces-drop, flat-append}
+use Rattle.certificates.proofs.Pieces.{pieces-take, pieces-drop, flat-append}
 use Rattle.certificates.proofs.Sound.{sound-store, records-length}
 use Rattle.certificates.proofs.Places.{leading-few, leading-stops, place-past, place-held, place-insert}
 
 -- record i of the store's words is the ith of its records
 pub record-at : (store : List ℕ) (i : ℕ) → i < countOf store → getD (records store) i [] ≡ recordAt store i
 unfolding records recordAt
-record-at store i h = pieces-at recordWords i (countOf store) (drop 1 store) h ∙ ap (take recordWords) (drop-drop (recordWords * i) 1 store)
+record-at store i h = piece-at recordWords (countOf store) (drop 1 store) i h ∙ ap (take recordWords) (drop-drop (recordWords * i) 1 store)
 
 records-from : (store : List ℕ) (i : ℕ) → i < countOf store → drop i (records store) ≡ recordAt store i ∷ drop (suc i) (records store)
 records-from store i h =

@@ -1,30 +1,29 @@
 -- The bounds that users rely on: the rows of an answer against every world in which the certificates held are true.
 use Prim.Native.Nat.{ℕ}
-use mathlib.Core.Path.{_≡_, refl, sym, _∙_, ap, subst}
+use mathlib.Core.Path.{_≡_, refl, sym, _∙_}
 use mathlib.Core.Logic.{_↔_}
 use mathlib.Core.List.{List, []}
 use lib.Dec.{T}
 use lib.ListN.{length}
-use Rattle.rows.specs.Word.{Words}
 use Rattle.rows.specs.Ordered.{_∈_}
 use Rattle.rows.specs.Row.{Row, IsRow}
 use Rattle.rows.specs.Name.{Polarity, plus, minus}
 use Rattle.rows.specs.Sets.{RowSet, has}
-use Rattle.rows.proofs.Case.{T-decided, _then_, iff-sym}
+use Rattle.rows.proofs.Case.{T-decided, _then_}
 use Rattle.certificates.specs.Certificate.{Certificate}
 use Rattle.policy.specs.Syntax.{Expr}
 use Rattle.policy.specs.Polarity.{hasPolarity, Verdict, exact, lower, upper}
-use Rattle.policy.specs.Judgement.{Checked, checked, unchecked, check}
+use Rattle.policy.specs.Judgement.{checked, check}
 use Rattle.policy.proofs.Judging.{AcceptedPair, check-accepted}
 use Rattle.meaning.specs.Evidence.{namesHeld}
 use Rattle.meaning.specs.World.{World, AllTrue, Minimal, AboutRows}
-use Rattle.meaning.specs.Belonging.{Meanings, Belongs, meanings, BelongsTo}
+use Rattle.meaning.specs.Belonging.{meanings, BelongsTo}
 use Rattle.meaning.proofs.Proper.{Tidy, read-tidy}
 use Rattle.meaning.proofs.Faithful.{read-rows}
 use Rattle.meaning.proofs.Monotone.{Below, Along, along-same, monotone}
 use Rattle.meaning.proofs.Minimal.{held-names-proper, minimal, minimal-is, minimal-true, minimal-below, held-shows}
 use Rattle.meaning.proofs.Exact.{read-same, read-steady}
-use Rattle.demands.specs.Query.{Outcome, answered, declined, readFrom, Call}
+use Rattle.demands.specs.Query.{answered, readFrom, Call}
 use Rattle.demands.specs.Demand2.{CallWords, InQuery}
 use Rattle.demands.specs.Demand3.{Bounds}
 use Rattle.demands.proofs.Definitions.{parsed-sound, no-values, ways, Reached, reached, none-agree, none-tidy}

@@ -6,22 +6,23 @@ use mathlib.Core.Logic.{_↔_}
 use mathlib.Core.List.{List, [], _∷_, _++_}
 use native.Mathlib.Omega.{arith}
 use lib.Dec.{T}
-use lib.ListN.{length, getD}
-use Rattle.rows.specs.Word.{All, IsWord, Words}
+use lib.ListN.{length}
+use Rattle.rows.specs.Word.{All, Words}
 use Rattle.rows.specs.Row.{Row, IsRow}
 use Rattle.rows.specs.Name.{plus}
-use Rattle.rows.specs.Sets.{RowSet, only, has, listing}
+use Rattle.rows.specs.Sets.{RowSet, has, listing}
 use Rattle.rows.proofs.Case.{iff-refl}
+use Rattle.rows.proofs.Lists.{length-snoc}
 use Rattle.rows.proofs.Sets.{none-proper}
 use Rattle.policy.specs.Syntax.{Expr}
 use Rattle.policy.specs.Words.{exprWords}
 use Rattle.policy.specs.WellFormed.{Fit}
 use Rattle.policy.specs.Decode.{parse, parsed}
-use Rattle.policy.specs.Polarity.{Known, unknown, Verdict}
+use Rattle.policy.specs.Polarity.{Known, Verdict}
 use Rattle.policy.specs.Table.{Entry, entryWords}
 use Rattle.policy.specs.Judgement.{knownOf}
 use Rattle.policy.proofs.Decoding.{parse-words, parse-fits}
-use Rattle.policy.proofs.Judging.{AcceptedDefinition, Accepted, none, one, entry-words}
+use Rattle.policy.proofs.Judging.{Accepted, none, one, entry-words}
 use Rattle.meaning.specs.Evidence.{Evidence}
 use Rattle.meaning.specs.Reading.{Answer, done, refused, read}
 use Rattle.meaning.specs.World.{World}
@@ -43,11 +44,6 @@ parsed-sound known ws e p w = record { fit = parse-fits known ws e p .fit; words
 pub no-values : Words []
 unfolding All
 no-values = tt
-
--- one more at the end of a list
-length-snoc {ℓ} : {A : Type ℓ} (xs : List A) (x : A) → length (xs ++ (x ∷ [])) ≡ suc (length xs)
-length-snoc [] x = refl
-length-snoc (y ∷ xs) x = ap suc (length-snoc xs x)
 
 tidy-snoc : (sets : List RowSet) → TidySets sets → (s : RowSet) → Tidy s → TidySets (sets ++ (s ∷ []))
 tidy-snoc [] t s h zero = h

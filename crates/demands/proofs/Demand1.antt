@@ -1,16 +1,15 @@
 -- Demand 1 holds.
-use Prim.Native.Nat.{ℕ, _<_, _≤_}
-use mathlib.Core.Path.{_≡_, refl, sym, _∙_, ap, subst}
+use Prim.Native.Nat.{ℕ}
+use mathlib.Core.Path.{_≡_, ap, subst}
 use mathlib.Core.Bool.{true, false}
 use mathlib.Core.List.{List}
 use native.Mathlib.Omega.{arith}
-use lib.Dec.{ltb}
 use lib.ListN.{length}
 use borrow.Author.Tests.{lt-ltb, le-ltb}
 use Rattle.rows.specs.Ordered.{_∈_, lists}
-use Rattle.rows.proofs.Case.{Case, isTrue, isFalse, split, never}
-use Rattle.certificates.specs.Certificate.{soundRecord, recordBefore}
-use Rattle.certificates.specs.Store.{capacity, countOf, records, soundStore}
+use Rattle.rows.proofs.Case.{Case, isTrue, isFalse, split}
+use Rattle.certificates.specs.Certificate.{recordBefore}
+use Rattle.certificates.specs.Store.{capacity, records, soundStore}
 use Rattle.certificates.specs.Filing.{FilingReply, refused, replyGiven, fileReply, storeBy, storeAfter}
 use Rattle.certificates.proofs.Sound.{records-length, sound-store}
 use Rattle.certificates.proofs.Filings.{listed, not-listed, Replied, unsound, known, full, new, replied}

@@ -1,20 +1,16 @@
 -- Demand 2 holds: an answer has the judgement's verdict, a sound layout, and the rows that belong to the query in the minimal model.
 use Prim.Native.Nat.{ℕ}
-use mathlib.Core.Path.{_≡_, refl, sym, _∙_, ap, subst}
-use mathlib.Core.Logic.{_⊎_, inl, inr, _↔_}
-use mathlib.Core.Bool.{true}
-use mathlib.Core.List.{List, [], _∷_, _++_, map}
+use mathlib.Core.Path.{refl, sym, _∙_, ap, subst}
+use mathlib.Core.List.{List, _++_, map}
 use lib.ListN.{drop}
 use Rattle.rows.specs.Word.{All, Words}
-use Rattle.rows.specs.Ordered.{_∈_}
 use Rattle.rows.specs.Row.{IsRow}
-use Rattle.rows.specs.Sets.{RowSet, listing}
+use Rattle.rows.specs.Sets.{RowSet}
 use Rattle.rows.specs.Layout.{setWords, written}
-use Rattle.rows.proofs.Case.{Case, isTrue, isFalse, split}
-use Rattle.rows.proofs.Ordered.{all-in}
+use Rattle.rows.proofs.Lists.{all-in, map-∈}
 use Rattle.rows.proofs.LayoutLaws.{set-length, written-sound, written-reads}
 use Rattle.certificates.specs.Certificate.{Certificate, certificateOf}
-use Rattle.certificates.specs.Store.{records, soundStore, certificates}
+use Rattle.certificates.specs.Store.{records, certificates}
 use Rattle.certificates.proofs.Sound.{AllSound, about-row, records-words, sound-store}
 use Rattle.policy.specs.Polarity.{Verdict}
 use Rattle.policy.proofs.Judging.{judge-checked}
@@ -22,23 +18,10 @@ use Rattle.meaning.specs.Evidence.{namesHeld}
 use Rattle.meaning.specs.World.{AboutRows}
 use Rattle.meaning.proofs.Proper.{Tidy}
 use Rattle.meaning.proofs.Minimal.{minimal, minimal-is}
-use Rattle.demands.specs.Query.{answered, Call, queryCall, answerArea}
-use Rattle.demands.specs.Demand2.{CallWords, LaidOut, Answer, Demand2, Theorem}
+use Rattle.demands.specs.Query.{answered, Call, answerArea}
+use Rattle.demands.specs.Demand2.{CallWords, LaidOut, Answer, Theorem}
 use Rattle.demands.proofs.Bounds.{in-query, in-minimal, answer-tidy}
 use Rattle.demands.proofs.Outcome.{AnsweredBy, answered-by, answered-sound, call-reads, roomy-answer}
-
--- the images of a list's elements
-pub map-∈ : {A B : Type 0} (f : A → B) (xs : List A) (y : B) → (y ∈ map f xs) ↔ ((x : A) × (x ∈ xs) × (y ≡ f x))
-unfolding _∈_
-map-∈ f [] y = (λ t. absurd t, λ t. t .1)
-map-∈ f (x ∷ xs) y = (
-  λ t. elim t [ inl e ↦ (x, inl refl, e) | inr i ↦ (let z = map-∈ f xs y .0 i in (z .0, inr (z .1), z .2)) ],
-  λ t. back t (t .1) (map-∈ f xs y .1),
-)
-  where
-    back : (t : (z : _) × ((z ≡ x) ⊎ (z ∈ xs)) × (y ≡ f z)) → (t .0 ≡ x) ⊎ (t .0 ∈ xs) → ((z : _) × (z ∈ xs) × (y ≡ f z) → y ∈ map f xs) → (y ≡ f x) ⊎ (y ∈ map f xs)
-    back t (inl e) ih = inl (t .2 ∙ ap f e)
-    back t (inr i) ih = inr (ih (t .0, i, t .2))
 
 -- records that are sound and words are about rows
 pub records-about : (rs : List (List ℕ)) → AllSound rs → All Words rs → AboutRows (map certificateOf rs)

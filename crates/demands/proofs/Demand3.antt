@@ -1,14 +1,13 @@
 -- Demand 3 holds.
 use Prim.Native.Nat.{ℕ}
-use mathlib.Core.Path.{_≡_, refl, sym, _∙_, ap, subst}
-use mathlib.Core.Logic.{_⊎_, inl, inr, _↔_}
-use mathlib.Core.List.{List, [], _∷_, _++_, map}
+use mathlib.Core.Path.{_≡_, sym, _∙_, ap, subst}
+use mathlib.Core.Logic.{_↔_}
+use mathlib.Core.List.{List, []}
 use Rattle.rows.specs.Word.{All, Words}
 use Rattle.rows.specs.Ordered.{_∈_}
-use Rattle.rows.specs.Row.{IsRow}
 use Rattle.rows.specs.Sets.{RowSet}
 use Rattle.rows.proofs.Case.{_then_, iff-sym}
-use Rattle.rows.proofs.Ordered.{all-in}
+use Rattle.rows.proofs.Lists.{all-left, map-∈}
 use Rattle.certificates.specs.Certificate.{Certificate, certificateOf}
 use Rattle.certificates.specs.Store.{records, certificates}
 use Rattle.certificates.specs.Filing.{storeAt, accepted, acceptedFrom}
@@ -18,14 +17,13 @@ use Rattle.policy.specs.Polarity.{Verdict}
 use Rattle.policy.specs.Judgement.{check, checked}
 use Rattle.meaning.specs.Evidence.{namesHeld}
 use Rattle.meaning.specs.World.{AboutRows}
-use Rattle.meaning.proofs.Rows.{all-left}
 use Rattle.meaning.proofs.Minimal.{same-names}
 use Rattle.demands.specs.Query.{answered, readFrom, Call, outcomeFrom, queryCall}
 use Rattle.demands.specs.Demand2.{CallWords}
-use Rattle.demands.specs.Demand3.{EmptyStore, Point, Earlier, heldAfter, Holds, Bounds, Grows, Demand3, Theorem}
+use Rattle.demands.specs.Demand3.{EmptyStore, Point, Earlier, heldAfter, Grows, Theorem}
 use Rattle.demands.proofs.Bounds.{bounds, lower-grows, upper-shrinks, exact-stays}
 use Rattle.demands.proofs.Outcome.{call-reads, AnsweredBy, answered-by, outcome-declined, outcome-answered}
-use Rattle.demands.proofs.Demand2.{map-∈, records-about, answer-is}
+use Rattle.demands.proofs.Demand2.{records-about, answer-is}
 
 -- what was accepted is about rows
 held-about : (passed : List (List ℕ)) → All Words passed → AboutRows (heldAfter passed)

@@ -1,8 +1,8 @@
 -- A query call taken apart: answered, or declined by a refusal that applies.
 use Prim.Native.Nat.{ℕ, _≤_}
 use mathlib.Core.Path.{_≡_, refl, sym, _∙_, ap, subst}
-use mathlib.Core.Logic.{_⊎_, inl, inr, _↔_}
-use mathlib.Core.Bool.{Bool, true, false, _&&_}
+use mathlib.Core.Logic.{_↔_}
+use mathlib.Core.Bool.{Bool, true, false}
 use mathlib.Core.List.{List, [], _∷_, _++_}
 use native.Mathlib.Omega.{arith}
 use lib.Dec.{leb}
@@ -11,7 +11,7 @@ use borrow.Author.Tests.{leb-true}
 use Rattle.refusals.specs.Table.{badStore, shortArea, noPart}
 use Rattle.rows.specs.Sets.{RowSet}
 use Rattle.rows.specs.Layout.{setRoom}
-use Rattle.rows.proofs.Case.{Case, isTrue, isFalse, split, never, and-true}
+use Rattle.rows.proofs.Case.{Case, isTrue, isFalse, split, and-true}
 use Rattle.certificates.specs.Store.{soundStore, certificates}
 use Rattle.policy.specs.Syntax.{Expr}
 use Rattle.policy.specs.Polarity.{Verdict}

@@ -1,5 +1,5 @@
 -- The query call's way through the definitions: what is left to read, and that it reads on as the definition of reading does.
-use Prim.Native.Nat.{ℕ, zero, suc, _+_, _*_, _≤_, _<_}
+use Prim.Native.Nat.{ℕ, suc, _+_, _*_, _≤_, _<_}
 use mathlib.Core.Path.{_≡_, refl, sym, _∙_, ap, subst}
 use mathlib.Core.List.{List, [], _∷_, _++_}
 use native.Mathlib.Omega.{arith}
@@ -8,19 +8,20 @@ use lib.ListN.{length, getD, drop, drop-of-length-le}
 use lib.Seq.{drop-cons}
 use Rattle.refusals.specs.Table.{queryPart}
 use Rattle.rows.specs.Sets.{RowSet}
-use Rattle.rows.specs.Layout.{setRoom, setIn, setWords, put, written}
+use Rattle.rows.specs.Layout.{setIn, setWords, put, written}
+use Rattle.rows.proofs.Lists.{length-snoc}
 use Rattle.policy.specs.Syntax.{Expr}
 use Rattle.policy.specs.Decode.{parse, parsed}
-use Rattle.policy.specs.Polarity.{Known, Verdict, verdictWord}
+use Rattle.policy.specs.Polarity.{Known, Verdict}
 use Rattle.policy.specs.Table.{Entry, table, readTable}
 use Rattle.policy.specs.Judgement.{checked, check, knownOf}
 use Rattle.policy.specs.Part.{noEntry, partWords}
 use Rattle.judging.proofs.PartAnswers.{table-sound, definition-part}
-use Rattle.policy.proofs.Judging.{AcceptedDefinition, Accepted, none, one, AcceptedPair, check-accepted}
+use Rattle.policy.proofs.Judging.{AcceptedDefinition, Accepted, none, one, check-accepted}
 use Rattle.meaning.specs.Evidence.{Evidence}
-use Rattle.meaning.specs.Reading.{Answer, done, refused, read}
+use Rattle.meaning.specs.Reading.{done, refused, read}
 use Rattle.leaves.specs.Areas.{Filled, setsIn}
-use Rattle.reading.specs.Readers.{From, SoundFrom, AskWhole, SayWhole}
+use Rattle.reading.specs.Readers.{From, AskWhole, SayWhole}
 use Rattle.leaves.specs.Leaves.{setAnswer, IfDone}
 use Rattle.leaves.specs.declared.values.Read.{Read}
 use Rattle.leaves.specs.declared.values.Read.the-variants as read
@@ -30,7 +31,7 @@ use Rattle.engine.specs.declared.Progress.{Progress}
 use Rattle.engine.specs.declared.Progress.the-variants.{Done, Stopped}
 use Rattle.engine.specs.declared.Reply.the-variants.{Answered, Refused}
 use Rattle.engine.specs.Steps.{namesIn, Ready, Placed, goesOn, PlacedIf, ReadDefinitions, ReadAll}
-use Rattle.engine.proofs.Placing.{sets-length, after-length, placed-more, sets-more}
+use Rattle.engine.proofs.Placing.{sets-length, placed-more, sets-more}
 
 -- ---- what is left to read when d definitions are read
 
@@ -48,10 +49,6 @@ pub all-left : (policy query : List ℕ) (es : List Expr) (q : Expr) (v : Verdic
 all-left policy query es q v h =
     let a = check-accepted policy query es q v h in
     record { entries = a .entries; listed = a .listed; xs = a .entries; ks = []; ls = a .known; accepted = a .definitions; known = refl; left = refl }
-
-length-snoc : {A : Type 0} (xs : List A) (x : A) → length (xs ++ (x ∷ [])) ≡ suc (length xs)
-length-snoc [] x = refl
-length-snoc (y ∷ xs) x = ap suc (length-snoc xs x)
 
 -- the first of several
 record First (policy : List ℕ) (x : Entry) (xs : List Entry) (ks : List Known) (es : List Expr) (ls : List Known) : Type 0 where

@@ -15,7 +15,7 @@ use Rattle.rows.specs.Row.{rowBefore}
 use Rattle.rows.specs.Sets.{RowSet}
 use Rattle.rows.specs.Layout.{setRoom, rowIn, soundRow, pieces, every, rowsIn, formed, setIn, setWords, soundSet, put, written}
 use Rattle.rows.proofs.Case.{Case, isTrue, isFalse, split}
-use Rattle.rows.proofs.LayoutLaws.{Sound, true-sound, sound-true, sound-length, sound-few, sound-written}
+use Rattle.rows.proofs.LayoutLaws.{true-sound, sound-true, sound-length, sound-written}
 use Rattle.leaves.specs.Areas.{Filled, setsIn}
 use Rattle.leaves.proofs.Areas.{SameFront, set-same, filled-same}
 use Rattle.engine.specs.Steps.{Placed}

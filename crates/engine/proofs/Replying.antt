@@ -1,7 +1,7 @@
 -- The query call's replies, one law for each way that it returns.
 use Prim.Native.Nat.{ℕ, _≤_}
 use mathlib.Core.Path.{_≡_, refl, sym, _∙_, ap}
-use mathlib.Core.Bool.{true, false, _&&_}
+use mathlib.Core.Bool.{true, false}
 use mathlib.Core.List.{List, []}
 use native.Mathlib.Omega.{arith}
 use lib.Dec.{leb}
@@ -11,9 +11,8 @@ use Rattle.refusals.specs.Table.{badStore, shortArea, noPart}
 use Rattle.rows.specs.Layout.{setRoom}
 use Rattle.rows.proofs.Case.{and-true}
 use Rattle.certificates.specs.Store.{soundStore}
-use Rattle.policy.specs.Syntax.{Expr}
 use Rattle.policy.specs.Polarity.{Verdict, verdictWord}
-use Rattle.policy.specs.Judgement.{checked, check, JudgementReply, verdict, refused, judge}
+use Rattle.policy.specs.Judgement.{JudgementReply, verdict, refused, judge}
 use Rattle.judging.specs.Reply.{judgementOf}
 use Rattle.judging.specs.declared.Judgement.the-variants as judgement
 use Rattle.policy.proofs.Judging.{judge-checked}

@@ -7,10 +7,12 @@ use native.Mathlib.Omega.{arith}
 use lib.ListN.{length, getD, take, drop}
 use Rattle.refusals.specs.Table.{queryPart, noPart}
 use Rattle.rows.specs.Name.{plus, minus}
+use Rattle.rows.proofs.Lists.{all-at}
 use Rattle.policy.specs.Syntax.{Expr}
 use Rattle.policy.specs.Decode.{Parsed, parsed, unparsed}
 use Rattle.policy.specs.Polarity.{Known, hasPolarity, openExpr, verdictWord}
 use Rattle.policy.specs.Table.{Entry, entryAt, entryWords, table, noTable, readTable}
+use Rattle.policy.specs.Part.{noEntry}
 use Rattle.judging.specs.Entries.{entryPlace, entriesFrom, tableIs}
 use Rattle.policy.specs.Judgement.{Checked, checked, unchecked, checkDefinition, checkQuery, verdictOf, knownOf, withDefinition, checkFrom, check, replyOf, judge}
 use Rattle.checker.specs.Checks.{factsOf, knownIn, wholeOf, definitionParsed, knownAs}
@@ -24,7 +26,7 @@ use Rattle.judging.specs.declared.table.TableRead.{TableRead}
 use Rattle.judging.specs.declared.table.TableRead.the-variants as tableRead
 use Rattle.policy.proofs.Basics.{impossible}
 use Rattle.checker.proofs.CheckAnswers.{known-count}
-use Rattle.judging.proofs.PartAnswers.{table-sound, length-entries, entry-in, all-at}
+use Rattle.judging.proofs.PartAnswers.{table-sound, length-entries, entry-in}
 
 -- a table of n definitions
 pub record Listed (p : List ℕ) (n : ℕ) : Type 0 where
@@ -39,7 +41,7 @@ listed-of p n e =
     record {
       few = omega (arith, t .header .count);
       fits = omega (arith, t .header .fits);
-      parts = λ i h. subst (λ x. x .offset + x .size ≤ length p) (entry-in n p 2 i h) (all-at (λ x. x .offset + x .size ≤ length p) (entriesFrom n p 2) (t .parts) i (omega (arith, length-entries n p 2)));
+      parts = λ i h. subst (λ x. x .offset + x .size ≤ length p) (entry-in n p 2 i h) (all-at (λ x. x .offset + x .size ≤ length p) (entriesFrom n p 2) (t .parts) i noEntry (omega (arith, length-entries n p 2)));
     }
 
 -- a definition's words, at places known by other names

@@ -10,6 +10,7 @@ use borrow.Author.Tests.{eq-eqb, ne-eqb, lt-ltb, le-ltb, ltb-true}
 use Rattle.refusals.specs.Table.{badTable, badHeader}
 use Rattle.rows.specs.Word.{All}
 use Rattle.rows.proofs.Case.{Case, isTrue, isFalse, split}
+use Rattle.rows.proofs.Lists.{all-at}
 use Rattle.policy.specs.Table.{Entry, entryAt, entryWords, Table, table, noTable, soundEntry, push, entries, soundHeader, readTable}
 use Rattle.policy.specs.Part.{inPolicy, wholeQuery, nowhere, noEntry, placeAmong, placeOf, wordsAt, partWords}
 use Rattle.policy.specs.Part as Part
@@ -108,12 +109,6 @@ module _ (policy : List ℕ) (number count : ℕ) (sound : table (entriesFrom co
         (ap (λ (y : Entry). inPolicy (y .offset) (y .size)) (sym x)))
 
 -- a part lies inside the policy
-pub all-at : (P : Entry → Type 0) (xs : List Entry) → All P xs → (i : ℕ) → i < length xs → P (getD xs i noEntry)
-unfolding All
-all-at P [] a i h = absurd (omega arith)
-all-at P (x ∷ xs) a zero h = a .0
-all-at P (x ∷ xs) a (suc i) h = all-at P xs (a .1) i (omega arith)
-
 in-policy : (a b c d : ℕ) → inPolicy a b ≡ inPolicy c d → (a ≡ c) × (b ≡ d)
 in-policy a b c d e = (cc, cc)
 
@@ -137,7 +132,7 @@ place-inside policy number start size e = go (readTable policy) refl (split (eqb
             let z = in-policy start size _ _ g in
             let z₀ = z .0 in
             let z₁ = z .1 in
-            let p = all-at (λ x. x .offset + x .size ≤ length policy) xs (table-sound policy xs f .parts) number (ltb-true number (length xs) l) in
+            let p = all-at (λ x. x .offset + x .size ≤ length policy) xs (table-sound policy xs f .parts) number noEntry (ltb-true number (length xs) l) in
             omega arith
         pick (isFalse l) =
             let g : inPolicy start size ≡ inPolicy 0 0 = rw (b, l, placeAmong) at (rw (f, placeOf) at e) in

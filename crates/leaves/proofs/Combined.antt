@@ -14,7 +14,8 @@ use Rattle.rows.specs.Sets.{RowSet, only, allBut, listing, unite, subtract}
 use Rattle.rows.specs.Layout.{setIn, written}
 use Rattle.algebra.specs.Combined.{leftBy, Combined}
 use Rattle.rows.proofs.Order.{row-order}
-use Rattle.rows.proofs.Ordered.{Ascending, all-in, all-of, join-∈, keep-∈, join-ascending, keep-ascending}
+use Rattle.rows.proofs.Lists.{all-in, all-of}
+use Rattle.rows.proofs.Ordered.{Ascending, join-∈, keep-∈, join-ascending, keep-ascending}
 use Rattle.meaning.specs.Reading.{done}
 use Rattle.leaves.specs.Areas.{Filled}
 use Rattle.leaves.specs.Leaves.{setAnswer, IfDone, combined, SayCombined}

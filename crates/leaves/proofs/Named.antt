@@ -20,11 +20,12 @@ use Rattle.sets.specs.Values.{wordsOf, rowOf}
 use Rattle.sets.specs.declared.row.Row as Held-row
 use Rattle.rows.proofs.Case.{Case, isTrue, isFalse, split, _then_}
 use Rattle.rows.proofs.Order.{row-order}
-use Rattle.rows.proofs.Ordered.{Ascending, all-in, all-of, join-∈, join-ascending, ascending-unique}
+use Rattle.rows.proofs.Lists.{all-in, all-of, all-take}
+use Rattle.rows.proofs.Ordered.{Ascending, join-∈, join-ascending, ascending-unique}
 use Rattle.rows.proofs.LayoutLaws.{piece-at, length-pieces, row-length, row-width, sound-width, formed-listing, formed-word}
 use Rattle.sets.proofs.RowLaws.{five-length, five-width, loaded-row, loaded-width}
 use Rattle.rows.proofs.Put.{put-length, put-none, put-then-after}
-use Rattle.sets.proofs.Laid.{drop-take, Narrow, laid-length, laid-append, narrow-take, written-count}
+use Rattle.sets.proofs.Laid.{drop-take, Narrow, laid-length, laid-append, written-count}
 use Rattle.certificates.specs.Certificate.{Certificate, soundRecord, certificateOf}
 use Rattle.certificates.specs.Store.{records, soundStore, certificates}
 use Rattle.certificates.specs.NamePart.{ofName, namePart}
@@ -101,7 +102,7 @@ module _ {rs : List ℕ} {count : ℕ} (records : Records rs count) where
   narrow = all-of (λ (r : Row). length r ≤ 4) _ (λ x j. all-in Wide _ rows-of-records-wide x j .few)
 
   laid-here : (i : ℕ) → i ≤ count → length (laid (take i (recordRows rs count))) ≡ 5 * i
-  laid-here i h = omega (arith, laid-length (take i (recordRows rs count)) (narrow-take i _ narrow), length-take-le i (recordRows rs count) (omega (arith, many)))
+  laid-here i h = omega (arith, laid-length (take i (recordRows rs count)) (all-take _ i _ narrow), length-take-le i (recordRows rs count) (omega (arith, many)))
 
   module _ {entry : List ℕ} (long : 642 ≤ length entry) where
     pub copying-next : {area : List ℕ} {i : ℕ} → Copying rs count entry area i → i < count → (r : Held-row.Row) → wordsOf r ≡ fiveAt rs (8 * i + 3) → (now : List ℕ) → now ≡ put (2 + 5 * i) (rowWords (rowOf r)) area → Copying rs count entry now (i + 1)

@@ -14,7 +14,8 @@ use Rattle.rows.specs.Sets.{RowSet, listing}
 use Rattle.rows.specs.Layout.{rowWords, rowIn, soundRow, pieces, every, formWord, setWords, written, rowsIn, formed, setIn, soundSet}
 use Rattle.rows.proofs.Case.{and-true, true-and}
 use Rattle.rows.proofs.Order.{row-order}
-use Rattle.rows.proofs.Ordered.{Ascending, all-in, all-of, insert-∈, insert-ascending, true-ascending}
+use Rattle.rows.proofs.Lists.{all-in, all-of}
+use Rattle.rows.proofs.Ordered.{Ascending, insert-∈, insert-ascending, true-ascending}
 use Rattle.rows.proofs.LayoutLaws.{Sized, pieces-flat, row-length, row-sound, row-width, sound-width, rows-read, form-formed, form-small, formed-listing, formed-word, listing-in, flat-length, written-length, true-sound, sound-true, sound-few}
 use Rattle.sets.proofs.SetWords.{sound-ascending}
 use Rattle.rows.proofs.Put.{put-after}

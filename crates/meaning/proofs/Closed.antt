@@ -1,21 +1,21 @@
 -- What is not open is read as a finite set, so a checked draw never meets a complement: refusal 12 is not reached.
 use Prim.Native.Nat.{ℕ, _+_}
-use mathlib.Core.Path.{_≡_, refl, sym, _∙_, ap, subst}
-use mathlib.Core.Logic.{_⊎_, inl, inr}
+use mathlib.Core.Path.{_≡_, subst}
+use mathlib.Core.Logic.{inl, inr}
 use mathlib.Core.Bool.{Bool, true, false, not, _&&_, _||_}
 use mathlib.Core.Option.{Option, none, some}
-use mathlib.Core.List.{List, [], _∷_, _++_}
+use mathlib.Core.List.{List, [], _∷_}
 use native.Mathlib.Omega.{arith}
 use lib.Dec.{T, eqb, ltb, leb}
 use lib.ListN.{length, getD}
 use Rattle.refusals.specs.Table.{complementDrawn}
 use Rattle.rows.specs.Ordered.{insert}
 use Rattle.rows.specs.Row.{Row, isKey, rowBefore}
-use Rattle.rows.specs.Name.{Polarity, plus, minus, samePolarity}
+use Rattle.rows.specs.Name.{plus, minus}
 use Rattle.rows.specs.Sets.{RowSet, only, allBut, listing, mostRows, has, unite, subtract}
 use Rattle.rows.proofs.Case.{T-left, T-right}
 use Rattle.certificates.specs.Certificate.{Certificate}
-use Rattle.policy.specs.Syntax.{Term, Slot, Expr, finite, cofinite, definition, listed, union, difference, comprehension, Body, head, draw, same, different, absent}
+use Rattle.policy.specs.Syntax.{Slot, Expr, finite, cofinite, definition, listed, union, difference, comprehension, Body, head, draw, same, different, absent}
 use Rattle.policy.specs.Polarity.{Known, unknown, openExpr, drawsClosed, guardsClosed}
 use Rattle.meaning.specs.Values.{Values, value, rowOf}
 use Rattle.meaning.specs.Evidence.{Evidence, certified, namesHeld}

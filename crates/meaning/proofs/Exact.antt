@@ -1,22 +1,22 @@
 -- An expression with both polarities names no list and no definition: its reading is the same whatever is held. And the value that is read never
 -- depends on the draws made before.
-use Prim.Native.Nat.{ℕ, zero, suc}
-use mathlib.Core.Path.{_≡_, refl, sym, _∙_, ap, subst}
-use mathlib.Core.Bool.{Bool, true, false, _&&_}
+use Prim.Native.Nat.{ℕ}
+use mathlib.Core.Path.{_≡_, refl, sym, _∙_, subst}
+use mathlib.Core.Bool.{Bool, true, false}
 use mathlib.Core.Option.{Option, none, some}
-use mathlib.Core.List.{List, [], _∷_, _++_}
+use mathlib.Core.List.{List, [], _∷_}
 use lib.Dec.{T, eqb}
-use lib.ListN.{length, getD}
+use lib.ListN.{getD}
 use Rattle.rows.specs.Ordered.{insert}
 use Rattle.rows.specs.Row.{Row, rowBefore}
-use Rattle.rows.specs.Name.{Polarity, plus, minus, opposite, samePolarity}
+use Rattle.rows.specs.Name.{Polarity, plus, minus, samePolarity}
 use Rattle.rows.specs.Sets.{RowSet, only, allBut, has, unite, subtract}
 use Rattle.rows.proofs.Case.{T-left, T-right}
-use Rattle.policy.specs.Syntax.{Term, Slot, Expr, finite, cofinite, definition, listed, union, difference, comprehension, Body, head, draw, same, different, absent}
+use Rattle.policy.specs.Syntax.{Slot, Expr, finite, cofinite, definition, listed, union, difference, comprehension, Body, head, draw, same, different, absent}
 use Rattle.policy.specs.Polarity.{Known, unknown, hasPolarity, guardsHave}
 use Rattle.meaning.specs.Values.{Values, value, rowOf}
 use Rattle.meaning.specs.Evidence.{Evidence}
-use Rattle.meaning.specs.Reading.{Answer, done, refused, Reading, after, within, small, drawable, tick, rowsOf, match, onMatch, drawEach, read, gather}
+use Rattle.meaning.specs.Reading.{done, Reading, after, within, small, drawable, tick, rowsOf, match, onMatch, drawEach, read, gather}
 use Rattle.meaning.proofs.Steps.{done-value, after-done, after-same, either, small-done, within-done, drawable-done}
 
 not-both : (q : Polarity) → T (samePolarity q plus) → T (samePolarity q minus) → ⊥

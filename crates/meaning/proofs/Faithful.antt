@@ -1,6 +1,6 @@
 -- What is read is what belongs: where the evidence shows a world's lists, a set that is read has just the rows that belong to the expression in
 -- that world.
-use Prim.Native.Nat.{ℕ, zero, suc, _+_}
+use Prim.Native.Nat.{ℕ, suc, _+_}
 use mathlib.Core.Path.{_≡_, refl, sym, _∙_, ap, subst}
 use mathlib.Core.Logic.{_⊎_, inl, inr, _↔_}
 use mathlib.Core.Bool.{Bool, true, false}
@@ -11,24 +11,25 @@ use lib.Dec.{T, eqb}
 use lib.ListN.{length, getD}
 use borrow.Author.Tests.{eqb-true, eq-eqb}
 use Rattle.rows.specs.Word.{All, IsWord, Words}
-use Rattle.rows.specs.Ordered.{_∈_, insert}
+use Rattle.rows.specs.Ordered.{_∈_}
 use Rattle.rows.specs.Row.{Row, IsRow, rowBefore}
 use Rattle.rows.specs.Name.{Polarity}
 use Rattle.rows.specs.Sets.{RowSet, only, allBut, has, unite, subtract}
 use Rattle.rows.proofs.Case.{Case, isTrue, isFalse, split, T-eqb, _then_, iff-refl, both-or, both-not, both-and-not, swap-or}
 use Rattle.rows.proofs.Order.{row-order}
-use Rattle.rows.proofs.Ordered.{all-in, insert-∈}
+use Rattle.rows.proofs.Lists.{all-in, all-left, all-right}
+use Rattle.rows.proofs.Ordered.{insert-∈}
 use Rattle.rows.proofs.Sets.{only-iff, allBut-iff, unite-iff, subtract-iff}
 use Rattle.policy.specs.Syntax.{Term, Slot, old, new, Expr, finite, cofinite, definition, listed, union, difference, comprehension, Body, head, draw, same, different, absent}
-use Rattle.policy.specs.Words.{each, termWords, termRowWords, slotWords, fresh, exprWords, bodyWords}
+use Rattle.policy.specs.Words.{termWords, termRowWords, slotWords, fresh, exprWords, bodyWords}
 use Rattle.policy.specs.WellFormed.{Fit, FitBody}
 use Rattle.meaning.specs.Values.{Values, value, rowOf}
 use Rattle.meaning.specs.Evidence.{Evidence}
-use Rattle.meaning.specs.Reading.{Answer, done, refused, Reading, after, within, small, drawable, tick, rowsOf, match, onMatch, drawEach, read, gather}
+use Rattle.meaning.specs.Reading.{done, Reading, drawable, tick, rowsOf, match, onMatch, drawEach, read, gather}
 use Rattle.meaning.specs.World.{World}
 use Rattle.meaning.specs.Belonging.{InList, fill, Matches, Meanings, Belongs, Passes}
 use Rattle.meaning.proofs.Steps.{done-value, after-done, either, small-done, within-done, drawable-done}
-use Rattle.meaning.proofs.Rows.{all-left, all-right, row-of-terms, match-words}
+use Rattle.meaning.proofs.Rows.{row-of-terms, match-words}
 use Rattle.meaning.proofs.Proper.{Tidy, ProperNames, TidySets, read-tidy}
 
 -- the evidence shows what the world's lists have

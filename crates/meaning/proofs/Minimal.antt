@@ -1,12 +1,11 @@
 -- The minimal model of some certificates is a world, all of them are true in it, it lies below every world where they are true, and the names
 -- held show it.
 use Prim.Native.Nat.{ℕ}
-use mathlib.Core.Path.{_≡_, refl, sym, _∙_, ap, subst, fun-ext}
+use mathlib.Core.Path.{_≡_, refl, sym, ap, subst, fun-ext}
 use mathlib.Core.Logic.{_⊎_, inl, inr, _↔_}
 use mathlib.Core.Bool.{Bool, true, false, _&&_}
 use mathlib.Core.List.{List, [], _∷_}
 use lib.Dec.{T, eqb}
-use Rattle.rows.specs.Word.{All}
 use Rattle.rows.specs.Ordered.{_∈_, insert}
 use Rattle.rows.specs.Row.{Row, IsRow, isKey, rowBefore}
 use Rattle.rows.specs.Name.{Polarity, plus, minus, samePolarity}
@@ -16,8 +15,8 @@ use Rattle.rows.proofs.Order.{row-order}
 use Rattle.rows.proofs.Ordered.{insert-∈, ascending-unique}
 use Rattle.rows.proofs.Sets.{Proper, none-proper, insert-proper, only-iff, allBut-iff}
 use Rattle.certificates.specs.Certificate.{Certificate}
-use Rattle.meaning.specs.Evidence.{Evidence, isOf, certified, namesHeld}
-use Rattle.meaning.specs.World.{World, Says, TrueIn, AllTrue, Certified, Minimal, AboutRows}
+use Rattle.meaning.specs.Evidence.{isOf, certified, namesHeld}
+use Rattle.meaning.specs.World.{World, Says, AllTrue, Certified, Minimal, AboutRows}
 use Rattle.meaning.specs.Belonging.{InList}
 use Rattle.meaning.proofs.Monotone.{Below, same-polarity}
 use Rattle.meaning.proofs.Proper.{ProperNames}

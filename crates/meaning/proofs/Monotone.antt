@@ -1,21 +1,20 @@
 -- Monotonicity (the source's Theorem 1): where one world lies below another, what belongs to an expression that has + grows, and what belongs to one
 -- that has − shrinks. One statement, indexed by the polarity.
-use Prim.Native.Nat.{ℕ, zero, suc}
-use mathlib.Core.Path.{_≡_, refl, sym, ap, subst}
+use Prim.Native.Nat.{ℕ}
+use mathlib.Core.Path.{_≡_, refl, subst}
 use mathlib.Core.Logic.{_⊎_, inl, inr}
-use mathlib.Core.Bool.{Bool, true, false, _&&_}
-use mathlib.Core.List.{List, [], _∷_, _++_}
+use mathlib.Core.List.{List, _++_}
 use lib.Dec.{T}
-use lib.ListN.{length, getD}
+use lib.ListN.{getD}
 use Rattle.rows.specs.Ordered.{_∈_}
-use Rattle.rows.specs.Row.{Row, IsRow, isKey}
+use Rattle.rows.specs.Row.{Row}
 use Rattle.rows.specs.Name.{Polarity, plus, minus, opposite, samePolarity}
 use Rattle.rows.proofs.Case.{T-left, T-right}
-use Rattle.policy.specs.Syntax.{Term, Slot, Expr, finite, cofinite, definition, listed, union, difference, comprehension, Body, head, draw, same, different, absent}
+use Rattle.policy.specs.Syntax.{Slot, Expr, finite, cofinite, definition, listed, union, difference, comprehension, Body, head, draw, same, different, absent}
 use Rattle.policy.specs.Polarity.{Known, unknown, hasPolarity, guardsHave}
 use Rattle.meaning.specs.Values.{Values, value, rowOf}
 use Rattle.meaning.specs.World.{World}
-use Rattle.meaning.specs.Belonging.{InList, Matches, Meanings, Belongs, Passes}
+use Rattle.meaning.specs.Belonging.{InList, Meanings, Belongs, Passes}
 
 -- from A to B for +, back for −. (A record, so that A and B can be implicit below.)
 abbrev pub Way : Polarity → Type 0 → Type 0 → Type 0

@@ -1,9 +1,9 @@
 -- Every set that is read lists rows alone, in ascending order, at most 128 of them: it has a layout.
-use Prim.Native.Nat.{ℕ, zero, suc, _+_, _≤_}
-use mathlib.Core.Path.{_≡_, refl, sym, _∙_, ap, subst}
+use Prim.Native.Nat.{ℕ, _+_, _≤_}
+use mathlib.Core.Path.{_≡_, refl, subst}
 use mathlib.Core.Bool.{Bool, true, false}
 use mathlib.Core.Option.{Option, none, some}
-use mathlib.Core.List.{List, [], _∷_, _++_}
+use mathlib.Core.List.{List, [], _∷_}
 use native.Mathlib.Omega.{arith}
 use lib.Dec.{eqb}
 use lib.ListN.{length, getD}
@@ -11,15 +11,16 @@ use Rattle.rows.specs.Word.{All, IsWord, Words}
 use Rattle.rows.specs.Ordered.{insert}
 use Rattle.rows.specs.Row.{Row, IsRow, rowBefore}
 use Rattle.rows.specs.Sets.{RowSet, only, allBut, listing, mostRows, has, unite, subtract}
+use Rattle.rows.proofs.Lists.{all-left, all-right}
 use Rattle.rows.proofs.Sets.{Proper, none-proper, insert-proper, unite-proper, subtract-proper}
 use Rattle.policy.specs.Syntax.{Term, Slot, Expr, finite, cofinite, definition, listed, union, difference, comprehension, Body, head, draw, same, different, absent}
 use Rattle.policy.specs.Words.{each, termWords, termRowWords, slotWords, fresh, exprWords, bodyWords}
-use Rattle.policy.specs.WellFormed.{FitRow, FitRows, Fit, FitBody}
+use Rattle.policy.specs.WellFormed.{FitRow, Fit, FitBody}
 use Rattle.meaning.specs.Values.{Values, value, rowOf}
 use Rattle.meaning.specs.Evidence.{Evidence}
-use Rattle.meaning.specs.Reading.{Answer, done, refused, Reading, after, within, small, drawable, tick, rowsOf, match, onMatch, drawEach, read, gather}
+use Rattle.meaning.specs.Reading.{done, Reading, small, drawable, tick, rowsOf, match, onMatch, drawEach, read, gather}
 use Rattle.meaning.proofs.Steps.{done-value, after-done, either, small-done, within-done, drawable-done}
-use Rattle.meaning.proofs.Rows.{all-left, all-right, row-of-terms, match-words}
+use Rattle.meaning.proofs.Rows.{row-of-terms, match-words}
 
 pub record TidyRows (xs : List Row) : Type 0 where
   pub proper : Proper xs

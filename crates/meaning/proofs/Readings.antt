@@ -6,7 +6,7 @@ use Rattle.refusals.specs.Table.{complementDrawn, tooManyRows}
 use Rattle.rows.specs.Word.{All}
 use Rattle.rows.specs.Name.{plus, minus}
 use Rattle.rows.specs.Sets.{RowSet, only, allBut}
-use Rattle.policy.specs.Syntax.{Term, atom, var, Slot, old, new, Expr, finite, cofinite, listed, union, difference, comprehension, head, draw, same, different, absent}
+use Rattle.policy.specs.Syntax.{Term, atom, var, old, new, Expr, finite, cofinite, listed, union, difference, comprehension, head, draw, same, absent}
 use Rattle.meaning.specs.Evidence.{namesHeld}
 use Rattle.meaning.specs.Reading.{Answer, done, refused, read}
 

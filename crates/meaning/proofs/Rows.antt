@@ -1,9 +1,7 @@
 -- Terms come to words, rows of terms to rows, and what a pattern binds are words.
 use Prim.Native.Nat.{ℕ, zero, suc, _≤_}
-use mathlib.Core.Path.{_≡_, refl, sym, _∙_, ap, subst}
-use mathlib.Core.Logic.{_⊎_, inl, inr}
-use mathlib.Core.Bool.{Bool, true, false}
-use mathlib.Core.Option.{Option, none, some}
+use mathlib.Core.Path.{_≡_, subst}
+use mathlib.Core.Option.{none, some}
 use mathlib.Core.List.{List, [], _∷_, _++_, map}
 use native.Mathlib.Omega.{arith}
 use lib.Dec.{eqb, lit<}
@@ -11,27 +9,12 @@ use lib.ListN.{length, getD, length-map}
 use Rattle.rows.specs.Word.{All, IsWord, Words}
 use Rattle.rows.specs.Row.{Row, IsRow}
 use Rattle.rows.proofs.Case.{Case, isTrue, isFalse, split}
+use Rattle.rows.proofs.Lists.{all-left, all-right, all-both}
 use Rattle.policy.specs.Syntax.{Term, atom, var, Slot, old, new}
 use Rattle.policy.specs.Words.{termWords, each, termRowWords}
 use Rattle.policy.specs.WellFormed.{FitRow}
 use Rattle.meaning.specs.Values.{Values, value, rowOf}
 use Rattle.meaning.specs.Reading.{match}
-
--- each of two lists, one after the other
-pub all-left : {A : Type 0} (P : A → Type 0) (xs ys : List A) → All P (xs ++ ys) → All P xs
-unfolding All
-all-left P [] ys a = tt
-all-left P (x ∷ xs) ys a = (a .0, all-left P xs ys (a .1))
-
-pub all-right : {A : Type 0} (P : A → Type 0) (xs ys : List A) → All P (xs ++ ys) → All P ys
-unfolding All
-all-right P [] ys a = a
-all-right P (x ∷ xs) ys a = all-right P xs ys (a .1)
-
-pub all-both : {A : Type 0} (P : A → Type 0) (xs ys : List A) → All P xs → All P ys → All P (xs ++ ys)
-unfolding All
-all-both P [] ys a b = b
-all-both P (x ∷ xs) ys a b = (a .0, all-both P xs ys (a .1) b)
 
 word-at : (vs : Values) → Words vs → (i : ℕ) → IsWord (getD vs i 0)
 unfolding All

@@ -8,13 +8,15 @@ use lib.Dec.{T, leb, leb→le}
 use lib.ListN.{length, drop}
 use Rattle.rows.specs.Word.{IsWord, Words}
 use Rattle.rows.specs.Name.{plus, minus, polarityOf}
+use Rattle.rows.proofs.Case.{T-and}
+use Rattle.rows.proofs.Lists.{all-take, all-drop}
 use Rattle.refusals.specs.Table.{badWord, noPart, queryPart}
 use Rattle.policy.specs.Syntax.{Expr}
 use Rattle.policy.specs.Decode.{Parsed, parsed, unparsed, parse}
 use Rattle.policy.specs.Polarity.{Known, hasPolarity, drawsClosed, Verdict, exact, lower, upper}
 use Rattle.policy.specs.Table.{Entry, entryWords, Table, table, noTable, readTable}
 use Rattle.policy.specs.Judgement.{Checked, checked, unchecked, polarized, checkDefinition, checkQuery, verdictOf, knownOf, withDefinition, checkFrom, check, verdict, refused, replyOf, judge}
-use Rattle.policy.proofs.Basics.{impossible, both-hold, all-take, all-drop}
+use Rattle.policy.proofs.Basics.{impossible}
 
 -- a definition that passed: the words of entry x are those of e, which has the declared polarity and draws from nothing open
 pub record AcceptedDefinition (policy : List ℕ) (ks : List Known) (x : Entry) (e : Expr) : Type 0 where
@@ -99,7 +101,7 @@ query-accepted ks query q h = go (leb 1 (length query) && leb (length query) 102
           | false ↦ unparsed badWord
         ]) ≡ parsed q → AcceptedQuery ks query q (verdictOf (hasPolarity q ks plus) (hasPolarity q ks minus))
     go true b f =
-        let l = both-hold (leb 1 (length query)) (leb (length query) 1024) .0 (rw b tt) in
+        let l = T-and (leb 1 (length query)) (leb (length query) 1024) .0 (rw b tt) in
         let t = passed (λ d. hasPolarity d ks plus || hasPolarity d ks minus) (λ d. drawsClosed d ks) (parse (length ks) query) q f in
         record {
           some = leb→le 1 (length query) (l .0);

@@ -11,12 +11,11 @@ use Rattle.refusals.specs.Table.{badWord, notInScope}
 use Rattle.rows.specs.Word.{All}
 use Rattle.rows.specs.Row.{isKey}
 use Rattle.rows.specs.Name.{Polarity, plus, minus, isPolarity, polarityOf, polarityWord}
-use Rattle.rows.proofs.Case.{iff-refl}
+use Rattle.rows.proofs.Case.{T-and, iff-refl}
 use Rattle.policy.specs.Syntax.{Term, atom, var, Slot, old, new}
 use Rattle.policy.specs.Words.{termWords, each, termRowWords, slotWords, fresh}
 use Rattle.policy.specs.WellFormed.{FitTerm, FitIssuer, FitRow, FitRows, FitSlots}
 use Rattle.policy.specs.Decode.{Reader, after, give, need, word, wordWhere, times, polarity, tagOf, termAs, anyAtom, term, issuer, width, row, rows, Pattern, push, slotAs, slots}
-use Rattle.policy.proofs.Basics.{both-hold}
 use Rattle.policy.proofs.Format.{Format, plain, oneWord, Made, made, Takes, Returns, Reads, refuse-takes, give-takes, give-returns, then-takes, last-takes, whole-takes, then-returns, last-returns, word-takes, word-returns}
 
 -- a word that keeps a rule
@@ -145,7 +144,7 @@ counted-reads {Count} Fit fits x y = record {
 
 between : (a b w : ℕ) → T (leb a w && leb w b) ↔ ((a ≤ w) × (w ≤ b))
 between a b w =
-    (λ t. let h = both-hold (leb a w) (leb w b) .0 t in (leb→le a w (h .0), leb→le w b (h .1)), λ h. both-hold (leb a w) (leb w b) .1 (le→leb a w (h .0), le→leb w b (h .1)))
+    (λ t. let h = T-and (leb a w) (leb w b) .0 t in (leb→le a w (h .0), leb→le w b (h .1)), λ h. T-and (leb a w) (leb w b) .1 (le→leb a w (h .0), le→leb w b (h .1)))
 
 pub width-reads : Reads width (oneWord (λ w. (1 ≤ w) × (w ≤ 4)))
 unfolding width
@@ -191,8 +190,8 @@ module _ (c n : ℕ) (more : (m : ℕ) → Reads (slots c m) (pattern c m)) wher
     where
       fits : (v : ℕ) → T (eqb v n && leb v 15) ↔ ((v ≡ n) × (n ≤ 15))
       fits v = (
-        λ t. let h = both-hold (eqb v n) (leb v 15) .0 t in let e = eqb→eq v n (h .0) in (e, omega (arith, leb→le v 15 (h .1))),
-        λ h. both-hold (eqb v n) (leb v 15) .1 (rw (h .0) (eqb-refl n), le→leb v 15 (omega arith)),
+        λ t. let h = T-and (eqb v n) (leb v 15) .0 t in let e = eqb→eq v n (h .0) in (e, omega (arith, leb→le v 15 (h .1))),
+        λ h. T-and (eqb v n) (leb v 15) .1 (rw (h .0) (eqb-refl n), le→leb v 15 (omega arith)),
       )
 
   old-takes : (w : ℕ) →

@@ -46,6 +46,10 @@ pub T-right : (a b : Bool) → T (a && b) → T b
 T-right true b t = t
 T-right false b t = absurd t
 
+pub T-and : (a b : Bool) → T (a && b) ↔ (T a × T b)
+T-and true b = (λ t. (tt, t), λ t. t .1)
+T-and false b = (λ t. absurd t, λ t. t .0)
+
 pub T-or : (a b : Bool) → T (a || b) ↔ (T a ⊎ T b)
 T-or true b = (λ t. inl tt, λ t. tt)
 T-or false b = (λ t. inr t, λ t. elim t [ inl x ↦ absurd x | inr x ↦ x ])

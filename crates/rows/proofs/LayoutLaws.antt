@@ -9,7 +9,7 @@ use lib.Dec.{leb, eqb}
 use lib.ListN.{length, getD, take, drop, replicate, length-append, length-take, length-drop, length-map, length-replicate, take-append-drop, List·getD-map}
 use lib.Seq.{take-append-seam, drop-append-seam, take-at, drop-at, length-take-le, take-add, drop-drop}
 use borrow.Author.Tests.{leb-true, le-leb, eqb-true}
-use Rattle.rows.specs.Word.{All, Words}
+use Rattle.rows.specs.Word.{All, IsWord, Words}
 use Rattle.rows.specs.Ordered.{ascending}
 use Rattle.rows.specs.Row.{Row, IsRow, rowBefore}
 use Rattle.rows.specs.Sets.{RowSet, only, allBut, listing, mostRows}
@@ -17,6 +17,7 @@ use Rattle.rows.specs.Layout.{rowWords, rowIn, fiveAt, zeros, soundRow, 
 use Rattle.rows.proofs.Case.{Case, isTrue, isFalse, split, never, and-true, true-and}
 use Rattle.rows.proofs.Scan.{every-at}
 use Rattle.rows.proofs.Order.{row-order}
+use Rattle.rows.proofs.Lists.{all-take, all-drop}
 use Rattle.rows.proofs.Ordered.{Ascending, ascending-true, true-ascending}
 use Rattle.rows.proofs.Sets.{Proper}
 
@@ -165,34 +166,20 @@ rows-written (p ∷ ps) a e =
     let r : map rowWords (map rowIn ps) ≡ ps = rows-written ps (a .1) (t .1) in
     cc
 
--- ---- words: parts of words are words
-
-pub take-words : (n : ℕ) (ws : List ℕ) → Words ws → Words (take n ws)
-unfolding All
-take-words zero ws a = tt
-take-words (suc n) [] a = tt
-take-words (suc n) (w ∷ ws) a = (a .0, take-words n ws (a .1))
-
-pub drop-words : (n : ℕ) (ws : List ℕ) → Words ws → Words (drop n ws)
-unfolding All
-drop-words zero ws a = a
-drop-words (suc n) [] a = tt
-drop-words (suc n) (w ∷ ws) a = drop-words n ws (a .1)
-
 pub row-is : (ws : List ℕ) → length ws ≡ 5 → soundRow ws ≡ true → Words ws → IsRow (rowIn ws)
 unfolding rowIn
 row-is ws l e a =
     let s = sound-width ws e in
     let w : length (rowIn ws) ≡ getD ws 0 0 = row-width ws l e in
-    record { some = omega (arith, s .some); few = omega (arith, s .few); words = take-words (getD ws 0 0) (drop 1 ws) (drop-words 1 ws a) }
+    record { some = omega (arith, s .some); few = omega (arith, s .few); words = all-take IsWord (getD ws 0 0) (drop 1 ws) (all-drop IsWord 1 ws a) }
 
 pieces-rows : (n : ℕ) (ws : List ℕ) → 5 * n ≤ length ws → every soundRow (pieces 5 n ws) ≡ true → Words ws → All IsRow (map rowIn (pieces 5 n ws))
 unfolding pieces every All
 pieces-rows zero ws h e a = tt
 pieces-rows (suc n) ws h e a =
     let t = and-true (soundRow (take 5 ws)) (every soundRow (pieces 5 n (drop 5 ws))) e in (
-      row-is (take 5 ws) (length-take-le 5 ws (omega arith)) (t .0) (take-words 5 ws a),
-      pieces-rows n (drop 5 ws) (omega (arith, length-drop 5 ws)) (t .1) (drop-words 5 ws a),
+      row-is (take 5 ws) (length-take-le 5 ws (omega arith)) (t .0) (all-take IsWord 5 ws a),
+      pieces-rows n (drop 5 ws) (omega (arith, length-drop 5 ws)) (t .1) (all-drop IsWord 5 ws a),
     )
 
 -- ---- a set
@@ -318,7 +305,7 @@ sound-proper ws e a =
     let w = s .whole in
     subst Proper (sym (listing-in ws)) (record {
       order = ascending-true rowBefore row-order (rowsIn ws) (s .order);
-      rows = pieces-rows (getD ws 1 0) (drop 2 ws) (omega (arith, length-drop 2 ws)) (s .pieces) (drop-words 2 ws a);
+      rows = pieces-rows (getD ws 1 0) (drop 2 ws) (omega (arith, length-drop 2 ws)) (s .pieces) (all-drop IsWord 2 ws a);
     })
 
 pub sound-few : (ws : List ℕ) → soundSet ws ≡ true → length (listing (setIn ws)) ≤ mostRows

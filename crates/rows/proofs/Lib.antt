@@ -1,5 +1,6 @@
 pub mod Case
 pub mod Order
+pub mod Lists
 pub mod Ordered
 pub mod Sets
 pub mod LayoutLaws

@@ -10,18 +10,7 @@ use lib.ListN.{length}
 use Rattle.rows.specs.Word.{All}
 use Rattle.rows.specs.Ordered.{_∈_, StrictTotal, same, lists, insert, join, keep, beforeFirst, ascending}
 use Rattle.rows.proofs.Case.{Case, isTrue, isFalse, split, never, and-true, true-and, T-true, true-T, T-or, _then_, iff-refl, both-or}
-
--- what holds of each holds of one, and back
-pub all-in : {A : Type 0} (P : A → Type 0) (xs : List A) → All P xs → (x : A) → x ∈ xs → P x
-unfolding All _∈_
-all-in P [] a x i = absurd i
-all-in P (y ∷ ys) a x (inl e) = subst P (sym e) (a .0)
-all-in P (y ∷ ys) a x (inr i) = all-in P ys (a .1) x i
-
-pub all-of : {A : Type 0} (P : A → Type 0) (xs : List A) → ((x : A) → x ∈ xs → P x) → All P xs
-unfolding All _∈_
-all-of P [] f = tt
-all-of P (y ∷ ys) f = (f y (inl refl), all-of P ys (λ x i. f x (inr i)))
+use Rattle.rows.proofs.Lists.{all-in}
 
 -- the elements that pass the test
 pub keep-∈ : {A : Type 0} (f : A → Bool) (xs : List A) (r : A) → (r ∈ keep f xs) ↔ (T (f r) × (r ∈ xs))

@@ -8,9 +8,10 @@ use Rattle.rows.specs.Word.{All}
 use Rattle.rows.specs.Ordered.{_∈_, lists, insert, join, keep, common, without}
 use Rattle.rows.specs.Row.{Row, IsRow, rowBefore}
 use Rattle.rows.specs.Sets.{RowSet, only, allBut, listing, has, unite, subtract}
-use Rattle.rows.proofs.Case.{T-or, T-and-not, same-test, _then_, iff-sym, both-or, both-not}
+use Rattle.rows.proofs.Case.{T-and, T-or, T-and-not, same-test, _then_, iff-sym, both-or, both-not}
 use Rattle.rows.proofs.Order.{row-order}
-use Rattle.rows.proofs.Ordered.{Ascending, all-in, all-of, lists-iff, insert-∈, join-∈, keep-∈, insert-ascending, join-ascending, keep-ascending}
+use Rattle.rows.proofs.Lists.{all-in, all-of}
+use Rattle.rows.proofs.Ordered.{Ascending, lists-iff, insert-∈, join-∈, keep-∈, insert-ascending, join-ascending, keep-ascending}
 
 pub listed-iff : (xs : List Row) (r : Row) → T (lists rowBefore xs r) ↔ (r ∈ xs)
 listed-iff xs r = lists-iff rowBefore row-order xs r
@@ -28,10 +29,6 @@ lists-join : (xs ys : List Row) (r : Row) → lists rowBefore (join rowBefore xs
 lists-join xs ys r = same-test _ _ (
     listed-iff (join rowBefore xs ys) r then join-∈ rowBefore row-order xs ys r then
     both-or (iff-sym (listed-iff xs r)) (iff-sym (listed-iff ys r)) then iff-sym (T-or (lists rowBefore xs r) (lists rowBefore ys r)))
-
-T-and : (a b : Bool) → T (a && b) ↔ (T a × T b)
-T-and true b = (λ t. (tt, t), λ t. t .1)
-T-and false b = (λ t. absurd t, λ t. t .0)
 
 lists-keep : (f : Row → Bool) (xs : List Row) (r : Row) → lists rowBefore (keep f xs) r ≡ (f r && lists rowBefore xs r)
 lists-keep f xs r = same-test _ _ (
@@ -74,52 +71,11 @@ unite-iff a b r = rw (has-unite a b r) (T-or (has a r) (has b r))
 pub subtract-iff : (a b : RowSet) (r : Row) → T (has (subtract a b) r) ↔ (T (has a r) × (¬ T (has b r)))
 subtract-iff a b r = rw (has-subtract a b r) (T-and-not (has a r) (has b r))
 
--- in order, and rows alone
-pub record Proper (xs : List Row) : Type 0 where
-  pub order : Ascending rowBefore row-order xs
-  pub rows : All IsRow xs
-
-pub none-proper : Proper []
-unfolding Ascending All
-none-proper = record { order = tt; rows = tt }
-
-pub insert-proper : (r : Row) (xs : List Row) → IsRow r → Proper xs → Proper (insert rowBefore r xs)
-insert-proper r xs i p = record {
-  order = insert-ascending rowBefore row-order r xs (p .order);
-  rows = all-of IsRow _ (λ x j. elim (insert-∈ rowBefore row-order r xs x .0 j) [ inl e ↦ subst IsRow (sym e) i | inr k ↦ all-in IsRow xs (p .rows) x k ]);
-}
-
-join-proper : (xs ys : List Row) → Proper xs → Proper ys → Proper (join rowBefore xs ys)
-join-proper xs ys p q = record {
-  order = join-ascending rowBefore row-order xs ys (q .order);
-  rows = all-of IsRow _ (λ x j. elim (join-∈ rowBefore row-order xs ys x .0 j) [ inl k ↦ all-in IsRow xs (p .rows) x k | inr k ↦ all-in IsRow ys (q .rows) x k ]);
-}
-
-keep-proper : (f : Row → Bool) (xs : List Row) → Proper xs → Proper (keep f xs)
-keep-proper f xs p = record {
-  order = keep-ascending rowBefore row-order f xs (p .order);
-  rows = all-of IsRow _ (λ x j. all-in IsRow xs (p .rows) x (keep-∈ f xs x .0 j .1));
-}
-
-pub unite-proper : (s t : RowSet) → Proper (listing s) → Proper (listing t) → Proper (listing (unite s t))
-unfolding listing unite common without
-unite-proper (only xs) (only ys) p q = join-proper xs ys p q
-unite-proper (only xs) (allBut ys) p q = keep-proper _ ys q
-unite-proper (allBut xs) (only ys) p q = keep-proper _ xs p
-unite-proper (allBut xs) (allBut ys) p q = keep-proper _ xs p
-
-pub subtract-proper : (s t : RowSet) → Proper (listing s) → Proper (listing t) → Proper (listing (subtract s t))
-unfolding listing subtract common without
-subtract-proper (only xs) (only ys) p q = keep-proper _ xs p
-subtract-proper (only xs) (allBut ys) p q = keep-proper _ xs p
-subtract-proper (allBut xs) (only ys) p q = join-proper ys xs q p
-subtract-proper (allBut xs) (allBut ys) p q = keep-proper _ ys q
-
--- the same of any one thing that holds of each row, and of the order alone
+-- what holds of each row still does, and so does the order
 join-all : (P : Row → Type 0) (xs ys : List Row) → All P xs → All P ys → All P (join rowBefore xs ys)
 join-all P xs ys p q = all-of P _ (λ x j. elim (join-∈ rowBefore row-order xs ys x .0 j) [ inl k ↦ all-in P xs p x k | inr k ↦ all-in P ys q x k ])
 
-keep-all : (P : Row → Type 0) (f : Row → Bool) (xs : List Row) → All P xs → All P (keep f xs)
+pub keep-all : (P : Row → Type 0) (f : Row → Bool) (xs : List Row) → All P xs → All P (keep f xs)
 keep-all P f xs p = all-of P _ (λ x j. all-in P xs p x (keep-∈ f xs x .0 j .1))
 
 pub insert-all : (P : Row → Type 0) (r : Row) (xs : List Row) → P r → All P xs → All P (insert rowBefore r xs)
@@ -152,3 +108,21 @@ subtract-ascending (only xs) (only ys) p q = keep-ascending rowBefore row-order 
 subtract-ascending (only xs) (allBut ys) p q = keep-ascending rowBefore row-order _ xs p
 subtract-ascending (allBut xs) (only ys) p q = join-ascending rowBefore row-order ys xs p
 subtract-ascending (allBut xs) (allBut ys) p q = keep-ascending rowBefore row-order _ ys q
+
+-- in order, and rows alone
+pub record Proper (xs : List Row) : Type 0 where
+  pub order : Ascending rowBefore row-order xs
+  pub rows : All IsRow xs
+
+pub none-proper : Proper []
+unfolding Ascending All
+none-proper = record { order = tt; rows = tt }
+
+pub insert-proper : (r : Row) (xs : List Row) → IsRow r → Proper xs → Proper (insert rowBefore r xs)
+insert-proper r xs i p = record { order = insert-ascending rowBefore row-order r xs (p .order); rows = insert-all IsRow r xs i (p .rows) }
+
+pub unite-proper : (s t : RowSet) → Proper (listing s) → Proper (listing t) → Proper (listing (unite s t))
+unite-proper s t p q = record { order = unite-ascending s t (p .order) (q .order); rows = unite-all IsRow s t (p .rows) (q .rows) }
+
+pub subtract-proper : (s t : RowSet) → Proper (listing s) → Proper (listing t) → Proper (listing (subtract s t))
+subtract-proper s t p q = record { order = subtract-ascending s t (p .order) (q .order); rows = subtract-all IsRow s t (p .rows) (q .rows) }

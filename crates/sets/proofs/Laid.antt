@@ -10,6 +10,7 @@ use Rattle.rows.specs.Word.{All}
 use Rattle.rows.specs.Row.{Row}
 use Rattle.rows.specs.Sets.{RowSet, listing}
 use Rattle.rows.specs.Layout.{rowWords, rowIn, fiveAt, flat, laid, pieces, formWord, setWords, written, put, rowsIn, formed, setIn, soundSet}
+use Rattle.rows.proofs.Lists.{all-take, all-drop, all-both}
 use Rattle.rows.proofs.LayoutLaws.{flat-length, row-length, Sized, listing-in, sound-rows, rows-count, formed-word, formed-listing, sound-length, sound-written, true-sound, row-written, piece-sound, row-at}
 use Rattle.sets.proofs.RowLaws.{five-length}
 use Rattle.rows.proofs.Put.{put-before, put-then-after, put-then-before, put-less, put-none, put-itself, Writing, writing-next, writing-end}
@@ -37,23 +38,6 @@ unfolding flat
 laid-append [] ys = refl
 laid-append (x ∷ xs) ys = ap (λ (l : List ℕ). rowWords x ++ l) (laid-append xs ys) ∙ sym (append-assoc (rowWords x) (laid xs) (laid ys))
 
-pub narrow-append : (xs ys : List Row) → Narrow xs → Narrow ys → Narrow (xs ++ ys)
-unfolding All
-narrow-append [] ys a b = b
-narrow-append (x ∷ xs) ys a b = (a .0, narrow-append xs ys (a .1) b)
-
-pub narrow-take : (n : ℕ) (xs : List Row) → Narrow xs → Narrow (take n xs)
-unfolding All
-narrow-take zero xs a = tt
-narrow-take (suc n) [] a = tt
-narrow-take (suc n) (x ∷ xs) a = (a .0, narrow-take n xs (a .1))
-
-pub narrow-drop : (n : ℕ) (xs : List Row) → Narrow xs → Narrow (drop n xs)
-unfolding All
-narrow-drop zero xs a = a
-narrow-drop (suc n) [] a = tt
-narrow-drop (suc n) (x ∷ xs) a = narrow-drop n xs (a .1)
-
 narrow-pieces : (n : ℕ) (ws : List ℕ) → Narrow (map rowIn (pieces 5 n ws))
 unfolding All pieces rowIn
 narrow-pieces zero ws = tt
@@ -74,7 +58,7 @@ module _ (ws : List ℕ) (e : soundSet ws ≡ true) where
     both = laid-in ∙ ap laid (sym (take-append-drop p (rowsIn ws))) ∙ laid-append (take p (rowsIn ws)) (drop p (rowsIn ws))
 
     pub front-length : length (laid (take p (rowsIn ws))) ≡ 5 * p
-    front-length = omega (arith, laid-length (take p (rowsIn ws)) (narrow-take p (rowsIn ws) (narrow-in ws)), length-take-le p (rowsIn ws) h)
+    front-length = omega (arith, laid-length (take p (rowsIn ws)) (all-take _ p (rowsIn ws) (narrow-in ws)), length-take-le p (rowsIn ws) h)
 
     pub laid-front : take (5 * p) (drop 2 ws) ≡ laid (take p (rowsIn ws))
     laid-front =
@@ -144,7 +128,7 @@ module _ (ws : List ℕ) (e : soundSet ws ≡ true) (p : ℕ) (r : Row) (h : p �
   moved = put (2 + 5 * p + 5) (take (5 * (length (rowsIn ws) - p)) (drop (2 + 5 * p) ws)) ws
 
   later-length : length (laid (drop p (rowsIn ws))) ≡ 5 * (length (rowsIn ws) - p)
-  later-length = omega (arith, laid-length (drop p (rowsIn ws)) (narrow-drop p (rowsIn ws) (narrow-in ws)), length-drop p (rowsIn ws))
+  later-length = omega (arith, laid-length (drop p (rowsIn ws)) (all-drop _ p (rowsIn ws) (narrow-in ws)), length-drop p (rowsIn ws))
 
   rows-put : put (2 + 5 * p) (rowWords r) moved ≡ put 2 (laid with-row) ws
   unfolding moved with-row flat
@@ -172,7 +156,7 @@ module _ (ws : List ℕ) (e : soundSet ws ≡ true) (p : ℕ) (r : Row) (h : p �
 
   with-narrow : Narrow with-row
   unfolding with-row All
-  with-narrow = narrow-append (take p (rowsIn ws)) (r ∷ drop p (rowsIn ws)) (narrow-take p (rowsIn ws) (narrow-in ws)) (narrow, narrow-drop p (rowsIn ws) (narrow-in ws))
+  with-narrow = all-both _ (take p (rowsIn ws)) (r ∷ drop p (rowsIn ws)) (all-take _ p (rowsIn ws) (narrow-in ws)) (narrow, all-drop _ p (rowsIn ws) (narrow-in ws))
 
   pub row-put-in : set (put (2 + 5 * p) (rowWords r) (put (2 + 5 * p + 5) (take (5 * (length (rowsIn ws) - p)) (drop (2 + 5 * p) ws)) ws)) 1 (length (rowsIn ws) + 1)
       ≡ written (formed (getD ws 0 0) (take p (rowsIn ws) ++ (r ∷ drop p (rowsIn ws)))) ws

@@ -5,8 +5,6 @@ use lib.ListN.{length}
 use borrow.Author.Needs.{needs}
 use denote.Ref.{now}
 use Rattle.engine.proofs.Driving.{Going, going-starts, asks, goes-on, stops, ends, checked-header, done-filled, has-place}
-use Rattle.reading.specs.Readers.{SayWhole}
-use Rattle.leaves.specs.declared.values.Read.{Read}
 use Rattle.engine.proofs.read_definitions.Statement.{statement}
 use Rattle.engine.proofs.read_definitions.Tie as tie
 

@@ -1,7 +1,7 @@
 -- The invariant: the slots left, read from here, come to what the whole pattern comes to.
 use Rattle.terms.proofs.RowAnswers.{Matching, matching-new, matching-old, matching-few, matching-lost, pattern-starts, pattern-refused, pattern-done}
 use native.Mathlib.Omega.{arith}
-use Rattle.terms.proofs.Answering.{word-found, word-bounds}
+use Rattle.terms.proofs.Answering.{word-found}
 use Rattle.terms.proofs.TermAnswers.{slot-found, slot-lost}
 use Rattle.terms.proofs.RowAnswers.{Matching, matching-new, matching-few, matching-lost, pattern-starts, pattern-refused, pattern-done}
 use borrow.Author.Needs.{needs}

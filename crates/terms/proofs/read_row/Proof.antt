@@ -2,7 +2,7 @@
 use native.Mathlib.Omega.{arith}
 use Rattle.policy.specs.Decode.{term, row}
 use Rattle.terms.specs.Answers.{keeping, nothing}
-use Rattle.terms.proofs.Answering.{word-found, word-bounds, keeps-got, keeps-lost}
+use Rattle.terms.proofs.Answering.{word-found, keeps-got, keeps-lost}
 use Rattle.terms.proofs.TermAnswers.{term-found, term-refused}
 use Rattle.terms.proofs.RowAnswers.{Going, going-on, going-lost, going-done, row-starts, row-refused, shows-passed, shows-stopped}
 use borrow.Author.Needs.{needs}

@@ -2,7 +2,7 @@
 use native.Mathlib.Omega.{arith}
 use Rattle.policy.specs.Decode.{row, rows}
 use Rattle.terms.specs.Answers.{keeping, nothing}
-use Rattle.terms.proofs.Answering.{word-found, word-bounds}
+use Rattle.terms.proofs.Answering.{word-found}
 use Rattle.terms.proofs.RowAnswers.{Going, going-on, going-lost, going-done, passed-found, passed-lost, rows-start, rows-refused, shows-passed, shows-stopped}
 use borrow.Author.Needs.{needs}
 use Rattle.terms.proofs.read_rows.Statement.{statement}
