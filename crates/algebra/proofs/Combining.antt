@@ -3,12 +3,11 @@ use Prim.Native.Nat.{ℕ, zero, suc, _+_, _*_, _-_, _≤_, _<_}
 use mathlib.Core.Path.{_≡_, refl, sym, _∙_, ap, subst}
 use mathlib.Core.Logic.{inl, inr}
 use mathlib.Core.Bool.{Bool, true, false}
-use mathlib.Core.List.{List, _∷_, _++_}
+use mathlib.Core.List.{List, _∷_, _++_, map}
 use native.Mathlib.Omega.{arith}
-use native.Mathlib.Nat.{mul-suc}
 use lib.Dec.{leb, eqb}
 use lib.ListN.{length, getD, take, drop, set, length-drop, length-set}
-use lib.Seq.{take-append-add, take-take, length-take-le, getD-take, getD-drop, drop-set-lt, take-set-lt, set-set, set-getD, getD-set-same, getD-set-other}
+use lib.Seq.{take-append-add, getD-take, getD-drop, drop-set-lt, take-set-lt, set-set, set-getD, getD-set-same, getD-set-other}
 use borrow.Author.Tests.{le-leb, lt-leb, eq-eqb, eqb-true}
 use Rattle.rows.specs.Ordered.{join, ascending}
 use Rattle.rows.specs.Row.{Row, rowBefore}
@@ -22,65 +21,13 @@ use Rattle.rows.proofs.Ordered.{Ascending}
 use Rattle.rows.proofs.Joining.{join-turned}
 use Rattle.rows.proofs.Put.{put-length, put-in, put-take, part-itself}
 use Rattle.rows.proofs.LayoutLaws.{sound-true, true-sound, form-small, formed-listing, formed-word, listing-in}
-use Rattle.sets.proofs.SetWords.{size, sound-ascending}
+use Rattle.sets.proofs.SetWords.{sound-ascending}
 use Rattle.sets.proofs.Laid.{Narrow, laid-length, narrow-in, written-put, written-count, drop-take}
+use Rattle.sets.proofs.Front.{front-of, rows-same, sound-same}
 use Rattle.algebra.proofs.Filtering.{room-few, room-form, picked-length, picked-narrow}
 use Rattle.algebra.proofs.Merging.{counts, narrow-both}
 
 -- ---- the front of an area
-
-pieces-front : (size n m : ℕ) (ws : List ℕ) → size * n ≤ m → pieces size n (take m ws) ≡ pieces size n ws
-unfolding pieces
-pieces-front size zero m ws h = refl
-pieces-front size (suc n) m ws h =
-    let e = mul-suc size n in
-    let k : m ≡ size + (m - size) = omega arith in
-    let t : take size (take m ws) ≡ take size ws = take-take size m ws (omega arith) in
-    let d : drop size (take m ws) ≡ take (m - size) (drop size ws) = ap (λ (q : ℕ). drop size (take q ws)) k ∙ drop-take size (m - size) ws in
-    let r : pieces size n (drop size (take m ws)) ≡ pieces size n (drop size ws) = ap (pieces size n) d ∙ pieces-front size n (m - size) (drop size ws) (omega arith) in
-    cc
-
--- a set is read from its own words alone
-module _ (ws : List ℕ) (long : 642 ≤ length ws) (few : getD ws 1 0 ≤ 128) where
-  front-pieces : pieces 5 (getD (take 642 ws) 1 0) (drop 2 (take 642 ws)) ≡ pieces 5 (getD ws 1 0) (drop 2 ws)
-  front-pieces =
-      ap (λ (n : ℕ). pieces 5 n (drop 2 (take 642 ws))) (getD-take 642 ws 1 0 (omega arith)) ∙ ap (pieces 5 (getD ws 1 0)) (drop-take 2 640 ws) ∙ pieces-front 5 (getD ws 1 0) 640 (drop 2 ws) (omega arith)
-
-  pub front-rows : rowsIn (take 642 ws) ≡ rowsIn ws
-  unfolding rowsIn
-  front-rows = ap (mathlib.Core.List.map rowIn) front-pieces
-
-  pub front-set : setIn (take 642 ws) ≡ setIn ws
-  unfolding setIn
-  front-set = ap (λ (n : ℕ). formed n (rowsIn (take 642 ws))) (getD-take 642 ws 0 0 (omega arith)) ∙ ap (formed (getD ws 0 0)) front-rows
-
-  pub front-sound : soundSet ws ≡ true → soundSet (take 642 ws) ≡ true
-  front-sound e =
-      let s = true-sound ws e in
-      let l = length-take-le 642 ws long in
-      let f = getD-take 642 ws 0 0 (omega arith) in
-      let c = getD-take 642 ws 1 0 (omega arith) in
-      sound-true (take 642 ws) (record {
-        header = omega arith;
-        form = omega (arith, s .form);
-        count = omega arith;
-        whole = omega arith;
-        pieces = ap (every soundRow) front-pieces ∙ s .pieces;
-        order = ap (ascending rowBefore) front-rows ∙ s .order;
-      })
-
-  pub sound-front : soundSet (take 642 ws) ≡ true → soundSet ws ≡ true
-  sound-front e =
-      let s = true-sound (take 642 ws) e in
-      let f = getD-take 642 ws 0 0 (omega arith) in
-      sound-true ws (record {
-        header = omega arith;
-        form = omega (arith, s .form);
-        count = few;
-        whole = omega arith;
-        pieces = ap (every soundRow) (sym front-pieces) ∙ s .pieces;
-        order = ap (ascending rowBefore) (sym front-rows) ∙ s .order;
-      })
 
 -- what is written within the front depends on the front alone
 pub written-front : (S : RowSet) (a b : List ℕ) → length (setWords S) ≤ 642 → take 642 a ≡ take 642 b → take 642 (written S a) ≡ take 642 (written S b)
@@ -108,8 +55,8 @@ rooms-of a long l r =
       apart = inl (omega arith);
       one-room = omega arith;
       other-room = omega arith;
-      one-sound = front-sound a (omega arith) (true-sound a l .count) l;
-      other-sound = front-sound (drop 642 a) (omega arith) (true-sound (drop 642 a) r .count) r;
+      one-sound = sound-same (front-of a (omega arith)) l;
+      other-sound = sound-same (front-of (drop 642 a) (omega arith)) r;
     }
 
 pub turned : (a : List ℕ) → Rooms a 0 642 → Rooms a 642 0
@@ -223,13 +170,13 @@ module _ (a : List ℕ) (long : 1284 ≤ length a) (left : soundSet a ≡ true) 
 
   left-is : setIn a ≡ formed (getD a 0 0) us
   unfolding setIn
-  left-is = ap (formed (getD a 0 0)) (sym (front-rows a (omega arith) (true-sound a left .count)))
+  left-is = ap (formed (getD a 0 0)) (sym (rows-same (front-of a (omega arith)) left))
 
   right-is : setIn (drop 642 a) ≡ formed (getD a 642 0) vs
   unfolding setIn
   right-is =
       ap (λ (n : ℕ). formed n (rowsIn (drop 642 a))) (getD-drop 642 a 0 0)
-      ∙ ap (formed (getD a 642 0)) (sym (front-rows (drop 642 a) (omega (arith, length-drop 642 a)) (true-sound (drop 642 a) right .count)))
+      ∙ ap (formed (getD a 642 0)) (sym (rows-same (front-of (drop 642 a) (omega (arith, length-drop 642 a))) right))
 
   value-is : subtract (setIn a) (setIn (drop 642 a)) ≡ subtract (formed (getD a 0 0) us) (formed (getD a 642 0) vs)
   value-is = ap (λ (s : RowSet). subtract s (setIn (drop 642 a))) left-is ∙ ap (subtract (formed (getD a 0 0) us)) right-is
@@ -307,7 +254,7 @@ module _ (a : List ℕ) (sound : soundSet a ≡ true) where
 
   rows-now : rowsIn turnedOver ≡ rowsIn a
   unfolding rowsIn
-  rows-now = ap (mathlib.Core.List.map rowIn) pieces-now
+  rows-now = ap (map rowIn) pieces-now
 
   pub turned-sound : soundSet (set a 0 (1 - getD a 0 0)) ≡ true
   turned-sound =

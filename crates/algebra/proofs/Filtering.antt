@@ -5,7 +5,7 @@ use mathlib.Core.Logic.{inl, inr}
 use mathlib.Core.Bool.{Bool, true, false}
 use mathlib.Core.List.{List, [], _∷_, _++_, append-nil}
 use native.Mathlib.Omega.{arith}
-use lib.ListN.{length, getD, take, drop, set, length-append, length-drop}
+use lib.ListN.{length, getD, take, drop, set, length-append}
 use lib.Seq.{take-suc, take-all, length-take-le, drop-drop, getD-take, getD-drop}
 use Rattle.rows.specs.Ordered.{lists, keep, common, without}
 use Rattle.rows.specs.Row.{Row, rowBefore}
@@ -86,9 +86,6 @@ pub room-kept : (a : List ℕ) (one other at : ℕ) (ws : List ℕ) → Apart on
 unfolding Apart
 room-kept a one other at ws (inl h) k l m n = part-after at ws a (omega arith) other 642 (omega arith)
 room-kept a one other at ws (inr h) k l m n = part-before at ws a (omega arith) other 642 (omega arith)
-
-pub room-length : (a : List ℕ) (at : ℕ) → at + 642 ≤ length a → length (roomAt at a) ≡ 642
-room-length a at h = length-take-le 642 (drop at a) (omega (arith, length-drop at a))
 
 pub room-word : (a : List ℕ) (at k : ℕ) → k < 642 → getD (roomAt at a) k 0 ≡ getD a (at + k) 0
 room-word a at k h = getD-take 642 (drop at a) k 0 h ∙ getD-drop at a k 0

@@ -2,7 +2,6 @@
 use Prim.Native.Nat.{ℕ, zero, suc, _+_, _*_, _-_, _≤_, _<_}
 use mathlib.Core.Path.{_≡_, refl, sym, _∙_, ap}
 use mathlib.Core.Logic.{inl, inr}
-use mathlib.Core.Bool.{true}
 use mathlib.Core.List.{List, [], _∷_, _++_}
 use native.Mathlib.Omega.{arith}
 use lib.ListN.{length, getD, take, drop, length-append, length-drop, take-append-drop, drop-of-length-le}
@@ -36,9 +35,6 @@ pub last-some : (i : ℕ) (x y : Row) → 0 < i → orderOf x y ≡ lastOrder i 
 unfolding lastOrder
 last-some zero x y h = absurd (omega arith)
 last-some (suc i) x y h = refl
-
-last-before : (i : ℕ) (x y : Row) → lastOrder i x y ≡ Before → 0 < i → rowBefore x y ≡ true
-last-before i x y e h = before-order x y (last-some i x y h ∙ e)
 
 last-is-some : (i : ℕ) (x y : Row) (o : Order.Order) → lastOrder i x y ≡ o → (Before ≡ o → ⊥) → 0 < i
 unfolding lastOrder

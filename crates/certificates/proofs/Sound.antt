@@ -38,11 +38,7 @@ sound-record w e =
     let d = and-true (isPolarity (getD w 2 0)) _ (c .1) in
     record { eight = eqb-true (length w) recordWords (a .0); key = b .0; name = c .0; polarity = d .0; row = d .1 }
 
--- a certificate's issuer is a key, and what it speaks about is a row
-pub about-key : (w : List ℕ) → soundRecord w ≡ true → isKey (certificateOf w .key) ≡ true
-unfolding certificateOf
-about-key w e = sound-record w e .key
-
+-- what a certificate speaks about is a row
 pub about-row : (w : List ℕ) → soundRecord w ≡ true → Words w → IsRow (certificateOf w .row)
 unfolding certificateOf
 about-row w e p =

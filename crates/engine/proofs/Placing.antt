@@ -2,22 +2,20 @@
 use Prim.Native.Nat.{ℕ, zero, suc, _+_, _-_, _*_, _≤_, _<_}
 use mathlib.Core.Path.{_≡_, refl, sym, _∙_, ap, subst}
 use mathlib.Core.Logic.{_⊎_, inl, inr}
-use mathlib.Core.Bool.{true}
-use mathlib.Core.List.{List, [], _∷_, _++_, map, append-assoc}
+use mathlib.Core.List.{List, [], _∷_, _++_, append-assoc}
 use native.Mathlib.Omega.{arith}
-use lib.ListN.{length, getD, take, drop, length-append, length-take, length-drop, take-append-drop, List·getD-append}
-use lib.Seq.{length-take-le, take-take, drop-drop, drop-at, take-at, take-add, drop-append-le, take-append-le}
+use lib.ListN.{length, take, drop, length-append, length-take, length-drop, take-append-drop}
+use lib.Seq.{length-take-le, take-take, drop-drop, drop-at, take-at, take-add, drop-append-le}
 use lib.Dec.{ltb}
 use borrow.Author.Tests.{ltb-true, ltb-false}
 use borrow.Rule.Slice.PartMut.{putMid}
-use Rattle.rows.specs.Ordered.{ascending}
-use Rattle.rows.specs.Row.{rowBefore}
 use Rattle.rows.specs.Sets.{RowSet}
-use Rattle.rows.specs.Layout.{setRoom, rowIn, soundRow, pieces, every, rowsIn, formed, setIn, setWords, soundSet, put, written}
+use Rattle.rows.specs.Layout.{setRoom, setIn, setWords, put, written}
 use Rattle.rows.proofs.Case.{Case, isTrue, isFalse, split}
-use Rattle.rows.proofs.LayoutLaws.{true-sound, sound-true, sound-length, sound-written}
 use Rattle.leaves.specs.Areas.{Filled, setsIn}
-use Rattle.leaves.proofs.Areas.{SameFront, set-same, filled-same}
+use Rattle.sets.proofs.Front.{SameFront, set-same}
+use Rattle.sets.proofs.Standing.{Stands, set-fits, copied-stands}
+use Rattle.leaves.proofs.Areas.{lies, filled-same}
 use Rattle.engine.specs.Steps.{Placed}
 
 drop-split : (l k : ℕ) (ys : List ℕ) → l ≤ k → k ≤ length ys → drop l (take k ys) ++ drop k ys ≡ drop l ys
@@ -33,76 +31,6 @@ part-put a S xs h l =
     ap (λ (z : List ℕ). take a xs ++ z)
     (append-assoc (setWords S) (drop (length (setWords S)) (take k (drop a xs))) (drop k (drop a xs)) ∙
     ap (λ (z : List ℕ). setWords S ++ z) (drop-split (length (setWords S)) k (drop a xs) (omega arith) (omega arith) ∙ drop-drop (length (setWords S)) a xs))
-
--- a set's words look no further than its last row
-pieces-front : (n : ℕ) (u r : List ℕ) → 5 * n ≤ length u → pieces 5 n (u ++ r) ≡ pieces 5 n u
-unfolding pieces
-pieces-front zero u r h = refl
-pieces-front (suc n) u r h =
-    let t : take 5 (u ++ r) ≡ take 5 u = take-append-le 5 u r (omega arith) in
-    let p : pieces 5 n (drop 5 (u ++ r)) ≡ pieces 5 n (drop 5 u) =
-    ap (pieces 5 n) (drop-append-le 5 u r (omega arith)) ∙ pieces-front n (drop 5 u) r (omega (arith, length-drop 5 u)) in
-    cc
-
-module _ (u : List ℕ) (head : 2 ≤ length u) (long : 2 + 5 * getD u 1 0 ≤ length u) where
-  word-front : (r : List ℕ) (i : ℕ) → i < 2 → getD (u ++ r) i 0 ≡ getD u i 0
-  word-front r i h = List·getD-append u r 0 i (omega arith)
-
-  rows-front : (r : List ℕ) → pieces 5 (getD (u ++ r) 1 0) (drop 2 (u ++ r)) ≡ pieces 5 (getD u 1 0) (drop 2 u)
-  rows-front r =
-      ap (λ (n : ℕ). pieces 5 n (drop 2 (u ++ r))) (word-front r 1 (omega arith)) ∙ ap (pieces 5 (getD u 1 0)) (drop-append-le 2 u r head)
-      ∙ pieces-front (getD u 1 0) (drop 2 u) r (omega (arith, length-drop 2 u))
-
-  set-front : (r : List ℕ) → setIn (u ++ r) ≡ setIn u
-  unfolding setIn rowsIn
-  set-front r = ap (λ (n : ℕ). formed n (rowsIn (u ++ r))) (word-front r 0 (omega arith)) ∙ ap (λ (ps : List (List ℕ)). formed (getD u 0 0) (map rowIn ps)) (rows-front r)
-
-  sound-front : (r s : List ℕ) → soundSet (u ++ r) ≡ true → soundSet (u ++ s) ≡ true
-  unfolding rowsIn
-  sound-front r s h =
-      let t = true-sound (u ++ r) h in
-      let c = word-front r 1 (omega arith) in
-      let d = word-front s 1 (omega arith) in
-      let f = word-front r 0 (omega arith) in
-      let g = word-front s 0 (omega arith) in
-      let l = length-append u s in
-      let small = t .form in
-      let few = t .count in
-      let same = rows-front s ∙ sym (rows-front r) in
-      sound-true (u ++ s) (record {
-        header = omega arith;
-        form = omega arith;
-        count = omega arith;
-        whole = omega arith;
-        pieces = ap (every soundRow) same ∙ t .pieces;
-        order = ap (λ (ps : List (List ℕ)). ascending rowBefore (map rowIn ps)) same ∙ t .order;
-      })
-
--- a sound set written over other words is sound, and the same set
-pub record Copied (a b : List ℕ) : Type 0 where
-  pub sound : soundSet (written (setIn a) b) ≡ true
-  pub reads : setIn (written (setIn a) b) ≡ setIn a
-
-pub copied : (a b : List ℕ) → soundSet a ≡ true → Copied a b
-unfolding written
-copied a b s =
-    let u : List ℕ = setWords (setIn a) in
-    let t = true-sound a s in
-    let l : length u ≡ 2 + 5 * getD a 1 0 = sound-length a s in
-    let e : a ≡ u ++ drop (length u) a = sound-written a s in
-    let w : getD a 1 0 ≡ getD u 1 0 = ap (λ (z : List ℕ). getD z 1 0) e ∙ List·getD-append u (drop (length u) a) 0 1 (omega arith) in
-    let head : 2 ≤ length u = omega arith in
-    let long : 2 + 5 * getD u 1 0 ≤ length u = omega arith in
-    record {
-      sound = sound-front u head long (drop (length u) a) (drop (length u) b) (subst (λ (z : List ℕ). soundSet z ≡ true) e s);
-      reads = set-front u head long (drop (length u) b) ∙ sym (set-front u head long (drop (length u) a)) ∙ sym (ap setIn e);
-    }
-
-pub set-fits : (a : List ℕ) → soundSet a ≡ true → length (setWords (setIn a)) ≤ 642
-set-fits a s =
-    let l = sound-length a s in
-    let few = true-sound a s .count in
-    omega arith
 
 -- ---- one more definition
 
@@ -174,11 +102,8 @@ module _ (definitions set : List ℕ) (d : ℕ) (placed : Placed d definitions) 
         second = omega arith;
       }
 
-  last-filled : Filled (drop (642 * d) after)
-  last-filled =
-      let n = after-length in
-      let b = length-drop (642 * d) after in
-      record { long = omega arith; sound = subst (λ (z : List ℕ). soundSet z ≡ true) (sym behind) (copied set (drop (642 * d) definitions) (filled .sound) .sound) }
+  stands : Stands (setIn set) (drop (642 * d) after)
+  stands = copied-stands set (filled .sound) (drop (642 * d) definitions) (omega (arith, length-drop (642 * d) definitions)) behind
 
   pub placed-more : Placed (d + 1) after
   placed-more i h = go (split-below i h)
@@ -192,10 +117,10 @@ module _ (definitions set : List ℕ) (d : ℕ) (placed : Placed d definitions) 
 
       go : (i < d) ⊎ (i ≡ d) → Filled (drop (setRoom * i) after)
       go (inl l) = filled-same (same i l) (placed i l)
-      go (inr e) = subst (λ (j : ℕ). Filled (drop (642 * j) after)) (sym e) last-filled
+      go (inr e) = subst (λ (j : ℕ). Filled (drop (642 * j) after)) (sym e) (lies stands)
 
   pub sets-more : setsIn (d + 1) after ≡ setsIn d definitions ++ (setIn set ∷ [])
   sets-more =
       ap (λ (n : ℕ). setsIn n after) (let e : d + 1 ≡ suc d = omega arith in e) ∙ sets-last d after
       ∙ ap (λ (l : List RowSet). l ++ (setIn (drop (642 * d) after) ∷ [])) (sets-same d definitions after (λ i h. set-same (same i h) (placed i h .sound)))
-      ∙ ap (λ (s : RowSet). setsIn d definitions ++ (s ∷ [])) (ap setIn behind ∙ copied set (drop (642 * d) definitions) (filled .sound) .reads)
+      ∙ ap (λ (s : RowSet). setsIn d definitions ++ (s ∷ [])) (stands .set)

@@ -1,82 +1,37 @@
--- Sets in an area: a set is the first 642 words, and parts of the area that are lent come back.
+-- Sets in an area: where one lies, what stays, and parts of the area that are lent come back.
 use Prim.Native.Nat.{ℕ, zero, suc, _+_, _-_, _*_, _≤_, _<_}
 use mathlib.Core.Path.{_≡_, refl, sym, ap, _∙_}
-use mathlib.Core.Bool.{true}
-use mathlib.Core.List.{List, [], _++_, map, append-nil}
+use mathlib.Core.List.{List, [], _++_, append-nil}
 use native.Mathlib.Omega.{arith}
 use lib.ListN.{length, take, drop, getD, length-append, length-take, length-drop, drop-of-length-le}
 use lib.Seq.{take-all, drop-at, length-take-le, take-take, getD-take, getD-drop, ext-getD, drop-drop}
 use borrow.Rule.Slice.PartMut.{putMid, take-put}
-use Rattle.rows.specs.Ordered.{ascending}
-use Rattle.rows.specs.Row.{rowBefore}
-use Rattle.rows.specs.Sets.{only}
-use Rattle.rows.specs.Layout.{soundRow, pieces, every, rowIn, rowsIn, formed, setIn, soundSet}
-use Rattle.rows.proofs.LayoutLaws.{true-sound, sound-true}
-use Rattle.sets.proofs.Laid.{drop-take}
-use Rattle.leaves.specs.Areas.{Filled, Gathering, Kept, setsIn}
+use Rattle.rows.specs.Sets.{RowSet, only}
+use Rattle.rows.specs.Layout.{setWords, written, rowsIn, formed, setIn}
+use Rattle.rows.proofs.LayoutLaws.{formed-listing, formed-word}
+use Rattle.rows.proofs.Put.{put-after}
+use Rattle.sets.proofs.Laid.{written-put}
+use Rattle.sets.proofs.Front.{SameFront, word-same, sound-same}
+use Rattle.sets.proofs.Standing.{Stands, stands-rows, stands-form, cleared-stands}
+use Rattle.leaves.specs.Areas.{Filled, Gathering, Empty, Kept, setsIn}
 
--- ---- a set is the first 642 words
-
-rows-front : (n m : ℕ) (ws : List ℕ) → 5 * n ≤ m → m ≤ length ws → pieces 5 n (take m ws) ≡ pieces 5 n ws
-unfolding pieces
-rows-front zero m ws h k = refl
-rows-front (suc n) m ws h k =
-    let e : m ≡ 5 + (m - 5) = omega arith in
-    let d : drop 5 (take m ws) ≡ take (m - 5) (drop 5 ws) = ap (λ (j : ℕ). drop 5 (take j ws)) e ∙ drop-take 5 (m - 5) ws in
-    let t : take 5 (take m ws) ≡ take 5 ws = take-take 5 m ws (omega arith) in
-    let r : pieces 5 n (drop 5 (take m ws)) ≡ pieces 5 n (drop 5 ws) = ap (pieces 5 n) d ∙ rows-front n (m - 5) (drop 5 ws) (omega arith) (omega (arith, length-drop 5 ws)) in
-    cc
-
--- the same words at the front of both, as many as any set takes
-pub record SameFront (a b : List ℕ) : Type 0 where
-  pub front : take 642 a ≡ take 642 b
-  pub first : 642 ≤ length a
-  pub second : 642 ≤ length b
+-- ---- a set lies at the front
 
 module _ {a b : List ℕ} (e : SameFront a b) where
-  pub word-same : (i : ℕ) → i < 642 → getD b i 0 ≡ getD a i 0
-  word-same i h = sym (getD-take 642 b i 0 h) ∙ ap (λ (l : List ℕ). getD l i 0) (sym (e .front)) ∙ getD-take 642 a i 0 h
-
-  pieces-same : (n : ℕ) → n ≤ 128 → pieces 5 n (drop 2 b) ≡ pieces 5 n (drop 2 a)
-  pieces-same n h =
-      let la = e .first in
-      let lb = e .second in
-      let back : pieces 5 n (drop 2 b) ≡ pieces 5 n (take 640 (drop 2 b)) = sym (rows-front n 640 (drop 2 b) (omega arith) (omega (arith, length-drop 2 b))) in
-      let front : pieces 5 n (take 640 (drop 2 a)) ≡ pieces 5 n (drop 2 a) = rows-front n 640 (drop 2 a) (omega arith) (omega (arith, length-drop 2 a)) in
-      back ∙ ap (pieces 5 n) (sym (drop-take 2 640 b) ∙ ap (drop 2) (sym (e .front)) ∙ drop-take 2 640 a) ∙ front
-
-  pub rows-same : soundSet a ≡ true → rowsIn b ≡ rowsIn a
-  unfolding rowsIn
-  rows-same s =
-      let c : getD b 1 0 ≡ getD a 1 0 = word-same 1 (omega arith) in
-      ap (λ (n : ℕ). map rowIn (pieces 5 n (drop 2 b))) c ∙ ap (map rowIn) (pieces-same (getD a 1 0) (true-sound a s .count))
-
-  pub set-same : soundSet a ≡ true → setIn b ≡ setIn a
-  unfolding setIn
-  set-same s = ap (λ (n : ℕ). formed n (rowsIn b)) (word-same 0 (omega arith)) ∙ ap (formed (getD a 0 0)) (rows-same s)
-
-  sound-same : soundSet a ≡ true → soundSet b ≡ true
-  sound-same s =
-      let t = true-sound a s in
-      let lb = e .second in
-      let c : getD b 1 0 ≡ getD a 1 0 = word-same 1 (omega arith) in
-      let f : getD b 0 0 ≡ getD a 0 0 = word-same 0 (omega arith) in
-      let few = t .count in
-      let form = t .form in
-      sound-true b (record {
-        header = omega arith;
-        form = omega arith;
-        count = omega arith;
-        whole = omega arith;
-        pieces = ap (λ (n : ℕ). every soundRow (pieces 5 n (drop 2 b))) c ∙ ap (every soundRow) (pieces-same (getD a 1 0) few) ∙ t .pieces;
-        order = ap (ascending rowBefore) (rows-same s) ∙ t .order;
-      })
-
   pub filled-same : Filled a → Filled b
-  filled-same f = record { long = e .second; sound = sound-same (f .sound) }
+  filled-same f = record { long = e .second; sound = sound-same e (f .sound) }
 
   pub gathering-same : Gathering a → Gathering b
-  gathering-same g = record { filled = filled-same (g .filled); finite = word-same 0 (omega arith) ∙ g .finite }
+  gathering-same g = record { filled = filled-same (g .filled); finite = word-same e 0 (omega arith) ∙ g .finite }
+
+pub lies : {S : RowSet} {area : List ℕ} → Stands S area → Filled area
+lies s = record { long = s .long; sound = s .sound }
+
+-- a set that is started
+pub cleared : {form : ℕ} (area : List ℕ) {now : List ℕ} → 642 ≤ length area → form ≤ 1 → now ≡ written (formed form []) area → Empty form now
+cleared {form} area long h e =
+    let s = cleared-stands form area long e in
+    record { filled = lies s; is = stands-form s ∙ formed-word form [] h; none = stands-rows s ∙ formed-listing form [] }
 
 pub finite-set : (ws : List ℕ) → getD ws 0 0 ≡ 0 → setIn ws ≡ only (rowsIn ws)
 unfolding setIn formed
@@ -92,6 +47,9 @@ kept-less h p = record { same = λ k l m. p .same k l (omega arith) }
 
 pub kept-then : {free : ℕ} {a b c : List ℕ} → Kept free a b → Kept free b c → Kept free a c
 kept-then p q = record { same = λ k h l. q .same k h l ∙ p .same k h l }
+
+pub written-kept : {free : ℕ} (S : RowSet) (area : List ℕ) {now : List ℕ} → length (setWords S) ≤ 642 → 642 ≤ length area → now ≡ written S area → Kept free area now
+written-kept S area h long e = record { same = λ k l m. ap (λ (ws : List ℕ). getD ws k 0) (e ∙ sym (written-put S area)) ∙ put-after 0 (setWords S) area (omega arith) k (omega arith) }
 
 -- a set that lies in what stayed
 pub kept-part : {free : ℕ} {a b : List ℕ} → 642 ≤ free → length b ≡ length a → free + 642 ≤ length a → Kept (free + 642) a b → SameFront (drop free a) (drop free b)

@@ -3,7 +3,6 @@ pub mod Held
 pub mod Past
 pub mod Areas
 pub mod Match
-pub mod Written
 pub mod Rows
 pub mod Literals
 pub mod Named

@@ -16,8 +16,10 @@ use Rattle.sets.specs.declared.row.Row as Held-row
 use Rattle.rows.proofs.Case.{_then_, iff-refl, iff-sym, both-or}
 use Rattle.rows.proofs.Order.{row-order}
 use Rattle.rows.proofs.Ordered.{Ascending, insert-∈, insert-ascending, join-ascending, ascending-unique}
+use Rattle.rows.proofs.Joining.{insert-shorter}
 use Rattle.rows.proofs.LayoutLaws.{listing-in, rows-count, true-sound}
 use Rattle.sets.proofs.SetWords.{sound-ascending}
+use Rattle.sets.proofs.Standing.{copied-stands}
 use Rattle.policy.specs.Syntax.{Term}
 use Rattle.meaning.specs.Values.{Values, rowOf}
 use Rattle.meaning.specs.Reading.{done, refused, small, rowsOf}
@@ -26,9 +28,8 @@ use Rattle.leaves.specs.Places.{SomeRow, SomeRows, PastRow}
 use Rattle.leaves.specs.Areas.{Filled, Empty}
 use Rattle.leaves.specs.Leaves.{SayRow, SayRows, SayDefinition}
 use Rattle.leaves.proofs.Past.{RowsLeft, RowsNext, rows-inside, rows-next, rows-none}
-use Rattle.leaves.proofs.Areas.{sets-at, part-whole}
-use Rattle.leaves.proofs.Written.{filled-there, set-there, sound-listable}
-use Rattle.leaves.proofs.Rows.{Listed, insert-grows}
+use Rattle.leaves.proofs.Areas.{lies, sets-at, part-whole}
+use Rattle.leaves.proofs.Rows.{Listed}
 use Rattle.leaves.specs.declared.values.Env.{Env}
 
 -- ---- a set that is small, and one that is not
@@ -117,7 +118,7 @@ module _ {ws : List ℕ} {at form : ℕ} {env : Env} {area : List ℕ} {next i :
         left = on (iv .n) (iv .rs) w;
         filled = l .filled;
         is = l .form ∙ iv .is;
-        few = omega (arith, ap length (l .rows), insert-grows rowBefore (held.rowOf r) (rowsIn area));
+        few = omega (arith, ap length (l .rows), insert-shorter rowBefore row-order (held.rowOf r) (rowsIn area));
         means = λ z g. iv .means z (λ n rs t.
             let x = rows-next (omega arith) t in
             ap (λ (ys : List (List Term)). join rowBefore (map (rowOf (valuesOf env)) ys) (rowsIn area)) (x .is)
@@ -150,6 +151,5 @@ module _ (defs : List ℕ) {d w : ℕ} (e : w ≡ d) (f : Filled (drop (642 * d)
 
   pub definition-copied : {known : ℕ} (to : List ℕ) {area : List ℕ} → d < known → 642 ≤ length to → area ≡ written (setIn (take (length defs - 642 * w) (drop (642 * w) defs))) to → SayDefinition known d defs area
   definition-copied {known} to {area} h long c =
-      let s = sound-listable (drop (642 * d) defs) (f .sound) in
-      let written-there : area ≡ written (setIn (drop (642 * d) defs)) to = c ∙ ap (λ (ws : List ℕ). written (setIn ws) to) lent in
-      record { filled = subst Filled (sym written-there) (filled-there s to long); means = ap setIn written-there ∙ set-there s to long ∙ sym (sets-at known d defs h) }
+      let s = copied-stands (take (length defs - 642 * w) (drop (642 * w) defs)) definition-sound to long c in
+      record { filled = lies s; means = s .set ∙ ap setIn lent ∙ sym (sets-at known d defs h) }

@@ -1,7 +1,6 @@
 -- Reading a name: the rows of its records are those certified for it, and they are copied in order.
 use Prim.Native.Nat.{ℕ, zero, suc, _+_, _*_, _/_, _≤_, _<_}
 use mathlib.Core.Path.{_≡_, refl, sym, ap, subst, _∙_}
-use mathlib.Core.Logic.{inl, inr}
 use mathlib.Core.Bool.{true, false}
 use mathlib.Core.List.{List, [], _∷_, _++_, map, append-nil}
 use native.Mathlib.Numerals.{add-one}
@@ -11,21 +10,23 @@ use lib.ListN.{length, take, drop, getD, set, length-map, List·getD-map}
 use lib.Seq.{take-suc, take-all, drop-drop, length-take-le}
 use borrow.Author.Tests.{leb-true, lt-leb, le-leb, eqb-true, eqb-false, eq-eqb, ne-eqb}
 use Rattle.rows.specs.Word.{All}
-use Rattle.rows.specs.Ordered.{_∈_, insert, join, keep}
+use Rattle.rows.specs.Ordered.{insert, join, keep}
 use Rattle.rows.specs.Row.{Row, isKey, firstKey, rowBefore}
 use Rattle.rows.specs.Name.{Polarity, plus, minus, polarityOf, polarityWord, samePolarity}
 use Rattle.rows.specs.Sets.{RowSet, listing}
 use Rattle.rows.specs.Layout.{laid, rowWords, rowIn, fiveAt, soundRow, flat, pieces, rowsIn, formed, setIn, written, put}
 use Rattle.sets.specs.Values.{wordsOf, rowOf}
 use Rattle.sets.specs.declared.row.Row as Held-row
-use Rattle.rows.proofs.Case.{Case, isTrue, isFalse, split, _then_}
+use Rattle.rows.proofs.Case.{Case, isTrue, isFalse, split}
 use Rattle.rows.proofs.Order.{row-order}
-use Rattle.rows.proofs.Lists.{all-in, all-of, all-take}
-use Rattle.rows.proofs.Ordered.{Ascending, join-∈, join-ascending, ascending-unique}
-use Rattle.rows.proofs.LayoutLaws.{piece-at, length-pieces, row-length, row-width, sound-width, formed-listing, formed-word}
+use Rattle.rows.proofs.Lists.{all-in, all-of, at-all, all-take}
+use Rattle.rows.proofs.Ordered.{Ascending}
+use Rattle.rows.proofs.Joining.{join-none}
+use Rattle.rows.proofs.LayoutLaws.{Width, piece-at, length-pieces, row-length, row-width, sound-width, formed-listing, formed-word}
 use Rattle.sets.proofs.RowLaws.{five-length, five-width, loaded-row, loaded-width}
 use Rattle.rows.proofs.Put.{put-length, put-none, put-then-after}
 use Rattle.sets.proofs.Laid.{drop-take, Narrow, laid-length, laid-append, written-count}
+use Rattle.sets.proofs.Standing.{formed-fit, formed-few, written-stands}
 use Rattle.certificates.specs.Certificate.{Certificate, soundRecord, certificateOf}
 use Rattle.certificates.specs.Store.{records, soundStore, certificates}
 use Rattle.certificates.specs.NamePart.{ofName, namePart}
@@ -38,11 +39,11 @@ use Rattle.meaning.specs.Evidence.{isOf, certified, namesHeld}
 use Rattle.meaning.specs.Reading.{done, small}
 use Rattle.leaves.specs.Values.{valuesOf, termOf}
 use Rattle.leaves.specs.Places.{At, nameWords, SomeName, IsTerm}
-use Rattle.leaves.specs.Areas.{Filled, Empty}
+use Rattle.leaves.specs.Areas.{Empty}
 use Rattle.leaves.specs.Leaves.{setAnswer, IfDone, Records, recordRows, SayName}
 use Rattle.leaves.proofs.Places.{at-word, at-next, at-skip, at-front, at-long, term-length}
 use Rattle.leaves.proofs.Held.{held-value}
-use Rattle.leaves.proofs.Written.{Wide, filled-there, set-there, formed-listable}
+use Rattle.leaves.proofs.Areas.{lies}
 use Rattle.leaves.proofs.Literals.{small-few, small-many}
 use Rattle.leaves.specs.declared.values.Env.{Env}
 use Rattle.leaves.specs.declared.values.Read.the-variants.{Done, Refused}
@@ -64,11 +65,6 @@ pub copying-start : {rs : List ℕ} {count : ℕ} {entry : List ℕ} → Copying
 unfolding flat recordRows
 copying-start {entry} = record { within = omega arith; size = refl; words = sym (put-none 2 entry) }
 
-all-wide : (xs : List Row) → ((i : ℕ) → i < length xs → Wide (getD xs i [])) → All Wide xs
-unfolding All
-all-wide [] g = tt
-all-wide (x ∷ xs) g = (g 0 (omega arith), all-wide xs (λ i h. g (suc i) (omega arith)))
-
 record-count : (rs : List ℕ) (count : ℕ) → length (recordRows rs count) ≡ count
 unfolding recordRows
 record-count rs count = length-map (pieces 8 count rs) rowOfRecord ∙ length-pieces 8 count rs
@@ -85,7 +81,7 @@ module _ {rs : List ℕ} {count : ℕ} (records : Records rs count) where
     unfolding rowIn recordRows
     row-there = List·getD-map rowOfRecord (pieces 8 count rs) i [] ∙ ap rowIn five
 
-    wide : Wide (getD (recordRows rs count) i [])
+    wide : Width (getD (recordRows rs count) i [])
     wide =
         let s = sound-width (fiveAt rs (8 * i + 3)) (records .sound i h) in
         let w = row-width (fiveAt rs (8 * i + 3)) (five-length rs (8 * i + 3) (omega (arith, records .whole))) (records .sound i h) in
@@ -95,11 +91,11 @@ module _ {rs : List ℕ} {count : ℕ} (records : Records rs count) where
     pub record-narrow : (r : Held-row.Row) → wordsOf r ≡ fiveAt rs (8 * i + 3) → r .width ≤ 4
     record-narrow r e = omega (arith, loaded-width r rs (8 * i + 3) e, five-width rs (8 * i + 3), sound-width (fiveAt rs (8 * i + 3)) (records .sound i h) .few)
 
-  pub rows-of-records-wide : All Wide (recordRows rs count)
-  rows-of-records-wide = all-wide (recordRows rs count) (λ i h. wide i (omega (arith, many)))
+  pub rows-of-records-wide : All Width (recordRows rs count)
+  rows-of-records-wide = at-all Width (recordRows rs count) [] (λ i h. wide i (omega (arith, many)))
 
   narrow : Narrow (recordRows rs count)
-  narrow = all-of (λ (r : Row). length r ≤ 4) _ (λ x j. all-in Wide _ rows-of-records-wide x j .few)
+  narrow = all-of (λ (r : Row). length r ≤ 4) _ (λ x j. all-in Width _ rows-of-records-wide x j .few)
 
   laid-here : (i : ℕ) → i ≤ count → length (laid (take i (recordRows rs count))) ≡ 5 * i
   laid-here i h = omega (arith, laid-length (take i (recordRows rs count)) (all-take _ i _ narrow), length-take-le i (recordRows rs count) (omega (arith, many)))
@@ -177,13 +173,6 @@ certified-records k n p (w ∷ ws) a = go (is-of-name k n p w (a .0)) (certified
     go e ih (isTrue h) = rw (e ∙ h, certified, h, keep) (ap (insert rowBefore (rowOfRecord w)) ih)
     go e ih (isFalse h) = rw (e ∙ h, certified, h, keep) ih
 
--- rows in order, joined to none, are those rows
-join-none : (xs : List Row) → Ascending rowBefore row-order xs → join rowBefore xs [] ≡ xs
-unfolding Ascending _∈_
-join-none xs a =
-    ascending-unique rowBefore row-order (join rowBefore xs []) xs (join-ascending rowBefore row-order xs [] tt) a
-    (λ r. join-∈ rowBefore row-order xs [] r then (λ h. elim h [ inl i ↦ i | inr i ↦ absurd i ], λ i. inl i))
-
 module _ (store : List ℕ) (sound : soundStore store ≡ true) (k n : ℕ) (p : Polarity) where
   abbrev ofIt : List (List ℕ)
   ofIt = keep (ofName k n (polarityWord p)) (records store)
@@ -192,7 +181,7 @@ module _ (store : List ℕ) (sound : soundStore store ≡ true) (k n : ℕ) (p :
   unfolding certificates
   certified-name =
       certified-records k n p (records store) (all-of _ (records store) (λ w i. leb-true _ 1 (sound-record w (all-in (λ x. soundRecord x ≡ true) (records store) (sound-store store sound .each) w i) .polarity)))
-      ∙ join-none (map rowOfRecord ofIt) (name-rows k n (polarityWord p) store sound)
+      ∙ join-none rowBefore row-order (map rowOfRecord ofIt) (name-rows k n (polarityWord p) store sound)
 
   module _ {part : List ℕ} (e : part ≡ namePart store k n (polarityWord p)) where
     part-count : length part / 8 ≡ length ofIt
@@ -307,13 +296,13 @@ module _ {ws : List ℕ} {at : ℕ} (env : Env) {x : Held-term.Term} {key : ℕ}
     unfolding IfDone setAnswer
     say-records {k} empty {area} m few e =
         let rows : List Row = recordRows part (length part / 8) in
-        let l = formed-listable (getD ws (at + 3) 0) rows (part-ascending store sound key (some .m) (some .p) (part-of some-here)) (rows-of-records-wide (ask-records few)) (omega (arith, record-count part (length part / 8))) in
-        let w : area ≡ written (formed (getD ws (at + 3) 0) rows) empty = e ∙ ap (λ (f : ℕ). written (formed f rows) empty) (m .is) in
-        let s : setIn area ≡ formed (getD ws (at + 3) 0) rows = ap setIn w ∙ set-there l empty (m .filled .long) in
+        let fit = formed-fit (getD ws (at + 3) 0) rows (part-ascending store sound key (some .m) (some .p) (part-of some-here)) (rows-of-records-wide (ask-records few)) in
+        let few′ = formed-few (getD ws (at + 3) 0) rows (omega (arith, record-count part (length part / 8))) in
+        let s = written-stands fit few′ empty (m .filled .long) (e ∙ ap (λ (f : ℕ). written (formed f rows) empty) (m .is)) in
         record {
-          filled = subst Filled (sym w) (filled-there l empty (m .filled .long));
+          filled = lies s;
           means = λ t n p q.
               let v = name-here t n p q in
               ap (λ (z : RowSet). small z k) (held t n p v ∙ ap (λ (f : ℕ). formed f rows) (sym (v .polarity)))
-              ∙ small-few (formed (getD ws (at + 3) 0) rows) k (l .few) ∙ ap (λ (z : RowSet). done z k) (sym s);
+              ∙ small-few (formed (getD ws (at + 3) 0) rows) k few′ ∙ ap (λ (z : RowSet). done z k) (sym (s .set));
         }

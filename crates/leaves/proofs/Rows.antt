@@ -1,30 +1,27 @@
 -- Rows of terms: the row that they come to, the head's row inserted, and the membership test of an absent guard.
 use Prim.Native.Nat.{ℕ, zero, suc, _+_, _*_, _≤_, _<_}
 use mathlib.Core.Path.{_≡_, refl, sym, ap, subst, _∙_}
-use mathlib.Core.Bool.{Bool, true, false}
+use mathlib.Core.Bool.{Bool}
 use mathlib.Core.List.{List, [], _∷_, _++_}
 use native.Mathlib.Numerals.{add-one}
 use native.Mathlib.Omega.{arith}
-use lib.Dec.{ltb}
 use lib.ListN.{length, take, getD, set, length-map, length-set, List·getD-map}
 use lib.Seq.{take-suc, take-suc-set, take-all}
-use borrow.Author.Tests.{le-leb, lt-leb, ltb-true, ltb-false}
-use Rattle.rows.specs.Ordered.{_∈_, lists, insert}
+use borrow.Author.Tests.{le-leb, lt-leb}
+use Rattle.rows.specs.Ordered.{insert}
 use Rattle.rows.specs.Row.{Row, rowBefore}
-use Rattle.rows.specs.Sets.{listing, has}
-use Rattle.rows.specs.Layout.{rowIn, rowsIn, formed, setIn, written}
+use Rattle.rows.specs.Sets.{has}
+use Rattle.rows.specs.Layout.{rowIn, rowsIn, setIn}
 use Rattle.sets.specs.Values as held
 use Rattle.sets.specs.Values.{wordsOf, insertion, afterInsert}
 use Rattle.sets.specs.declared.row.Row as Held-row
 use Rattle.sets.specs.declared.set.Inserted as Inserted
 use Rattle.sets.specs.declared.set.Inserted.the-variants.{New, Known, Full}
-use Rattle.rows.proofs.Case.{Case, isTrue, isFalse, split, never, T-true, true-T}
 use Rattle.rows.proofs.Order.{row-order}
-use Rattle.rows.proofs.Ordered.{lists-iff, insert-length}
-use Rattle.rows.proofs.Place.{insert-known}
-use Rattle.rows.proofs.LayoutLaws.{listing-in, formed-word, formed-listing, rows-count, true-sound}
+use Rattle.rows.proofs.Joining.{insert-shorter}
+use Rattle.rows.proofs.LayoutLaws.{Width, formed-word, formed-listing, true-sound}
 use Rattle.sets.proofs.RowLaws.{held-length}
-use Rattle.sets.proofs.SetWords.{sound-ascending}
+use Rattle.sets.proofs.Standing.{stands-rows, stands-form, formed-few, fit-size, written-stands, inserted-fit, inserted-few, inserted-words, full-many}
 use Rattle.policy.specs.Syntax.{Term, atom}
 use Rattle.policy.specs.Words.{termWords, each, termRowWords}
 use Rattle.meaning.specs.Values.{Values, value, rowOf}
@@ -35,8 +32,7 @@ use Rattle.leaves.specs.Areas.{Filled, Gathering, Kept}
 use Rattle.leaves.specs.Leaves.{rowsAnswer, IfDone, SayRow, SayHead, SayHas}
 use Rattle.leaves.proofs.Places.{at-next, at-skip, at-front, term-length, row-wide}
 use Rattle.leaves.proofs.Held.{held-value}
-use Rattle.leaves.proofs.Areas.{kept-self}
-use Rattle.leaves.proofs.Written.{Wide, rows-there, form-there, filled-there, kept-there, insert-listable}
+use Rattle.leaves.proofs.Areas.{lies, kept-self, written-kept}
 use Rattle.leaves.specs.declared.values.Env.{Env}
 use Rattle.leaves.specs.declared.values.Read.the-variants.{Done, Refused}
 use Rattle.leaves.specs.declared.values.Term as Held-term
@@ -110,20 +106,10 @@ module _ {ws : List ℕ} {at : ℕ} {env : Env} (some : SomeRow ws at) {atoms : 
             subst (λ (k : ℕ). take k atoms ≡ take k (rowOf (valuesOf env) ts)) e (iv .means n ts s) ∙ take-all (getD ws at 0) (rowOf (valuesOf env) ts) (omega arith);
       }
 
-pub row-is-wide : {ws : List ℕ} {at : ℕ} {env : Env} {r : Held-row.Row} → length (r .atoms) ≡ 4 → SayRow ws at env r → Wide (held.rowOf r)
+pub row-is-wide : {ws : List ℕ} {at : ℕ} {env : Env} {r : Held-row.Row} → length (r .atoms) ≡ 4 → SayRow ws at env r → Width (held.rowOf r)
 row-is-wide {r} four s = let l = held-length r four (s .few) in let a = s .some in let b = s .few in record { some = omega arith; few = omega arith }
 
 -- ---- a row inserted into a sound set
-
-pub insert-grows : {A : Type 0} (before : A → A → Bool) (r : A) (xs : List A) → length (insert before r xs) ≤ suc (length xs)
-unfolding insert
-insert-grows before r [] = omega arith
-insert-grows before r (x ∷ xs) = go (insert-grows before r xs) (split (before r x)) (split (before x r))
-  where
-    go : length (insert before r xs) ≤ suc (length xs) → Case (before r x) → Case (before x r) → length (insert before r (x ∷ xs)) ≤ suc (length (x ∷ xs))
-    go ih (isTrue p) q = rw (p, insert) (omega arith)
-    go ih (isFalse p) (isTrue q) = rw (p, q, insert) (omega arith)
-    go ih (isFalse p) (isFalse q) = rw (p, q, insert) (omega arith)
 
 -- what became of it: it is listed, or there was no room for it
 pub record Listed (ws : List ℕ) (r : Row) (after : List ℕ) : Type 0 where
@@ -137,75 +123,35 @@ pub record NoRoom (ws : List ℕ) (r : Row) (after : List ℕ) : Type 0 where
   pub same : after ≡ ws
   pub many : 128 < length (insert rowBefore r (rowsIn ws))
 
-choose-known : (b c : Bool) → (elim b as (λ x. Inserted.Inserted) [ true ↦ Known | false ↦ elim c [ true ↦ New | false ↦ Full ] ]) ≡ Known → b ≡ true
-choose-known true c e = refl
-choose-known false true e = let z : _≡_ {A = ℕ} 0 1 = cc in absurd (omega arith)
-choose-known false false e = let z : _≡_ {A = ℕ} 0 1 = cc in absurd (omega arith)
+module _ {ws : List ℕ} (f : Filled ws) {r : Row} (width : Width r) (a : Inserted.Inserted) (answer : a ≡ insertion (setIn ws) r) (after : List ℕ) (words : after ≡ afterInsert a ws r) where
+  there : (a ≡ Full → ⊥) → Listed ws r after
+  there n =
+      let few = inserted-few ws r (f .sound) a answer n in
+      let fit = inserted-fit ws r (f .sound) width in
+      let few′ = formed-few (getD ws 0 0) (insert rowBefore r (rowsIn ws)) few in
+      let e = words ∙ inserted-words a ws r n in
+      let s = written-stands fit few′ ws (f .long) e in
+      record {
+        filled = lies s;
+        form = stands-form s ∙ formed-word (getD ws 0 0) _ (true-sound ws (f .sound) .form);
+        rows = stands-rows s ∙ formed-listing (getD ws 0 0) _;
+        few = few;
+        kept = λ free. written-kept _ ws (fit-size fit few′) (f .long) e;
+      }
 
-choose-new : (b c : Bool) → (elim b as (λ x. Inserted.Inserted) [ true ↦ Known | false ↦ elim c [ true ↦ New | false ↦ Full ] ]) ≡ New → (b ≡ false) × (c ≡ true)
-choose-new true c e = let z : _≡_ {A = ℕ} 0 1 = cc in absurd (omega arith)
-choose-new false true e = (refl, refl)
-choose-new false false e = let z : _≡_ {A = ℕ} 0 1 = cc in absurd (omega arith)
+  pub known-listed : a ≡ Known → Listed ws r after
+  known-listed e = there (λ h. let z : _≡_ {A = ℕ} 0 1 = cc in omega arith)
 
-choose-full : (b c : Bool) → (elim b as (λ x. Inserted.Inserted) [ true ↦ Known | false ↦ elim c [ true ↦ New | false ↦ Full ] ]) ≡ Full → (b ≡ false) × (c ≡ false)
-choose-full true c e = let z : _≡_ {A = ℕ} 0 1 = cc in absurd (omega arith)
-choose-full false true e = let z : _≡_ {A = ℕ} 0 1 = cc in absurd (omega arith)
-choose-full false false e = (refl, refl)
+  pub new-listed : a ≡ New → Listed ws r after
+  new-listed e = there (λ h. let z : _≡_ {A = ℕ} 0 1 = cc in omega arith)
 
-module _ {ws : List ℕ} (f : Filled ws) {r : Row} (wide : Wide r) where
-  module _ (a : Inserted.Inserted) (answer : a ≡ insertion (setIn ws) r) (after : List ℕ) (words : after ≡ afterInsert a ws r) where
-    lists-as : lists rowBefore (listing (setIn ws)) r ≡ lists rowBefore (rowsIn ws) r
-    lists-as = ap (λ (xs : List Row). lists rowBefore xs r) (listing-in ws)
+  pub full-no-room : a ≡ Full → NoRoom ws r after
+  unfolding afterInsert
+  full-no-room e = record { same = words ∙ ap (λ (b : Inserted.Inserted). afterInsert b ws r) e; many = full-many ws r (f .sound) a answer e }
 
-    there : length (insert rowBefore r (rowsIn ws)) ≤ 128 → after ≡ written (formed (getD ws 0 0) (insert rowBefore r (rowsIn ws))) ws → Listed ws r after
-    there few e =
-        let l = insert-listable ws r (f .sound) wide few in
-        record {
-          filled = subst Filled (sym e) (filled-there l ws (f .long));
-          form = ap (λ (u : List ℕ). getD u 0 0) e ∙ form-there l ws (f .long) ∙ formed-word (getD ws 0 0) _ (true-sound ws (f .sound) .form);
-          rows = ap rowsIn e ∙ rows-there l ws (f .long) ∙ formed-listing (getD ws 0 0) _;
-          few = few;
-          kept = λ free. subst (Kept free ws) (sym e) (kept-there l ws (f .long) free);
-        }
-
-    pub known-listed : a ≡ Known → Listed ws r after
-    unfolding insertion afterInsert
-    known-listed e =
-        let c = choose-known (lists rowBefore (listing (setIn ws)) r) (ltb (length (listing (setIn ws))) 128) (sym answer ∙ e) in
-        let m : r ∈ rowsIn ws = lists-iff rowBefore row-order (rowsIn ws) r .0 (T-true (sym lists-as ∙ c)) in
-        let k : length (insert rowBefore r (rowsIn ws)) ≡ length (rowsIn ws) = ap length (insert-known rowBefore row-order [] (rowsIn ws) r (sound-ascending ws (f .sound)) m) in
-        let few = true-sound ws (f .sound) .count in
-        there (omega (arith, rows-count ws)) (words ∙ ap (λ (b : Inserted.Inserted). afterInsert b ws r) e)
-
-    not-listed : lists rowBefore (listing (setIn ws)) r ≡ false → length (insert rowBefore r (rowsIn ws)) ≡ suc (length (rowsIn ws))
-    not-listed c = insert-length rowBefore row-order r (rowsIn ws) (λ i. never (true-T _ (lists-iff rowBefore row-order (rowsIn ws) r .1 i)) (sym lists-as ∙ c))
-
-    pub new-listed : a ≡ New → Listed ws r after
-    unfolding insertion afterInsert
-    new-listed e =
-        let c = choose-new (lists rowBefore (listing (setIn ws)) r) (ltb (length (listing (setIn ws))) 128) (sym answer ∙ e) in
-        let k = not-listed (c .0) in
-        let few : length (listing (setIn ws)) < 128 = ltb-true _ _ (c .1) in
-        let l = ap length (listing-in ws) in
-        there (omega arith) (words ∙ ap (λ (b : Inserted.Inserted). afterInsert b ws r) e)
-
-    pub full-no-room : a ≡ Full → NoRoom ws r after
-    unfolding insertion afterInsert
-    full-no-room e =
-        let c = choose-full (lists rowBefore (listing (setIn ws)) r) (ltb (length (listing (setIn ws))) 128) (sym answer ∙ e) in
-        let k = not-listed (c .0) in
-        let many : 128 ≤ length (listing (setIn ws)) = ltb-false _ _ (c .1) in
-        let l = ap length (listing-in ws) in
-        record { same = words ∙ ap (λ (b : Inserted.Inserted). afterInsert b ws r) e; many = omega arith }
-
-    -- where there is room
-    pub listed : length (rowsIn ws) < 128 → Listed ws r after
-    listed h = go a refl
-      where
-        go : (b : Inserted.Inserted) → a ≡ b → Listed ws r after
-        go New e = new-listed e
-        go Known e = known-listed e
-        go Full e = let n = full-no-room e .many in let k = insert-grows rowBefore r (rowsIn ws) in absurd (omega arith)
+  -- where there is room
+  pub listed : length (rowsIn ws) < 128 → Listed ws r after
+  listed h = there (λ e. let n = full-many ws r (f .sound) a answer e in let k = insert-shorter rowBefore row-order r (rowsIn ws) in omega arith)
 
 -- ---- the head's row
 

@@ -30,7 +30,8 @@ use Rattle.leaves.specs.Leaves.{rowsAnswer, IfDone, matchedAs, SayMatch}
 use Rattle.reading.specs.Readers.{From, gathering, MeansBody, AskExpr, AskBody, AskDraw, SayExpr, SayBody, SayDraw}
 use Rattle.leaves.proofs.Places.{expr-some, slots-scope}
 use Rattle.leaves.proofs.Past.{pattern-here, rest-is, rest-here}
-use Rattle.leaves.proofs.Areas.{SameFront, rows-same, word-same, filled-same, gathering-same, finite-set, kept-self, kept-less, kept-then, kept-part, givenBack, back-kept, part-length}
+use Rattle.sets.proofs.Front.{SameFront, rows-same, word-same}
+use Rattle.leaves.proofs.Areas.{filled-same, gathering-same, finite-set, kept-self, kept-less, kept-then, kept-part, givenBack, back-kept, part-length}
 use Rattle.reading.proofs.Exprs.{after-done, after-refused, refused-means, some-room}
 use Rattle.reading.proofs.Guards.{Operand, operand, operand-rows}
 use Rattle.leaves.specs.declared.values.Env.{Env}

@@ -17,7 +17,8 @@ use Rattle.leaves.specs.Leaves.{setAnswer, rowsAnswer, IfDone, combined, SayRow
 use Rattle.reading.specs.Readers.{From, reading, gathering, Means, AskExpr, AskTwo, AskBody, SayExpr, SayTwo, SayBody}
 use Rattle.leaves.proofs.Places.{on-finite, on-cofinite, on-definition, on-listed, on-union, on-difference, on-comprehension, in-finite, in-cofinite, in-definition, in-listed, in-union, in-difference, in-comprehension, code-here, expr-some}
 use Rattle.leaves.proofs.Past.{right-here, last-code}
-use Rattle.leaves.proofs.Areas.{SameFront, set-same, filled-same, finite-set, givenBack, back-part, back-front, part-length}
+use Rattle.sets.proofs.Front.{SameFront, set-same}
+use Rattle.leaves.proofs.Areas.{filled-same, finite-set, givenBack, back-part, back-front, part-length}
 use Rattle.leaves.specs.declared.values.Env.{Env}
 use Rattle.leaves.specs.declared.values.Read.{Read}
 use Rattle.leaves.specs.declared.values.Read.the-variants.{Done, Refused}

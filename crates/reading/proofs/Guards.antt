@@ -23,7 +23,8 @@ use Rattle.reading.specs.Readers.{From, gathering, Means, AskExpr, AskBo
 use Rattle.leaves.proofs.Places.{on-head, on-draw, on-same, on-different, on-absent, in-head, in-draw, in-same, in-different, in-absent, expr-some, row-length}
 use Rattle.leaves.proofs.Held.{held-value}
 use Rattle.leaves.proofs.Past.{operand-here, over-is, over-here}
-use Rattle.leaves.proofs.Areas.{SameFront, rows-same, gathering-same, kept-self, kept-then, givenBack, back-length, back-part, back-front, back-kept, part-length, part-whole}
+use Rattle.sets.proofs.Front.{SameFront, rows-same}
+use Rattle.leaves.proofs.Areas.{gathering-same, kept-self, kept-then, givenBack, back-length, back-part, back-front, back-kept, part-length, part-whole}
 use Rattle.reading.proofs.Exprs.{after-done, after-refused, done-means, refused-means, done-filled, some-room}
 use Rattle.leaves.specs.declared.values.Env.{Env}
 use Rattle.leaves.specs.declared.values.Read.{Read}

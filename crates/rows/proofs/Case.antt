@@ -26,10 +26,6 @@ pub true-and : (a b : Bool) → a ≡ true → b ≡ true → (a && b) ≡ true
 true-and true b e f = f
 true-and false b e f = e
 
-pub or-false : (a b : Bool) → (a || b) ≡ false → (a ≡ false) × (b ≡ false)
-or-false true b e = never refl e
-or-false false b e = (refl, e)
-
 -- tests as types
 pub T-true : {b : Bool} → b ≡ true → T b
 T-true e = subst T (sym e) tt

@@ -1,6 +1,6 @@
 -- The layout and its reading are inverse: a set written is sound and reads as itself, and a sound set's words are those of the set read from them.
 use Prim.Native.Nat.{ℕ, zero, suc, _+_, _*_, _-_, _≤_, _<_}
-use mathlib.Core.Path.{_≡_, refl, sym, _∙_, ap, subst}
+use mathlib.Core.Path.{_≡_, refl, sym, _∙_, ap}
 use mathlib.Core.Bool.{Bool, true, false, _&&_}
 use mathlib.Core.List.{List, [], _∷_, _++_, map, append-assoc}
 use native.Mathlib.Omega.{arith}
@@ -18,7 +18,7 @@ use Rattle.rows.proofs.Case.{Case, isTrue, isFalse, split, never, and-t
 use Rattle.rows.proofs.Scan.{every-at}
 use Rattle.rows.proofs.Order.{row-order}
 use Rattle.rows.proofs.Lists.{all-take, all-drop}
-use Rattle.rows.proofs.Ordered.{Ascending, ascending-true, true-ascending}
+use Rattle.rows.proofs.Ordered.{Ascending, true-ascending}
 use Rattle.rows.proofs.Sets.{Proper}
 
 -- ---- pieces of any size
@@ -136,14 +136,8 @@ unfolding All
 width-sized [] a = tt
 width-sized (x ∷ xs) a = (row-length x (a .0 .few), width-sized xs (a .1))
 
-pub rows-sized : (xs : List Row) → All IsRow xs → All (Sized 5) (map rowWords xs)
-rows-sized xs a = width-sized xs (widths xs a)
-
 width-length : (xs : List Row) → All Width xs → length (flat (map rowWords xs)) ≡ 5 * length xs
 width-length xs a = omega (arith, flat-length 5 (map rowWords xs) (width-sized xs a), length-map xs rowWords)
-
-pub rows-length : (xs : List Row) → All IsRow xs → length (flat (map rowWords xs)) ≡ 5 * length xs
-rows-length xs a = width-length xs (widths xs a)
 
 pub rows-read : (xs : List Row) → map rowIn (map rowWords xs) ≡ xs
 rows-read [] = refl
@@ -172,15 +166,6 @@ row-is ws l e a =
     let s = sound-width ws e in
     let w : length (rowIn ws) ≡ getD ws 0 0 = row-width ws l e in
     record { some = omega (arith, s .some); few = omega (arith, s .few); words = all-take IsWord (getD ws 0 0) (drop 1 ws) (all-drop IsWord 1 ws a) }
-
-pieces-rows : (n : ℕ) (ws : List ℕ) → 5 * n ≤ length ws → every soundRow (pieces 5 n ws) ≡ true → Words ws → All IsRow (map rowIn (pieces 5 n ws))
-unfolding pieces every All
-pieces-rows zero ws h e a = tt
-pieces-rows (suc n) ws h e a =
-    let t = and-true (soundRow (take 5 ws)) (every soundRow (pieces 5 n (drop 5 ws))) e in (
-      row-is (take 5 ws) (length-take-le 5 ws (omega arith)) (t .0) (all-take IsWord 5 ws a),
-      pieces-rows n (drop 5 ws) (omega (arith, length-drop 5 ws)) (t .1) (all-drop IsWord 5 ws a),
-    )
 
 -- ---- a set
 
@@ -297,16 +282,6 @@ pub written-sound : (S : RowSet) (area : List ℕ) → Proper (listing S) → le
 written-sound S area p n h = written-fits S area (p .order) (widths (listing S) (p .rows)) n h
 
 -- ---- the converse
-
-pub sound-proper : (ws : List ℕ) → soundSet ws ≡ true → Words ws → Proper (listing (setIn ws))
-unfolding rowsIn
-sound-proper ws e a =
-    let s = true-sound ws e in
-    let w = s .whole in
-    subst Proper (sym (listing-in ws)) (record {
-      order = ascending-true rowBefore row-order (rowsIn ws) (s .order);
-      rows = pieces-rows (getD ws 1 0) (drop 2 ws) (omega (arith, length-drop 2 ws)) (s .pieces) (all-drop IsWord 2 ws a);
-    })
 
 pub sound-few : (ws : List ℕ) → soundSet ws ≡ true → length (listing (setIn ws)) ≤ mostRows
 sound-few ws e = let c = true-sound ws e .count in omega (arith, count-in ws)

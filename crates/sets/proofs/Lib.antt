@@ -2,3 +2,5 @@ pub mod RowLaws
 pub mod SetWords
 pub mod Laid
 pub mod Inserting
+pub mod Front
+pub mod Standing

@@ -5,7 +5,8 @@ use borrow.Rule.Slice.PartMut.{putMid}
 use borrow.Author.Needs.{needs}
 use denote.Ref.{now}
 use Rattle.rows.specs.Layout.{setIn}
-use Rattle.engine.proofs.Placing.{part-put, set-fits}
+use Rattle.sets.proofs.Standing.{set-fits}
+use Rattle.engine.proofs.Placing.{part-put}
 use Rattle.engine.proofs.place_set.Statement.{statement}
 use Rattle.engine.proofs.place_set.Tie as tie
 

@@ -1,7 +1,7 @@
 -- A number issues nothing; a key's records are the rows certified.
 use native.Mathlib.Omega.{arith}
 use borrow.Author.Needs.{needs}
-use Rattle.leaves.proofs.Written.{cleared}
+use Rattle.leaves.proofs.Areas.{cleared}
 use Rattle.leaves.proofs.Named.{name-long, name-form, say-number, ask-records, say-too-many, say-records}
 use Rattle.leaves.proofs.names.read_name.Statement.{statement}
 use Rattle.leaves.proofs.names.read_name.Tie as tie
