@@ -1,4 +1,4 @@
--- The reader of a draw: its loop over the rows of the drawn set.
+-- The reader of a draw, and the loop over the rows of the drawn set.
 use Prim.Native.Nat.{ℕ, zero, suc, _+_, _-_, _*_, _≤_, _<_}
 use mathlib.Core.Path.{_≡_, refl, sym, ap, subst, _∙_}
 use mathlib.Core.Bool.{Bool, true, false}
@@ -7,7 +7,7 @@ use mathlib.Core.Option.{Option, none, some}
 use native.Mathlib.Numerals.{add-one}
 use native.Mathlib.Omega.{arith}
 use lib.Dec.{ltb}
-use lib.ListN.{length, take, drop, getD, drop-of-length-le}
+use lib.ListN.{length, take, drop, getD, length-drop, drop-of-length-le}
 use lib.Seq.{drop-cons, drop-drop, getD-drop}
 use borrow.Author.Tests.{lt-ltb, le-ltb}
 use Rattle.rows.specs.Row.{Row}
@@ -19,16 +19,16 @@ use Rattle.rows.proofs.Case.{never}
 use Rattle.rows.proofs.LayoutLaws.{true-sound, rows-count, row-at}
 use Rattle.sets.proofs.RowLaws.{loaded-row, loaded-width}
 use Rattle.sets.proofs.SetWords.{width-at}
-use Rattle.policy.specs.Syntax.{Slot, Expr, Body, draw}
+use Rattle.policy.specs.Syntax.{Slot, Body}
 use Rattle.policy.specs.Words.{fresh}
 use Rattle.meaning.specs.Values.{Values}
 use Rattle.meaning.specs.Reading.{Answer, done, refused, Reading, after, drawable, tick, match, onMatch, drawEach, read}
 use Rattle.leaves.specs.Values.{valuesOf}
-use Rattle.leaves.specs.Places.{StandsBody, StandsDraw, SomeExpr, SomePattern, PastExpr, PastPattern}
+use Rattle.leaves.specs.Places.{StandsPattern, StandsBody, SomeExpr, SomePattern, PastExpr, PastPattern}
 use Rattle.leaves.specs.Areas.{Gathering, Kept}
 use Rattle.leaves.specs.Leaves.{rowsAnswer, IfDone, matchedAs, SayMatch}
-use Rattle.reading.specs.Readers.{From, gathering, MeansBody, AskExpr, AskBody, AskDraw, SayExpr, SayBody, SayDraw}
-use Rattle.leaves.proofs.Places.{expr-some, slots-scope}
+use Rattle.reading.specs.Readers.{From, gathering, MeansBody, MeansEach, AskExpr, AskBody, AskDraw, AskEach, SayExpr, SayBody, SayDraw, SayEach}
+use Rattle.leaves.proofs.Places.{expr-some, inside, slots-scope}
 use Rattle.leaves.proofs.Past.{pattern-here, rest-is, rest-here}
 use Rattle.sets.proofs.Front.{SameFront, rows-same, word-same}
 use Rattle.leaves.proofs.Areas.{filled-same, gathering-same, finite-set, kept-self, kept-less, kept-then, kept-part, givenBack, back-kept, part-length}
@@ -72,59 +72,183 @@ module _ (rest : Values → List Row → Reading (List Row)) (p : List Slot) (vs
   draw-goes more j a h g next =
       rw (drop-cons xs i [] inside) (after-done _ (tick-on k h) (after-done _ g (subst (λ (n : ℕ). drawEach rest p vs (drop n xs) more j ≡ a) (add-one i) next)))
 
--- ---- the rows xs, drawn in turn, gather `a`
+-- ---- the rows of the drawn set in turn
 
-pub record MeansEach (f : From) (ws : List ℕ) (at left : ℕ) (env : Env) (xs found : List Row) (k : ℕ) (a : Answer (List Row)) : Type 0 where
-  pub says : (e : Expr) (p : List Slot) (b : Body) → StandsDraw (f .known) (env .count) ws at left e p b → drawEach (λ vs more. gathering f b vs more) p (valuesOf env) xs found k ≡ a
-
-module _ (xs : List Row) (i : ℕ) {f : From} {ws : List ℕ} {at left : ℕ} {env : Env} {found : List Row} {k : ℕ} where
-  each-end : length xs ≤ i → MeansEach f ws at left env (drop i xs) found k (done found k)
+module _ (xs : List Row) (i : ℕ) {f : From} {ws : List ℕ} {pattern rest left : ℕ} {env : Env} {found : List Row} {k : ℕ} where
+  each-end : length xs ≤ i → MeansEach f ws pattern rest left env (drop i xs) k found (done found k)
   unfolding drawEach
-  each-end h = record { says = λ e p b s. rw (drop-of-length-le xs h) }
+  each-end h = record { says = λ p b s w. rw (drop-of-length-le xs h) }
 
-  each-limit : i < length xs → 1000000 ≤ k → MeansEach f ws at left env (drop i xs) found k (refused 14)
-  each-limit h q = record { says = λ e p b s. draw-limit (λ vs more. gathering f b vs more) p (valuesOf env) xs found k i h q }
+  each-limit : i < length xs → 1000000 ≤ k → MeansEach f ws pattern rest left env (drop i xs) k found (refused 14)
+  each-limit h q = record { says = λ p b s w. draw-limit (gathering f b) p (valuesOf env) xs found k i h q }
 
-module _ (f : From) {ws : List ℕ} {at left : ℕ} {env : Env} (xs : List Row) (i : ℕ) {pattern rest : ℕ} (past : PastExpr ws at pattern) (next : PastPattern ws pattern rest) {m : Matched}
-    (said : SayMatch ws pattern env (getD xs i []) m) where
-  missed : {e : Expr} {p : List Slot} {b : Body} → m .ok ≡ false → StandsDraw (f .known) (env .count) ws at left e p b → match p (valuesOf env) (getD xs i []) ≡ none
+module _ {ws : List ℕ} {pattern : ℕ} {env : Env} {x : Row} {m : Matched} (said : SayMatch ws pattern env x m) {p : List Slot} (s : StandsPattern (env .count) ws pattern p) where
+  missed : m .ok ≡ false → match p (valuesOf env) x ≡ none
   unfolding matchedAs
-  missed {p} ko s = said .means p (pattern-here past s) ∙ rw ko
+  missed ko = said .means p s ∙ rw ko
 
-  hit : {e : Expr} {p : List Slot} {b : Body} → m .ok ≡ true → StandsDraw (f .known) (env .count) ws at left e p b → match p (valuesOf env) (getD xs i []) ≡ some (valuesOf (m .env))
+  hit : m .ok ≡ true → match p (valuesOf env) x ≡ some (valuesOf (m .env))
   unfolding matchedAs
-  hit {p} ok s = said .means p (pattern-here past s) ∙ rw ok
+  hit ok = said .means p s ∙ rw ok
 
-  after-hit : {e : Expr} {p : List Slot} {b : Body} → m .ok ≡ true → StandsDraw (f .known) (env .count) ws at left e p b → StandsBody (f .known) (m .env .count) ws rest left b
-  after-hit {p} {b} ok s = subst (λ (n : ℕ). StandsBody (f .known) n ws rest left b) (sym (said .count p (pattern-here past s) ok)) (rest-here past s next)
+  after-hit : m .ok ≡ true → {known rest left : ℕ} {b : Body} → StandsBody known (env .count + fresh p) ws rest left b → StandsBody known (m .env .count) ws rest left b
+  after-hit ok {known} {rest} {left} {b} w = subst (λ (n : ℕ). StandsBody known n ws rest left b) (sym (said .count p s ok)) w
 
-  module _ {found : List Row} {k : ℕ} (inside : i < length xs) (few : k < 1000000) where
-    each-miss : (a : Answer (List Row)) → m .ok ≡ false → MeansEach f ws at left env (drop (i + 1) xs) found (k + 1) a → MeansEach f ws at left env (drop i xs) found k a
-    unfolding onMatch
-    each-miss a ko g = record {
-      says = λ e p b s.
-          draw-goes (λ vs more. gathering f b vs more) p (valuesOf env) xs found k i inside found (k + 1) a few
-          (ap (λ (o : Option Values). onMatch (λ vs more. gathering f b vs more) found o (k + 1)) (missed ko s)) (g .says e p b s);
-    }
+module _ (f : From) {ws : List ℕ} {pattern rest left : ℕ} {env : Env} (xs : List Row) (i : ℕ) {m : Matched} (said : SayMatch ws pattern env (getD xs i []) m) {found : List Row} {k : ℕ}
+    (inside : i < length xs) (few : k < 1000000) where
+  each-miss : (a : Answer (List Row)) → m .ok ≡ false → MeansEach f ws pattern rest left env (drop (i + 1) xs) (k + 1) found a → MeansEach f ws pattern rest left env (drop i xs) k found a
+  unfolding onMatch
+  each-miss a ko g = record {
+    says = λ p b s w.
+        draw-goes (gathering f b) p (valuesOf env) xs found k i inside found (k + 1) a few
+        (ap (λ (o : Option Values). onMatch (gathering f b) found o (k + 1)) (missed said s ko)) (g .says p b s w);
+  }
 
-    each-stops : (n : ℕ) → m .ok ≡ true → MeansBody f ws rest left (m .env) (k + 1) found (refused n) → MeansEach f ws at left env (drop i xs) found k (refused n)
-    unfolding onMatch
-    each-stops n ok g = record {
-      says = λ e p b s.
-          draw-stops (λ vs more. gathering f b vs more) p (valuesOf env) xs found k i inside n few
-          (ap (λ (o : Option Values). onMatch (λ vs more. gathering f b vs more) found o (k + 1)) (hit ok s) ∙ g .says b (after-hit ok s));
-    }
+  each-stops : (n : ℕ) → m .ok ≡ true → MeansBody f ws rest left (m .env) (k + 1) found (refused n) → MeansEach f ws pattern rest left env (drop i xs) k found (refused n)
+  unfolding onMatch
+  each-stops n ok g = record {
+    says = λ p b s w.
+        draw-stops (gathering f b) p (valuesOf env) xs found k i inside n few
+        (ap (λ (o : Option Values). onMatch (gathering f b) found o (k + 1)) (hit said s ok) ∙ g .says b (after-hit said s ok w));
+  }
 
-    each-hit : (more : List Row) (j : ℕ) (a : Answer (List Row)) → m .ok ≡ true → MeansBody f ws rest left (m .env) (k + 1) found (done more j) →
-        MeansEach f ws at left env (drop (i + 1) xs) more j a → MeansEach f ws at left env (drop i xs) found k a
-    unfolding onMatch
-    each-hit more j a ok g h = record {
-      says = λ e p b s.
-          draw-goes (λ vs more. gathering f b vs more) p (valuesOf env) xs found k i inside more j a few
-          (ap (λ (o : Option Values). onMatch (λ vs more. gathering f b vs more) found o (k + 1)) (hit ok s) ∙ g .says b (after-hit ok s)) (h .says e p b s);
-    }
+  each-hit : (more : List Row) (j : ℕ) (a : Answer (List Row)) → m .ok ≡ true → MeansBody f ws rest left (m .env) (k + 1) found (done more j) →
+      MeansEach f ws pattern rest left env (drop (i + 1) xs) j more a → MeansEach f ws pattern rest left env (drop i xs) k found a
+  unfolding onMatch
+  each-hit more j a ok g h = record {
+    says = λ p b s w.
+        draw-goes (gathering f b) p (valuesOf env) xs found k i inside more j a few
+        (ap (λ (o : Option Values). onMatch (gathering f b) found o (k + 1)) (hit said s ok) ∙ g .says b (after-hit said s ok w)) (h .says p b s w);
+  }
 
--- ---- what the callees are asked
+-- ---- the loop: whatever the rows left lead to from here, all lead to from the start
+
+pub record Drawing (f : From) (ws : List ℕ) (pattern rest left : ℕ) (env : Env) (k free : ℕ) (entry : List ℕ) (count : ℕ) (area : List ℕ) (used i : ℕ) : Type 0 where
+  pub asked : AskEach f ws pattern rest left env entry free
+  pub all : length (rowsIn (drop free entry)) ≡ count
+  pub within : i ≤ count
+  pub size : length area ≡ length entry
+  pub gathering : Gathering area
+  pub kept : Kept (free + 642) entry area
+  pub means : (a : Answer (List Row)) → MeansEach f ws pattern rest left env (drop i (rowsIn (drop free entry))) used (rowsIn area) a →
+      MeansEach f ws pattern rest left env (rowsIn (drop free entry)) k (rowsIn entry) a
+
+count-word : (free : ℕ) (a : List ℕ) → length (rowsIn (drop free a)) ≡ getD a (free + 1) 0
+count-word free a = rows-count (drop free a) ∙ getD-drop free a 1 0
+
+module _ {f : From} {ws : List ℕ} {pattern rest left : ℕ} {env : Env} {entry : List ℕ} {free : ℕ} (q : AskEach f ws pattern rest left env entry free) where
+  pub each-room : free + 642 ≤ length entry
+  each-room = let l = q .drawn .long in omega (arith, length-drop free entry)
+
+  pub each-slots : SomePattern (env .count) ws pattern
+  each-slots = record { p = q .p; here = q .slots }
+
+  each-count : length (rowsIn (drop free entry)) ≤ 128
+  each-count = omega (arith, true-sound (drop free entry) (q .drawn .sound) .count, rows-count (drop free entry))
+
+  pub drawing-start : {k count : ℕ} → count ≡ getD entry (free + 1) 0 → Drawing f ws pattern rest left env k free entry count entry k 0
+  drawing-start e = record { asked = q; all = count-word free entry ∙ sym e; within = omega arith; size = refl; gathering = q .ask .gathering; kept = kept-self; means = λ a g. g }
+
+module _ {f : From} {ws : List ℕ} {pattern rest left : ℕ} {env : Env} {k free : ℕ} {entry : List ℕ} {count : ℕ} {now : List ℕ} {used i : ℕ} (d : Drawing f ws pattern rest left env k free entry count now used i) where
+  pub each-body : {x : Row} {m : Matched} → SayMatch ws pattern env x m → m .ok ≡ true → AskBody f ws rest left (m .env) now (free + 642)
+  each-body {m} said ok =
+      let c : m .env .count ≡ env .count + fresh (d .asked .p) = said .count (d .asked .p) (d .asked .slots) ok in
+      let r = d .asked .room in
+      let b = d .asked .ask .behind in
+      let s = d .size in
+      record {
+        ask = record { sound = d .asked .ask .sound; scope = omega (arith, slots-scope (env .count) (d .asked .p) (d .asked .ask .scope) (d .asked .slots .fit .slots)); gathering = d .gathering; behind = omega arith };
+        b = d .asked .b;
+        here = after-hit said (d .asked .slots) ok (d .asked .here);
+        room = omega arith;
+      }
+
+  drawn-front : SameFront (drop free entry) (drop free now)
+  drawn-front = kept-part (d .asked .ask .behind) (d .size) (each-room (d .asked)) (d .kept)
+
+  pub each-done : count ≤ i → SayEach f ws pattern rest left env k free entry (Done used) now
+  unfolding IfDone rowsAnswer
+  each-done h = record { gathering = d .gathering; kept = kept-less (omega arith) (d .kept); means = d .means (done (rowsIn now) used) (each-end (rowsIn (drop free entry)) i (omega (arith, d .all))) }
+
+  module _ (less : i < count) where
+    inside-rows : i < length (rowsIn (drop free entry))
+    inside-rows = omega (arith, d .all)
+
+    pub row-inside : free + 2 + 5 * i + 5 ≤ length now
+    row-inside = let s = d .size in let n = each-count (d .asked) in let l = inside-rows in omega (arith, each-room (d .asked))
+
+    pub each-limited : 1000000 ≤ used → SayEach f ws pattern rest left env k free entry (Refused 14) now
+    unfolding IfDone rowsAnswer
+    each-limited many = record { gathering = tt; kept = kept-less (omega arith) (d .kept); means = d .means (refused 14) (each-limit (rowsIn (drop free entry)) i inside-rows many) }
+
+    module _ (row : Held.Row) (loaded : wordsOf row ≡ fiveAt now (free + 2 + 5 * i)) where
+      fives : wordsOf row ≡ fiveAt (drop free now) (2 + 5 * i)
+      fives =
+          let e : free + 2 + 5 * i ≡ free + (2 + 5 * i) = omega arith in
+          loaded ∙ ap (λ (k : ℕ). take 5 (drop k now)) e ∙ ap (take 5) (sym (drop-drop (2 + 5 * i) free now))
+
+      count-here : i < getD (drop free now) 1 0
+      count-here = let w = word-same drawn-front 1 (omega arith) in let c = rows-count (drop free entry) in let l = inside-rows in omega arith
+
+      pub row-narrow : row .width ≤ 4
+      row-narrow =
+          let t = true-sound (drop free now) (filled-same drawn-front (d .asked .drawn) .sound) in
+          omega (arith, loaded-width row (drop free now) (2 + 5 * i) fives, width-at (getD (drop free now) 1 0) (drop free now) i (t .pieces) count-here)
+
+      row-is : rowOf row ≡ getD (rowsIn (drop free entry)) i []
+      row-is =
+          loaded-row row (drop free now) (2 + 5 * i) fives ∙ sym (row-at (drop free now) i count-here)
+          ∙ ap (λ (xs : List Row). getD xs i []) (rows-same drawn-front (d .asked .drawn .sound))
+
+      module _ {m : Matched} (said : SayMatch ws pattern env (rowOf row) m) (few : used < 1000000) where
+        said-row : SayMatch ws pattern env (getD (rowsIn (drop free entry)) i []) m
+        said-row = subst (λ (x : Row). SayMatch ws pattern env x m) row-is said
+
+        pub drawing-miss : m .ok ≡ false → Drawing f ws pattern rest left env k free entry count now (used + 1) (i + 1)
+        drawing-miss ko = record {
+          asked = d .asked;
+          all = d .all;
+          within = omega arith;
+          size = d .size;
+          gathering = d .gathering;
+          kept = d .kept;
+          means = λ a g. d .means a (each-miss f (rowsIn (drop free entry)) i said-row inside-rows few a ko g);
+        }
+
+        module _ (ok : m .ok ≡ true) {r : Read} {after : List ℕ} (s : SayBody f ws rest left (m .env) (used + 1) (free + 642) now r after) where
+          pub drawing-hit : {j : ℕ} → length after ≡ length now → r ≡ Done j → Drawing f ws pattern rest left env k free entry count after j (i + 1)
+          unfolding IfDone rowsAnswer
+          drawing-hit {j} l e =
+              let g : MeansBody f ws rest left (m .env) (used + 1) (rowsIn now) (done (rowsIn after) j) = subst (λ (x : Read). MeansBody f ws rest left (m .env) (used + 1) (rowsIn now) (rowsAnswer x after)) e (s .means) in
+              record {
+                asked = d .asked;
+                all = d .all;
+                within = omega arith;
+                size = l ∙ d .size;
+                gathering = subst (λ (x : Read). IfDone Gathering x after) e (s .gathering);
+                kept = kept-then (d .kept) (s .kept);
+                means = λ a h. d .means a (each-hit f (rowsIn (drop free entry)) i said-row inside-rows few (rowsIn after) j a ok g h);
+              }
+
+          pub each-stopped : {n : ℕ} → r ≡ Refused n → SayEach f ws pattern rest left env k free entry (Refused n) after
+          unfolding IfDone rowsAnswer
+          each-stopped {n} e =
+              let g : MeansBody f ws rest left (m .env) (used + 1) (rowsIn now) (refused n) = subst (λ (x : Read). MeansBody f ws rest left (m .env) (used + 1) (rowsIn now) (rowsAnswer x after)) e (s .means) in
+              record {
+                gathering = tt;
+                kept = kept-less (omega arith) (kept-then (d .kept) (s .kept));
+                means = d .means (refused n) (each-stops f (rowsIn (drop free entry)) i said-row inside-rows few n ok g);
+              }
+
+-- ---- a draw: its operand, then its rows
+
+first-word : (free : ℕ) (a : List ℕ) → getD (drop free a) 0 0 ≡ getD a free 0
+first-word free a = let e : free + 0 ≡ free = omega arith in getD-drop free a 0 0 ∙ ap (λ (k : ℕ). getD a k 0) e
+
+complement : (n : ℕ) (xs : List Row) → (n ≡ 0 → ⊥) → formed n xs ≡ allBut xs
+unfolding formed
+complement zero xs h = absurd (h refl)
+complement (suc n) xs h = refl
 
 module _ {f : From} {ws : List ℕ} {at left : ℕ} {env : Env} {area : List ℕ} {free : ℕ} (q : AskDraw f ws at left env area free) where
   pub some-operand : SomeExpr ws at
@@ -154,140 +278,48 @@ module _ {f : From} {ws : List ℕ} {at left : ℕ} {env : Env} {area : List ℕ
     pub some-pattern : SomePattern (env .count) ws pattern
     some-pattern = record { p = q .p; here = pattern-here past (q .here) }
 
-    pub draw-rest-after : {rest : ℕ} → PastPattern ws pattern rest → at < rest
-    draw-rest-after next = let e = rest-is past (q .here) next in omega (arith, expr-some (q .e) (env .count))
+    pub draw-later : {rest : ℕ} → PastPattern ws pattern rest → length ws - rest < length ws - at
+    draw-later next = let e = rest-is past (q .here) next in omega (arith, expr-some (q .e) (env .count), inside (q .here .operand))
 
-    pub ask-rest : {rest : ℕ} {x : Row} {m : Matched} {now : List ℕ} → PastPattern ws pattern rest → SayMatch ws pattern env x m → m .ok ≡ true → length now ≡ length area → Gathering now →
-        AskBody f ws rest left (m .env) now (free + 642)
-    ask-rest {rest} {x} {m} next said ok l g =
-        let c : m .env .count ≡ env .count + fresh (q .p) = said .count (q .p) (pattern-here past (q .here)) ok in
-        let r = q .rest in
-        let b = q .ask .behind in
+  module _ {k : ℕ} {back : List ℕ} {before : ℕ} (o : Operand f ws at env k area free back before) where
+    pub draw-complement : (getD back free 0 ≡ 0 → ⊥) → SayDraw f ws at left env k free area (Refused 12) back
+    unfolding read IfDone rowsAnswer drawable setIn
+    draw-complement h =
+        let w : setIn (drop free back) ≡ allBut (rowsIn (drop free back)) = complement (getD (drop free back) 0 0) (rowsIn (drop free back)) (λ e. h (sym (first-word free back) ∙ e)) in
         record {
-          ask = record { sound = q .ask .sound; scope = omega (arith, slots-scope (env .count) (q .p) (q .ask .scope) (q .here .pattern .fit .slots)); gathering = g; behind = omega arith };
-          b = q .b;
-          here = subst (λ (n : ℕ). StandsBody (f .known) n ws rest left (q .b)) (sym c) (rest-here past (q .here) next);
-          room = omega arith;
+          gathering = tt;
+          kept = o .kept;
+          means = record { says = λ e p b s. after-done _ (o .means .says e (s .operand)) (after-refused _ (ap (λ (x : RowSet). drawable x before) w)) };
         }
 
--- ---- the loop: whatever the rows left lead to from here, all lead to from the start
+    module _ {pattern rest : ℕ} (past : PastExpr ws at pattern) (next : PastPattern ws pattern rest) where
+      pub ask-each : AskEach f ws pattern rest left env back free
+      ask-each =
+          let l = o .size in
+          let r = q .rest in
+          record {
+            ask = record { sound = q .ask .sound; scope = q .ask .scope; gathering = gathering-same (o .front) (q .ask .gathering); behind = q .ask .behind };
+            p = q .p;
+            b = q .b;
+            slots = pattern-here past (q .here);
+            here = rest-here past (q .here) next;
+            drawn = o .filled;
+            room = omega arith;
+          }
 
-pub record Drawing (f : From) (ws : List ℕ) (at left : ℕ) (env : Env) (free : ℕ) (back : List ℕ) (before : ℕ) (area : List ℕ) (used i : ℕ) : Type 0 where
-  pub within : i ≤ getD back (free + 1) 0
-  pub size : length area ≡ length back
-  pub gathering : Gathering area
-  pub kept : Kept (free + 642) back area
-  pub means : (a : Answer (List Row)) → MeansEach f ws at left env (drop i (rowsIn (drop free back))) (rowsIn area) used a →
-      MeansEach f ws at left env (rowsIn (drop free back)) (rowsIn back) before a
-
-first-word : (free : ℕ) (a : List ℕ) → getD (drop free a) 0 0 ≡ getD a free 0
-first-word free a = let e : free + 0 ≡ free = omega arith in getD-drop free a 0 0 ∙ ap (λ (k : ℕ). getD a k 0) e
-
-count-word : (free : ℕ) (a : List ℕ) → length (rowsIn (drop free a)) ≡ getD a (free + 1) 0
-count-word free a = rows-count (drop free a) ∙ getD-drop free a 1 0
-
-complement : (n : ℕ) (xs : List Row) → (n ≡ 0 → ⊥) → formed n xs ≡ allBut xs
-unfolding formed
-complement zero xs h = absurd (h refl)
-complement (suc n) xs h = refl
-
-module _ {f : From} {ws : List ℕ} {at left : ℕ} {env : Env} {k : ℕ} {area : List ℕ} {free : ℕ} {back : List ℕ} {before : ℕ} (q : AskDraw f ws at left env area free) (o : Operand f ws at env k area free back before) where
-  pub draw-complement : (getD back free 0 ≡ 0 → ⊥) → SayDraw f ws at left env k free area (Refused 12) back
-  unfolding read IfDone rowsAnswer drawable setIn
-  draw-complement h =
-      let w : setIn (drop free back) ≡ allBut (rowsIn (drop free back)) = complement (getD (drop free back) 0 0) (rowsIn (drop free back)) (λ e. h (sym (first-word free back) ∙ e)) in
-      record {
-        gathering = tt;
-        kept = o .kept;
-        means = record {
-          says = λ e p b s.
-              after-done _ (o .means .says e (s .operand)) (after-refused _ (ap (λ (x : RowSet). drawable x before) w));
-        };
-      }
-
-  -- the rows of the operand lie there; what they lead to is what the draw leads to
-  draw-each : {a : Answer (List Row)} → getD back free 0 ≡ 0 → MeansEach f ws at left env (rowsIn (drop free back)) (rowsIn back) before a →
-      (e : Expr) (p : List Slot) (b : Body) → StandsDraw (f .known) (env .count) ws at left e p b → gathering f (draw e p b) (valuesOf env) (rowsIn area) k ≡ a
-  unfolding read drawable
-  draw-each {a} h g e p b s =
-      let w : setIn (drop free back) ≡ only (rowsIn (drop free back)) = finite-set (drop free back) (first-word free back ∙ h) in
-      let stay : rowsIn back ≡ rowsIn area = operand-rows o (q .ask .gathering) in
-      after-done _ (o .means .says e (s .operand)) (after-done _ (ap (λ (x : RowSet). drawable x before) w)
-      (subst (λ (found : List Row). drawEach (λ vs more. gathering f b vs more) p (valuesOf env) (rowsIn (drop free back)) found before ≡ a) stay (g .says e p b s)))
-
-  pub drawing-start : Drawing f ws at left env free back before back before 0
-  drawing-start = record { within = omega arith; size = refl; gathering = gathering-same (o .front) (q .ask .gathering); kept = kept-self; means = λ a g. g }
-
-  pub draw-count : getD back (free + 1) 0 ≤ 128
-  draw-count = omega (arith, true-sound (drop free back) (o .filled .sound) .count, getD-drop free back 1 0)
-
-  module _ {now : List ℕ} {used i : ℕ} (d : Drawing f ws at left env free back before now used i) where
-    pub drawn-kept : Kept free area now
-    drawn-kept = kept-then (o .kept) (kept-less (omega arith) (d .kept))
-
-    drawn-front : SameFront (drop free back) (drop free now)
-    drawn-front = kept-part (q .ask .behind) (d .size) (omega (arith, draw-room q, o .size)) (d .kept)
-
-    module _ (less : i < getD back (free + 1) 0) where
-      pub row-inside : free + 2 + 5 * i + 5 ≤ length now
-      row-inside = let s = d .size in let c = draw-count in let t = o .size in omega (arith, draw-room q)
-
-      module _ (row : Held.Row) (loaded : wordsOf row ≡ fiveAt now (free + 2 + 5 * i)) where
-        fives : wordsOf row ≡ fiveAt (drop free now) (2 + 5 * i)
-        fives =
-            let e : free + 2 + 5 * i ≡ free + (2 + 5 * i) = omega arith in
-            loaded ∙ ap (λ (k : ℕ). take 5 (drop k now)) e ∙ ap (take 5) (sym (drop-drop (2 + 5 * i) free now))
-
-        count-here : i < getD (drop free now) 1 0
-        count-here = let w = word-same drawn-front 1 (omega arith) in let c = getD-drop free back 1 0 in omega arith
-
-        pub row-narrow : row .width ≤ 4
-        row-narrow =
-            let t = true-sound (drop free now) (filled-same drawn-front (o .filled) .sound) in
-            omega (arith, loaded-width row (drop free now) (2 + 5 * i) fives, width-at (getD (drop free now) 1 0) (drop free now) i (t .pieces) count-here)
-
-        row-is : rowOf row ≡ getD (rowsIn (drop free back)) i []
-        row-is =
-            loaded-row row (drop free now) (2 + 5 * i) fives ∙ sym (row-at (drop free now) i count-here)
-            ∙ ap (λ (xs : List Row). getD xs i []) (rows-same drawn-front (o .filled .sound))
-
-        module _ {pattern rest : ℕ} (past : PastExpr ws at pattern) (next : PastPattern ws pattern rest) {m : Matched} (said : SayMatch ws pattern env (rowOf row) m) (few : used < 1000000) where
-          said-row : SayMatch ws pattern env (getD (rowsIn (drop free back)) i []) m
-          said-row = subst (λ (x : Row). SayMatch ws pattern env x m) row-is said
-
-          inside-rows : i < length (rowsIn (drop free back))
-          inside-rows = omega (arith, count-word free back)
-
-          pub drawing-miss : m .ok ≡ false → Drawing f ws at left env free back before now (used + 1) (i + 1)
-          drawing-miss ko = record { within = omega arith; size = d .size; gathering = d .gathering; kept = d .kept; means = λ a g. d .means a (each-miss f (rowsIn (drop free back)) i past next said-row inside-rows few a ko g) }
-
-          module _ (ok : m .ok ≡ true) {r : Read} {after : List ℕ} (s : SayBody f ws rest left (m .env) (used + 1) (free + 642) now r after) where
-            pub drawing-hit : {j : ℕ} → length after ≡ length now → r ≡ Done j → Drawing f ws at left env free back before after j (i + 1)
-            unfolding IfDone rowsAnswer
-            drawing-hit {j} l e =
-                let g : MeansBody f ws rest left (m .env) (used + 1) (rowsIn now) (done (rowsIn after) j) = subst (λ (x : Read). MeansBody f ws rest left (m .env) (used + 1) (rowsIn now) (rowsAnswer x after)) e (s .means) in
-                record {
-                  within = omega arith;
-                  size = l ∙ d .size;
-                  gathering = subst (λ (x : Read). IfDone Gathering x after) e (s .gathering);
-                  kept = kept-then (d .kept) (s .kept);
-                  means = λ a h. d .means a (each-hit f (rowsIn (drop free back)) i past next said-row inside-rows few (rowsIn after) j a ok g h);
-                }
-
-            pub draw-stopped : {n : ℕ} → getD back free 0 ≡ 0 → r ≡ Refused n → SayDraw f ws at left env k free area (Refused n) after
-            unfolding IfDone rowsAnswer
-            draw-stopped {n} h e =
-                let g : MeansBody f ws rest left (m .env) (used + 1) (rowsIn now) (refused n) = subst (λ (x : Read). MeansBody f ws rest left (m .env) (used + 1) (rowsIn now) (rowsAnswer x after)) e (s .means) in
-                record {
-                  gathering = tt;
-                  kept = kept-then drawn-kept (kept-less (omega arith) (s .kept));
-                  means = record { says = draw-each h (d .means (refused n) (each-stops f (rowsIn (drop free back)) i past next said-row inside-rows few n ok g)) };
-                }
-
-      pub draw-limited : getD back free 0 ≡ 0 → 1000000 ≤ used → SayDraw f ws at left env k free area (Refused 14) now
-      unfolding IfDone rowsAnswer
-      draw-limited h many = record { gathering = tt; kept = drawn-kept; means = record { says = draw-each h (d .means (refused 14) (each-limit (rowsIn (drop free back)) i (omega (arith, count-word free back)) many)) } }
-
-    pub draw-done : getD back free 0 ≡ 0 → getD back (free + 1) 0 ≤ i → SayDraw f ws at left env k free area (Done used) now
-    unfolding IfDone rowsAnswer
-    draw-done h all = record { gathering = d .gathering; kept = drawn-kept; means = record { says = draw-each h (d .means (done (rowsIn now) used) (each-end (rowsIn (drop free back)) i (omega (arith, count-word free back)))) } }
+      -- what its rows lead to is what the draw leads to
+      pub say-each : getD back free 0 ≡ 0 → {r : Read} {after : List ℕ} → SayEach f ws pattern rest left env before free back r after → SayDraw f ws at left env k free area r after
+      unfolding read drawable
+      say-each z {r} {after} g =
+          let w : setIn (drop free back) ≡ only (rowsIn (drop free back)) = finite-set (drop free back) (first-word free back ∙ z) in
+          let stay : rowsIn back ≡ rowsIn area = operand-rows o (q .ask .gathering) in
+          record {
+            gathering = g .gathering;
+            kept = kept-then (o .kept) (g .kept);
+            means = record {
+              says = λ e p b s.
+                  after-done _ (o .means .says e (s .operand)) (after-done _ (ap (λ (x : RowSet). drawable x before) w)
+                  (subst (λ (found : List Row). drawEach (gathering f b) p (valuesOf env) (rowsIn (drop free back)) found before ≡ rowsAnswer r after) stay
+                  (g .means .says p b (pattern-here past s) (rest-here past s next))));
+            };
+          }

@@ -9,12 +9,13 @@ use Rattle.rows.specs.Sets.{RowSet}
 use Rattle.rows.specs.Layout.{setRoom, rowsIn}
 use Rattle.certificates.specs.Store.{certificates, soundStore}
 use Rattle.policy.specs.Syntax.{Term, Slot, Expr, Body, draw, absent}
+use Rattle.policy.specs.Words.{fresh}
 use Rattle.policy.specs.Decode.{parse, parsed}
 use Rattle.meaning.specs.Values.{Values}
 use Rattle.meaning.specs.Evidence.{namesHeld}
-use Rattle.meaning.specs.Reading.{Answer, Reading, after, small, read, gather}
+use Rattle.meaning.specs.Reading.{Answer, Reading, after, small, drawEach, read, gather}
 use Rattle.leaves.specs.Values.{valuesOf}
-use Rattle.leaves.specs.Places.{Stands, StandsBody, StandsTwo, StandsDraw, StandsAbsent}
+use Rattle.leaves.specs.Places.{Stands, StandsPattern, StandsBody, StandsTwo, StandsDraw, StandsAbsent}
 use Rattle.leaves.specs.Leaves.{setAnswer, rowsAnswer, IfDone, combined}
 use Rattle.leaves.specs.Areas.{Filled, Gathering, Kept, setsIn, roomOf, bodyRoom}
 use Rattle.leaves.specs.declared.values.Env.{Env}
@@ -80,10 +81,15 @@ pub record MeansBody (f : From) (ws : List ℕ) (at left : ℕ) (env : Env) (k :
 pub record MeansDraw (f : From) (ws : List ℕ) (at left : ℕ) (env : Env) (k : ℕ) (found : List Row) (a : Answer (List Row)) : Type 0 where
   pub says : (e : Expr) (p : List Slot) (b : Body) → StandsDraw (f .known) (env .count) ws at left e p b → gathering f (draw e p b) (valuesOf env) found k ≡ a
 
+-- the rows xs, drawn in turn: the pattern stands at one place, the guards that follow at another
+pub record MeansEach (f : From) (ws : List ℕ) (pattern rest left : ℕ) (env : Env) (xs : List Row) (k : ℕ) (found : List Row) (a : Answer (List Row)) : Type 0 where
+  pub says : (p : List Slot) (b : Body) → StandsPattern (env .count) ws pattern p → StandsBody (f .known) (env .count + fresh p) ws rest left b →
+      drawEach (gathering f b) p (valuesOf env) xs found k ≡ a
+
 pub record MeansAbsent (f : From) (ws : List ℕ) (at left : ℕ) (env : Env) (k : ℕ) (found : List Row) (a : Answer (List Row)) : Type 0 where
   pub says : (r : List Term) (e : Expr) (b : Body) → StandsAbsent (f .known) (env .count) ws at left r e b → gathering f (absent r e b) (valuesOf env) found k ≡ a
 
--- what all three ask
+-- what all four ask
 pub record AskGuards (f : From) (env : Env) (area : List ℕ) (free : ℕ) : Type 0 where
   pub sound : SoundFrom f
   pub scope : env .count ≤ 16
@@ -105,6 +111,16 @@ pub record AskDraw (f : From) (ws : List ℕ) (at left : ℕ) (env : Env) (area 
   pub room : free + setRoom * roomOf e ≤ length area
   pub rest : free + setRoom + setRoom * bodyRoom b ≤ length area
 
+-- the set that is drawn from lies at `free`
+pub record AskEach (f : From) (ws : List ℕ) (pattern rest left : ℕ) (env : Env) (area : List ℕ) (free : ℕ) : Type 0 where
+  pub ask : AskGuards f env area free
+  pub p : List Slot
+  pub b : Body
+  pub slots : StandsPattern (env .count) ws pattern p
+  pub here : StandsBody (f .known) (env .count + fresh p) ws rest left b
+  pub drawn : Filled (drop free area)
+  pub room : free + setRoom + setRoom * bodyRoom b ≤ length area
+
 pub record AskAbsent (f : From) (ws : List ℕ) (at left : ℕ) (env : Env) (area : List ℕ) (free : ℕ) : Type 0 where
   pub ask : AskGuards f env area free
   pub r : List Term
@@ -122,6 +138,11 @@ pub record SayBody (f : From) (ws : List ℕ) (at left : ℕ) (env : Env) (k fre
 pub record SayDraw (f : From) (ws : List ℕ) (at left : ℕ) (env : Env) (k free : ℕ) (entry : List ℕ) (r : Read) (area : List ℕ) : Type 0 where
   pub gathering : IfDone Gathering r area
   pub means : MeansDraw f ws at left env k (rowsIn entry) (rowsAnswer r area)
+  pub kept : Kept free entry area
+
+pub record SayEach (f : From) (ws : List ℕ) (pattern rest left : ℕ) (env : Env) (k free : ℕ) (entry : List ℕ) (r : Read) (area : List ℕ) : Type 0 where
+  pub gathering : IfDone Gathering r area
+  pub means : MeansEach f ws pattern rest left env (rowsIn (drop free entry)) k (rowsIn entry) (rowsAnswer r area)
   pub kept : Kept free entry area
 
 pub record SayAbsent (f : From) (ws : List ℕ) (at left : ℕ) (env : Env) (k free : ℕ) (entry : List ℕ) (r : Read) (area : List ℕ) : Type 0 where

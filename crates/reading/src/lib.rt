@@ -1,6 +1,6 @@
 // The readers of expressions and of guards, which call each other. An expression's set is left at the area's front; what lies behind it is free.
 // A comprehension gathers its rows at the front, and from `free` on the area is free: below it lie the sets that are drawn from.
-ghost use Rattle.reading.specs.Readers.{AskExpr, AskTwo, AskBody, AskDraw, AskAbsent, SayExpr, SayTwo, SayBody, SayDraw, SayAbsent, AskWhole, SayWhole};
+ghost use Rattle.reading.specs.Readers.{AskExpr, AskTwo, AskBody, AskDraw, AskEach, AskAbsent, SayExpr, SayTwo, SayBody, SayDraw, SayEach, SayAbsent, AskWhole, SayWhole};
 use leaves::combine;
 use leaves::has_row;
 use leaves::insert_head;
@@ -200,7 +200,7 @@ fn read_guards(
     }
 }
 
-// A draw: its operand is read into the free area, and for each of its rows that matches the guards that follow are read.
+// A draw: its operand is read into the free area, and then its rows are drawn.
 fn read_draw(
     words: &[u32],
     at: usize,
@@ -225,43 +225,75 @@ fn read_draw(
             if form != 0 {
                 return Read::Refused(COMPLEMENT_DRAWN);
             }
-            let count = area[free + 1];
-            let mut used = before;
-            let mut i: u32 = 0;
-            while i < count {
-                if MOST_DRAWS <= used {
-                    return Read::Refused(TOO_MANY_DRAWS);
-                }
-                used += 1;
-                let row = load(area, free + 2 + 5 * wide(i));
-                i += 1;
-                let got = match_row(words, pattern, env, row);
-                if got.ok {
-                    let inner = got.env;
-                    match read_guards(
-                        words,
-                        rest,
-                        left,
-                        inner,
-                        store,
-                        defs,
-                        known,
-                        used,
-                        area,
-                        free + SET_ROOM,
-                    ) {
-                        Read::Refused(n) => {
-                            return Read::Refused(n);
-                        }
-                        Read::Done(d) => {
-                            used = d;
-                        }
-                    }
-                }
-            }
-            Read::Done(used)
+            draw_rows(
+                words,
+                pattern,
+                rest,
+                left,
+                env,
+                store,
+                defs,
+                known,
+                before,
+                area,
+                free,
+            )
         }
     }
+}
+
+// The rows of the set at `free`, drawn in turn: for each that matches the pattern the guards that follow are read.
+fn draw_rows(
+    words: &[u32],
+    pattern: usize,
+    rest: usize,
+    left: u32,
+    env: Env,
+    store: &[u32],
+    defs: &[u32],
+    known: usize,
+    draws: u32,
+    area: &mut [u32],
+    free: usize,
+) -> Read
+    requires { ⌜ AskEach (record { store = now store; defs = now defs; known = known }) (now words) pattern rest left env (now area) free ⌝ }
+    ensures { λ r. ⌜ SayEach (record { store = now (store .entry); defs = now (defs .entry); known = known }) (now (words .entry)) pattern rest left env draws free (now (area .entry)) r (now (area .exit)) ⌝ }
+{
+    let count = wide(area[free + 1]);
+    let mut used = draws;
+    let mut i: usize = 0;
+    while i < count {
+        if MOST_DRAWS <= used {
+            return Read::Refused(TOO_MANY_DRAWS);
+        }
+        used += 1;
+        let row = load(area, free + 2 + 5 * i);
+        i += 1;
+        let got = match_row(words, pattern, env, row);
+        if got.ok {
+            let inner = got.env;
+            match read_guards(
+                words,
+                rest,
+                left,
+                inner,
+                store,
+                defs,
+                known,
+                used,
+                area,
+                free + SET_ROOM,
+            ) {
+                Read::Refused(n) => {
+                    return Read::Refused(n);
+                }
+                Read::Done(d) => {
+                    used = d;
+                }
+            }
+        }
+    }
+    Read::Done(used)
 }
 
 // An absent guard: its operand is read into the free area, which is free again for the guards that follow.

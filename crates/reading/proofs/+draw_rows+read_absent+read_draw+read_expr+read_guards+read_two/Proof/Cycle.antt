@@ -1,24 +1,27 @@
--- The measure, the invariant of a draw, and what each reader knows of those that it calls.
+-- The measure, the invariant of the rows drawn, and what each reader knows of those that it calls.
 use Prim.Native.Nat.{ℕ, _+_, _*_, _-_, _<_}
 use lib.ListN.{length}
 use Rattle.reading.proofs.Draws.{Drawing}
 use borrow.Fn.Kinds.{In}
 use borrow.Fn.PlainCycle.{Measures, is, falls, and}
+use Rattle.reading.proofs.draw_rows.Reads as draw-rows
+use Rattle.reading.proofs.draw_rows.Kinds as draw-rows-kinds
+use Rattle.reading.proofs.+draw_rows+read_absent+read_draw+read_expr+read_guards+read_two.Lts-draw_rows as draw-rows-lts
 use Rattle.reading.proofs.read_absent.Reads as read-absent
 use Rattle.reading.proofs.read_absent.Kinds as read-absent-kinds
-use Rattle.reading.proofs.+read_absent+read_draw+read_expr+read_guards+read_two.Lts-read_absent as read-absent-lts
+use Rattle.reading.proofs.+draw_rows+read_absent+read_draw+read_expr+read_guards+read_two.Lts-read_absent as read-absent-lts
 use Rattle.reading.proofs.read_draw.Reads as read-draw
 use Rattle.reading.proofs.read_draw.Kinds as read-draw-kinds
-use Rattle.reading.proofs.+read_absent+read_draw+read_expr+read_guards+read_two.Lts-read_draw as read-draw-lts
+use Rattle.reading.proofs.+draw_rows+read_absent+read_draw+read_expr+read_guards+read_two.Lts-read_draw as read-draw-lts
 use Rattle.reading.proofs.read_expr.Reads as read-expr
 use Rattle.reading.proofs.read_expr.Kinds as read-expr-kinds
-use Rattle.reading.proofs.+read_absent+read_draw+read_expr+read_guards+read_two.Lts-read_expr as read-expr-lts
+use Rattle.reading.proofs.+draw_rows+read_absent+read_draw+read_expr+read_guards+read_two.Lts-read_expr as read-expr-lts
 use Rattle.reading.proofs.read_guards.Reads as read-guards
 use Rattle.reading.proofs.read_guards.Kinds as read-guards-kinds
-use Rattle.reading.proofs.+read_absent+read_draw+read_expr+read_guards+read_two.Lts-read_guards as read-guards-lts
+use Rattle.reading.proofs.+draw_rows+read_absent+read_draw+read_expr+read_guards+read_two.Lts-read_guards as read-guards-lts
 use Rattle.reading.proofs.read_two.Reads as read-two
 use Rattle.reading.proofs.read_two.Kinds as read-two-kinds
-use Rattle.reading.proofs.+read_absent+read_draw+read_expr+read_guards+read_two.Lts-read_two as read-two-lts
+use Rattle.reading.proofs.+draw_rows+read_absent+read_draw+read_expr+read_guards+read_two.Lts-read_two as read-two-lts
 use Rattle.leaves.proofs.combine.Reads as combine-reads
 use Rattle.leaves.proofs.has_row.Reads as has-row-reads
 use Rattle.leaves.proofs.insert_head.Reads as insert-head-reads
@@ -35,6 +38,10 @@ use Rattle.sets.proofs.row.load.Reads as load-reads
 use Rattle.sets.proofs.row.wide.Reads as wide-reads
 use Rattle.sets.proofs.set.clear.Reads as clear-reads
 
+-- the words left, from the guards that follow on
+abbrev pub μ-draw-rows : Measures 4 draw-rows-kinds.ps ℕ
+μ-draw-rows κs a = 2 * (length (a .0 .now) - a .1 .1 .0) + 1
+
 abbrev pub μ-read-absent : Measures 4 read-absent-kinds.ps ℕ
 μ-read-absent κs a = 2 * (length (a .0 .now) - a .1 .0) + 1
 
@@ -49,6 +56,13 @@ abbrev pub μ-read-guards : Measures 4 read-guards-kinds.ps ℕ
 
 abbrev pub μ-read-two : Measures 4 read-two-kinds.ps ℕ
 μ-read-two κs a = 2 * (length (a .0 .now) - a .1 .0) + 1
+
+abbrev pub draw-rows-at : ℕ → In 4 draw-rows-kinds.ps
+draw-rows-at t = and 4 draw-rows-kinds.ps (is 4 draw-rows-kinds.ps μ-draw-rows t) draw-rows.Pre
+
+abbrev pub draw-rows-below : ℕ → In 4 draw-rows-kinds.ps
+draw-rows-below t =
+    and 4 draw-rows-kinds.ps (falls 4 draw-rows-kinds.ps _<_ μ-draw-rows t) draw-rows.Pre
 
 abbrev pub read-absent-at : ℕ → In 4 read-absent-kinds.ps
 read-absent-at t =
@@ -87,11 +101,16 @@ abbrev pub read-two-below : ℕ → In 4 read-two-kinds.ps
 read-two-below t =
     and 4 read-two-kinds.ps (falls 4 read-two-kinds.ps _<_ μ-read-two t) read-two.Pre
 
-abbrev pub read-draw-Inv-loop : read-draw-lts.InvT-loop
-read-draw-Inv-loop words at left env store defs known draws area₀ free before pattern rest form count used₀ i₀ area used i = Drawing (record { store = store; defs = defs; known = known }) words at left env free area₀ before area used i
+abbrev pub draw-rows-Inv-loop : draw-rows-lts.InvT-loop
+draw-rows-Inv-loop words pattern rest left env store defs known draws area₀ free count used₀ i₀ area used i =
+    Drawing (record { store = store; defs = defs; known = known }) words pattern rest left env draws free area₀ count area used i
 
-abbrev pub read-draw-μ-loop : read-draw-lts.MeasureT-loop
-read-draw-μ-loop words at left env store defs known draws area₀ free before pattern rest form count used₀ i₀ area used i = count - i
+abbrev pub draw-rows-μ-loop : draw-rows-lts.MeasureT-loop
+draw-rows-μ-loop words pattern rest left env store defs known draws area₀ free count used₀ i₀ area used i = count - i
+
+-- what `draw_rows` knows of the functions that it calls
+abbrev pub draw-rows-claims : ℕ → draw-rows-lts.Claims
+draw-rows-claims t = (wide-reads.Asked, wide-reads.Learnt, load-reads.Asked, load-reads.Learnt, match-row-reads.Asked, match-row-reads.Learnt, read-guards-below t, read-guards.Post)
 
 -- what `read_absent` knows of the functions that it calls
 abbrev pub read-absent-claims : ℕ → read-absent-lts.Claims
@@ -99,7 +118,7 @@ read-absent-claims t = (skip-row-reads.Asked, skip-row-reads.Learnt, read-expr-b
 
 -- what `read_draw` knows of the functions that it calls
 abbrev pub read-draw-claims : ℕ → read-draw-lts.Claims
-read-draw-claims t = (read-expr-below t, read-expr.Post, skip-expr-reads.Asked, skip-expr-reads.Learnt, skip-pattern-reads.Asked, skip-pattern-reads.Learnt, wide-reads.Asked, wide-reads.Learnt, load-reads.Asked, load-reads.Learnt, match-row-reads.Asked, match-row-reads.Learnt, read-guards-below t, read-guards.Post)
+read-draw-claims t = (read-expr-below t, read-expr.Post, skip-expr-reads.Asked, skip-expr-reads.Learnt, skip-pattern-reads.Asked, skip-pattern-reads.Learnt, draw-rows-below t, draw-rows.Post)
 
 -- what `read_expr` knows of the functions that it calls
 abbrev pub read-expr-claims : ℕ → read-expr-lts.Claims

@@ -3,35 +3,71 @@ mod Absent
 mod Draw
 mod Expr
 mod Guards
+mod Rows
 mod Two
 use borrow.Author.Needs.{needs}
+use Rattle.reading.proofs.draw_rows.Reads as draw-rows
+use Rattle.reading.proofs.+draw_rows+read_absent+read_draw+read_expr+read_guards+read_two.Lts-draw_rows as draw-rows-lts
 use Rattle.reading.proofs.read_absent.Reads as read-absent
-use Rattle.reading.proofs.+read_absent+read_draw+read_expr+read_guards+read_two.Lts-read_absent as read-absent-lts
+use Rattle.reading.proofs.+draw_rows+read_absent+read_draw+read_expr+read_guards+read_two.Lts-read_absent as read-absent-lts
 use Rattle.reading.proofs.read_draw.Reads as read-draw
-use Rattle.reading.proofs.+read_absent+read_draw+read_expr+read_guards+read_two.Lts-read_draw as read-draw-lts
+use Rattle.reading.proofs.+draw_rows+read_absent+read_draw+read_expr+read_guards+read_two.Lts-read_draw as read-draw-lts
 use Rattle.reading.proofs.read_expr.Reads as read-expr
-use Rattle.reading.proofs.+read_absent+read_draw+read_expr+read_guards+read_two.Lts-read_expr as read-expr-lts
+use Rattle.reading.proofs.+draw_rows+read_absent+read_draw+read_expr+read_guards+read_two.Lts-read_expr as read-expr-lts
 use Rattle.reading.proofs.read_guards.Reads as read-guards
-use Rattle.reading.proofs.+read_absent+read_draw+read_expr+read_guards+read_two.Lts-read_guards as read-guards-lts
+use Rattle.reading.proofs.+draw_rows+read_absent+read_draw+read_expr+read_guards+read_two.Lts-read_guards as read-guards-lts
 use Rattle.reading.proofs.read_two.Reads as read-two
-use Rattle.reading.proofs.+read_absent+read_draw+read_expr+read_guards+read_two.Lts-read_two as read-two-lts
-use Rattle.reading.proofs.+read_absent+read_draw+read_expr+read_guards+read_two.{statement}
-use Rattle.reading.proofs.+read_absent+read_draw+read_expr+read_guards+read_two.Tie.{close}
-use Rattle.reading.proofs.+read_absent+read_draw+read_expr+read_guards+read_two.Proof.Cycle.{μ-read-absent, μ-read-draw, μ-read-expr, μ-read-guards, μ-read-two, read-absent-at, read-draw-at, read-expr-at, read-guards-at, read-two-at, read-draw-Inv-loop, read-draw-μ-loop, read-absent-claims, read-draw-claims, read-expr-claims, read-guards-claims, read-two-claims}
-use Rattle.reading.proofs.+read_absent+read_draw+read_expr+read_guards+read_two.Proof.Absent as absent
-use Rattle.reading.proofs.+read_absent+read_draw+read_expr+read_guards+read_two.Proof.Draw as draw
-use Rattle.reading.proofs.+read_absent+read_draw+read_expr+read_guards+read_two.Proof.Expr as expr
-use Rattle.reading.proofs.+read_absent+read_draw+read_expr+read_guards+read_two.Proof.Guards as guards
-use Rattle.reading.proofs.+read_absent+read_draw+read_expr+read_guards+read_two.Proof.Two as two
+use Rattle.reading.proofs.+draw_rows+read_absent+read_draw+read_expr+read_guards+read_two.Lts-read_two as read-two-lts
+use Rattle.reading.proofs.+draw_rows+read_absent+read_draw+read_expr+read_guards+read_two.{statement}
+use Rattle.reading.proofs.+draw_rows+read_absent+read_draw+read_expr+read_guards+read_two.Tie.{close}
+use Rattle.reading.proofs.+draw_rows+read_absent+read_draw+read_expr+read_guards+read_two.Proof.Cycle.{μ-draw-rows, μ-read-absent, μ-read-draw, μ-read-expr, μ-read-guards, μ-read-two, draw-rows-at, read-absent-at, read-draw-at, read-expr-at, read-guards-at, read-two-at, draw-rows-Inv-loop, draw-rows-μ-loop, draw-rows-claims, read-absent-claims, read-draw-claims, read-expr-claims, read-guards-claims, read-two-claims}
+use Rattle.reading.proofs.+draw_rows+read_absent+read_draw+read_expr+read_guards+read_two.Proof.Absent as absent
+use Rattle.reading.proofs.+draw_rows+read_absent+read_draw+read_expr+read_guards+read_two.Proof.Draw as draw
+use Rattle.reading.proofs.+draw_rows+read_absent+read_draw+read_expr+read_guards+read_two.Proof.Expr as expr
+use Rattle.reading.proofs.+draw_rows+read_absent+read_draw+read_expr+read_guards+read_two.Proof.Guards as guards
+use Rattle.reading.proofs.+draw_rows+read_absent+read_draw+read_expr+read_guards+read_two.Proof.Rows as rows
+use Rattle.reading.proofs.+draw_rows+read_absent+read_draw+read_expr+read_guards+read_two.Proof.Two as two
 
-pub +read-absent+read-draw+read-expr+read-guards+read-two-spec : {M : Type 1} → statement M
-+read-absent+read-draw+read-expr+read-guards+read-two-spec =
+pub +draw-rows+read-absent+read-draw+read-expr+read-guards+read-two-spec : {M : Type 1} → statement M
++draw-rows+read-absent+read-draw+read-expr+read-guards+read-two-spec =
     close
+    μ-draw-rows
     μ-read-absent
     μ-read-draw
     μ-read-expr
     μ-read-guards
     μ-read-two
+    (λ t. draw-rows-lts.spec (draw-rows-claims t)
+    (draw-rows-at t)
+    draw-rows.Post
+    draw-rows-Inv-loop
+    draw-rows-μ-loop
+    (rows.add-wide t)
+    (rows.mul-wide t)
+    (rows.slice-read-wide t)
+    (λ c κs. search needs)
+    (rows.loop-holds t)
+    (λ c. search needs)
+    (rows.returns t)
+    (λ c. search needs)
+    (rows.add-load t)
+    (rows.mul-load t)
+    (rows.add-load-2 t)
+    (rows.load-requires t)
+    (rows.add-i t)
+    (rows.match-row-requires t)
+    (rows.add-read-guards t)
+    (rows.read-guards-requires t)
+    (λ c. search needs)
+    (rows.same-length-2 t)
+    (rows.returns-2 t)
+    (λ c. search needs)
+    (λ c. search needs)
+    (rows.loop-again t)
+    (λ c. search needs)
+    (rows.loop-again-2 t)
+    (λ c. search needs)
+    (rows.returns-3 t))
     (λ t. read-absent-lts.spec (read-absent-claims t)
     (read-absent-at t)
     read-absent.Post
@@ -59,8 +95,6 @@ pub +read-absent+read-draw+read-expr+read-guards+read-two-spec : {M : Type 1} �
     (λ t. read-draw-lts.spec (read-draw-claims t)
     (read-draw-at t)
     read-draw.Post
-    read-draw-Inv-loop
-    read-draw-μ-loop
     (draw.mul-read-expr t)
     (draw.sub-read-expr t)
     (draw.part-read-expr-start t)
@@ -74,34 +108,11 @@ pub +read-absent+read-draw+read-expr+read-guards+read-two-spec : {M : Type 1} �
     (draw.slice-read-form t)
     (λ c. search needs)
     (draw.returns t)
-    (draw.add-count t)
-    (draw.mul-count t)
-    (draw.slice-read-count t)
-    (draw.loop-holds t)
+    (draw.draw-rows-requires t)
     (λ c. search needs)
     (draw.returns-2 t)
     (λ c. search needs)
-    (draw.add-load t)
-    (λ c κs. search needs)
-    (draw.mul-load t)
-    (draw.add-load-2 t)
-    (draw.load-requires t)
-    (draw.add-i t)
-    (draw.match-row-requires t)
-    (draw.add-read-guards t)
-    (draw.read-guards-requires t)
-    (λ c. search needs)
-    (draw.same-length-3 t)
-    (draw.returns-3 t)
-    (λ c. search needs)
-    (λ c. search needs)
-    (draw.loop-again t)
-    (λ c. search needs)
-    (draw.loop-again-2 t)
-    (λ c. search needs)
-    (draw.returns-4 t)
-    (λ c. search needs)
-    (draw.returns-5 t))
+    (draw.returns-3 t))
     (λ t. read-expr-lts.spec (read-expr-claims t)
     (read-expr-at t)
     read-expr.Post

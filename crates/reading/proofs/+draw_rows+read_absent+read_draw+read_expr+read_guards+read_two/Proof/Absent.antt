@@ -6,8 +6,8 @@ use Rattle.leaves.specs.Areas.{Filled}
 use Rattle.leaves.proofs.Areas.{gathering-same, part-whole}
 use Rattle.reading.proofs.Guards.{has-told, absent-row, absent-room, some-inner, inner-after, ask-inner, absent-operand, absent-rest-after, ask-absent-rest, absent-refused, absent-fails, absent-passes}
 use Rattle.reading.proofs.read_absent.Reads as read-absent
-use Rattle.reading.proofs.+read_absent+read_draw+read_expr+read_guards+read_two.Lts-read_absent as read-absent-lts
-use Rattle.reading.proofs.+read_absent+read_draw+read_expr+read_guards+read_two.Proof.Cycle.{read-absent-at, read-absent-claims}
+use Rattle.reading.proofs.+draw_rows+read_absent+read_draw+read_expr+read_guards+read_two.Lts-read_absent as read-absent-lts
+use Rattle.reading.proofs.+draw_rows+read_absent+read_draw+read_expr+read_guards+read_two.Proof.Cycle.{read-absent-at, read-absent-claims}
 
 pub skip-row-requires : (t : ℕ) → read-absent-lts.Need-skip-row-requires (read-absent-claims t) (read-absent-at t) read-absent.Post
 skip-row-requires t c κs = absent-row (c .before .before .before .before .pre .1)
