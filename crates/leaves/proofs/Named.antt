@@ -1,19 +1,19 @@
 -- Reading a name: the rows of its records are those certified for it, and they are copied in order.
-use Prim.Native.Nat.{ℕ, zero, suc, _+_, _*_, _/_, _≤_, _<_}
+use Prim.Native.Nat.{ℕ, zero, suc, _+_, _-_, _*_, _/_, _≤_, _<_}
 use mathlib.Core.Path.{_≡_, refl, sym, ap, subst, _∙_}
-use mathlib.Core.Bool.{true, false}
+use mathlib.Core.Bool.{Bool, true, false, not}
 use mathlib.Core.List.{List, [], _∷_, _++_, map, append-nil}
 use native.Mathlib.Numerals.{add-one}
 use native.Mathlib.Omega.{arith}
 use lib.Dec.{eqb}
-use lib.ListN.{length, take, drop, getD, set, length-map, List·getD-map}
+use lib.ListN.{length, take, drop, getD, set, length-take, length-map, List·getD-map}
 use lib.Seq.{take-suc, take-all, drop-drop, length-take-le}
 use borrow.Author.Tests.{leb-true, lt-leb, le-leb, eqb-true, eqb-false, eq-eqb, ne-eqb}
 use Rattle.rows.specs.Word.{All}
-use Rattle.rows.specs.Ordered.{insert, join, keep}
+use Rattle.rows.specs.Ordered.{lists, insert, join, keep}
 use Rattle.rows.specs.Row.{Row, isKey, firstKey, rowBefore}
 use Rattle.rows.specs.Name.{Polarity, plus, minus, polarityOf, polarityWord, samePolarity}
-use Rattle.rows.specs.Sets.{RowSet, listing}
+use Rattle.rows.specs.Sets.{RowSet, listing, has}
 use Rattle.rows.specs.Layout.{laid, rowWords, rowIn, fiveAt, soundRow, flat, pieces, rowsIn, formed, setIn, written, put}
 use Rattle.sets.specs.Values.{wordsOf, rowOf}
 use Rattle.sets.specs.declared.row.Row as Held-row
@@ -27,24 +27,26 @@ use Rattle.sets.proofs.RowLaws.{five-length, five-width, loaded-row, loaded-wid
 use Rattle.rows.proofs.Put.{put-length, put-none, put-then-after}
 use Rattle.sets.proofs.Laid.{drop-take, Narrow, laid-length, laid-append, written-count}
 use Rattle.sets.proofs.Standing.{formed-fit, formed-few, written-stands}
-use Rattle.certificates.specs.Certificate.{Certificate, soundRecord, certificateOf}
+use Rattle.certificates.specs.Certificate.{Certificate, soundRecord, certificateOf, recordBefore}
 use Rattle.certificates.specs.Store.{records, soundStore, certificates}
 use Rattle.certificates.specs.NamePart.{ofName, namePart}
 use Rattle.certificates.proofs.Sound.{sound-record, sound-store}
-use Rattle.certificates.proofs.NameRows.{name-rows, name-length, name-pieces, name-sound}
+use Rattle.certificates.proofs.NameRows.{name-rows, name-length, name-pieces, name-sound, name-held}
 use Rattle.policy.specs.Syntax.{Term}
 use Rattle.policy.specs.Words.{termWords}
+use Rattle.meaning.specs.Values as values
 use Rattle.meaning.specs.Values.{value}
 use Rattle.meaning.specs.Evidence.{isOf, certified, namesHeld}
-use Rattle.meaning.specs.Reading.{done, small}
+use Rattle.meaning.specs.Reading.{Answer, done, refused, after, small}
 use Rattle.leaves.specs.Values.{valuesOf, termOf}
 use Rattle.leaves.specs.Places.{At, nameWords, SomeName, IsTerm}
 use Rattle.leaves.specs.Areas.{Empty}
-use Rattle.leaves.specs.Leaves.{setAnswer, IfDone, Records, recordRows, SayName}
+use Rattle.leaves.specs.Leaves.{setAnswer, IfDone, belongsAnswer, Records, recordRows, SayRow, SayName, SayCertified, Told, SayBelongs}
 use Rattle.leaves.proofs.Places.{at-word, at-next, at-skip, at-front, at-long, term-length}
 use Rattle.leaves.proofs.Held.{held-value}
 use Rattle.leaves.proofs.Areas.{lies}
 use Rattle.leaves.proofs.Literals.{small-few, small-many}
+use Rattle.leaves.specs.declared.values.Belongs as Belongs
 use Rattle.leaves.specs.declared.values.Env.{Env}
 use Rattle.leaves.specs.declared.values.Read.the-variants.{Done, Refused}
 use Rattle.leaves.specs.declared.values.Term as Held-term
@@ -198,6 +200,11 @@ module _ (store : List ℕ) (sound : soundStore store ≡ true) (k n : ℕ) (p :
     unfolding recordRows
     part-ascending = subst (Ascending rowBefore row-order) (sym (ap (map rowOfRecord) part-pieces)) (name-rows k n (polarityWord p) store sound)
 
+    -- a row is one of them exactly when its certificate is held
+    pub part-listed : (x : Row) → lists rowBefore (recordRows part (length part / 8)) x ≡ lists recordBefore (records store) (k ∷ n ∷ polarityWord p ∷ rowWords x)
+    unfolding recordRows
+    part-listed x = ap (λ (xs : List Row). lists rowBefore xs x) (ap (map rowOfRecord) part-pieces) ∙ sym (name-held k n (polarityWord p) store sound x)
+
     pub part-records : length part / 8 ≤ 128 → Records part (length part / 8)
     part-records few = record {
       whole = omega arith;
@@ -221,6 +228,42 @@ polarity-small : (p : Polarity) → polarityWord p ≤ 1
 unfolding polarityWord
 polarity-small plus = omega arith
 polarity-small minus = omega arith
+
+-- a row looked up in a set that is read: it is small, or it is not
+module _ (s : RowSet) {z : RowSet} (e : s ≡ z) (x : Row) (k : ℕ) where
+  looked-up : {a : Answer Bool} → length (listing z) ≤ 128 → done (has z x) k ≡ a → after (small s k) (λ y i. done (has y x) i) ≡ a
+  unfolding after
+  looked-up few g = ap (λ (y : RowSet). after (small y k) (λ w i. done (has w x) i)) e ∙ ap (λ (b : Answer RowSet). after b (λ w i. done (has w x) i)) (small-few z k few) ∙ g
+
+  not-looked-up : 128 < length (listing z) → after (small s k) (λ y i. done (has y x) i) ≡ refused 13
+  unfolding after
+  not-looked-up many = ap (λ (y : RowSet). after (small y k) (λ w i. done (has w x) i)) e ∙ ap (λ (b : Answer RowSet). after b (λ w i. done (has w x) i)) (small-many z k many)
+
+-- the answer goes by the form and by whether the row is listed
+module _ {form : ℕ} {b : Bool} {r : Belongs.Belongs} where
+  pub told-finite : form ≡ 0 → ((k : ℕ) → done b k ≡ belongsAnswer r k) → Told form b r
+  unfolding formed has
+  told-finite z e = record { means = λ xs x l k. ap (λ (f : ℕ). done (has (formed f xs) x) k) z ∙ ap (λ (c : Bool). done c k) l ∙ e k }
+
+  pub told-complement : (form ≡ 0 → ⊥) → ((k : ℕ) → done (not b) k ≡ belongsAnswer r k) → Told form b r
+  unfolding formed has
+  told-complement z e =
+      let f : suc (form - 1) ≡ form = omega arith in
+      record { means = λ xs x l k. ap (λ (i : ℕ). done (has (formed i xs) x) k) (sym f) ∙ ap (λ (c : Bool). done (not c) k) l ∙ e k }
+
+-- the certificate of a row in hand
+pub say-certified : {store ws : List ℕ} {at : ℕ} {env : Env} {key name polarity : ℕ} {row : Held-row.Row} {b : Bool} {certificate : List ℕ} → SayRow ws at env row →
+    certificate ≡ put 3 (rowWords (rowOf row)) (key ∷ name ∷ polarity ∷ 0 ∷ 0 ∷ 0 ∷ 0 ∷ 0 ∷ []) → b ≡ lists recordBefore (records store) certificate → SayCertified store ws at env key name polarity b
+unfolding put rowOf
+say-certified {store} {key} {name} {polarity} {row} s e h =
+    let five : length (rowWords (rowOf row)) ≡ 5 = row-length (rowOf row) (omega (arith, s .few, length-take (row .width) (row .atoms))) in
+    let w : put 3 (rowWords (rowOf row)) (key ∷ name ∷ polarity ∷ 0 ∷ 0 ∷ 0 ∷ 0 ∷ 0 ∷ []) ≡ key ∷ name ∷ polarity ∷ rowWords (rowOf row) =
+    ap (λ (l : ℕ). key ∷ name ∷ polarity ∷ (rowWords (rowOf row) ++ drop (3 + l) (key ∷ name ∷ polarity ∷ 0 ∷ 0 ∷ 0 ∷ 0 ∷ 0 ∷ []))) five
+    ∙ ap (λ (u : List ℕ). key ∷ name ∷ polarity ∷ u) (append-nil (rowWords (rowOf row))) in
+    record {
+      means = λ n ts t.
+          ap (λ (x : Row). lists recordBefore (records store) (key ∷ name ∷ polarity ∷ rowWords x)) (sym (s .means n ts t)) ∙ ap (lists recordBefore (records store)) (sym (e ∙ w)) ∙ sym h;
+    }
 
 -- the issuer, the name and the polarity where they stand
 record NameHere (ws : List ℕ) (at : ℕ) (t : Term) (m : ℕ) (p : Polarity) : Type 0 where
@@ -266,6 +309,16 @@ module _ {ws : List ℕ} {at : ℕ} (env : Env) {x : Held-term.Term} {key : ℕ}
         ∙ small-few (setIn area) k (omega (arith, ap (λ (z : RowSet). length (listing z)) s, ap length (formed-listing (polarityWord p) [])));
   }
 
+  pub belongs-number : {store : List ℕ} {row : ℕ} {r : Belongs.Belongs} → key < 2147483648 → Told (getD ws (at + 3) 0) false r → SayBelongs store ws at row env r
+  unfolding lists
+  belongs-number {store} h g = record {
+    means = λ t m p w n ts s k.
+        let v = name-here t m p w in
+        let number : isKey (value (valuesOf env) t) ≡ false = ap isKey (key-is v) ∙ lt-leb firstKey key h in
+        looked-up _ (names-number (certificates store) (value (valuesOf env) t) m p number ∙ ap (λ (f : ℕ). formed f []) (sym (v .polarity))) (values.rowOf (valuesOf env) ts) k
+        (omega (arith, ap length (formed-listing (getD ws (at + 3) 0) []))) (g .means [] (values.rowOf (valuesOf env) ts) refl k);
+  }
+
   module _ (store : List ℕ) (sound : soundStore store ≡ true) (some : SomeName ws at) (high : 2147483648 ≤ key) {part : List ℕ} (part-is : part ≡ namePart store key (getD ws (at + 2) 0) (getD ws (at + 3) 0)) where
     part-of : {t : Term} {n : ℕ} {p : Polarity} → NameHere ws at t n p → part ≡ namePart store key n (polarityWord p)
     part-of {t} {n} {p} v = part-is ∙ ap (λ (m : ℕ). namePart store key m (getD ws (at + 3) 0)) (v .name) ∙ ap (namePart store key n) (v .polarity)
@@ -306,3 +359,25 @@ module _ {ws : List ℕ} {at : ℕ} (env : Env) {x : Held-term.Term} {key : ℕ}
               ap (λ (z : RowSet). small z k) (held t n p v ∙ ap (λ (f : ℕ). formed f rows) (sym (v .polarity)))
               ∙ small-few (formed (getD ws (at + 3) 0) rows) k few′ ∙ ap (λ (z : RowSet). done z k) (sym (s .set));
         }
+
+    pub belongs-many : {row : ℕ} → 128 < length part / 8 → SayBelongs store ws at row env (Belongs.the-variants.Refused 13)
+    unfolding belongsAnswer
+    belongs-many h = record {
+      means = λ t m p w n ts s k.
+          let v = name-here t m p w in
+          not-looked-up _ (held t m p v) (values.rowOf (valuesOf env) ts) k
+          (omega (arith, ap length (formed-listing (polarityWord p) (recordRows part (length part / 8))), record-count part (length part / 8)));
+    }
+
+    pub belongs-told : {row : ℕ} {b : Bool} {r : Belongs.Belongs} → length part / 8 ≤ 128 → SayCertified store ws row env key (getD ws (at + 2) 0) (getD ws (at + 3) 0) b → Told (getD ws (at + 3) 0) b r → SayBelongs store ws at row env r
+    belongs-told {row} {b} few c g = record {
+      means = λ t m p w n ts s k.
+          let v = name-here t m p w in
+          let rows : List Row = recordRows part (length part / 8) in
+          let x : Row = values.rowOf (valuesOf env) ts in
+          let l : lists rowBefore rows x ≡ b =
+          part-listed store sound key m p (part-of v) x ∙ ap (λ (i : ℕ). lists recordBefore (records store) (key ∷ m ∷ i ∷ rowWords x)) (sym (v .polarity))
+          ∙ ap (λ (i : ℕ). lists recordBefore (records store) (key ∷ i ∷ getD ws (at + 3) 0 ∷ rowWords x)) (sym (v .name)) ∙ c .means n ts s in
+          looked-up _ (held t m p v ∙ ap (λ (f : ℕ). formed f rows) (sym (v .polarity))) x k
+          (omega (arith, ap length (formed-listing (getD ws (at + 3) 0) rows), record-count part (length part / 8))) (g .means rows x l k);
+    }

@@ -2,26 +2,27 @@
 use Prim.Native.Nat.{ℕ, _+_, _*_, _≤_, _<_}
 use mathlib.Core.Path.{_≡_}
 use mathlib.Core.Bool.{Bool, true, false}
-use mathlib.Core.List.{List, [], map}
+use mathlib.Core.List.{List, [], _∷_, map}
 use mathlib.Core.Option.{Option, none, some}
 use lib.ListN.{length, getD, drop}
-use Rattle.rows.specs.Ordered.{insert}
+use Rattle.rows.specs.Ordered.{lists, insert}
 use Rattle.rows.specs.Row.{Row, rowBefore}
 use Rattle.rows.specs.Name.{Polarity}
 use Rattle.rows.specs.Sets.{RowSet, only, mostRows, has, unite, subtract}
-use Rattle.rows.specs.Layout.{setRoom, rowIn, fiveAt, soundRow, pieces, rowsIn, formed, setIn}
+use Rattle.rows.specs.Layout.{setRoom, rowWords, rowIn, fiveAt, soundRow, pieces, rowsIn, formed, setIn}
 use Rattle.sets.specs.Values as held
 use Rattle.sets.specs.declared.row.Row as Held-row
-use Rattle.certificates.specs.Certificate.{recordWords}
-use Rattle.certificates.specs.Store.{certificates}
+use Rattle.certificates.specs.Certificate.{recordWords, recordBefore}
+use Rattle.certificates.specs.Store.{records, certificates}
 use Rattle.policy.specs.Syntax.{Term, Slot}
 use Rattle.policy.specs.Words.{fresh}
 use Rattle.meaning.specs.Values.{Values, value, rowOf}
 use Rattle.meaning.specs.Evidence.{namesHeld}
-use Rattle.meaning.specs.Reading.{Answer, done, refused, within, small, rowsOf, match}
+use Rattle.meaning.specs.Reading.{Answer, done, refused, after, within, small, rowsOf, match}
 use Rattle.leaves.specs.Values.{valuesOf}
 use Rattle.leaves.specs.Places.{At, nameWords, StandsRow, StandsRows, StandsPattern}
 use Rattle.leaves.specs.Areas.{Filled, Gathering, Kept, setsIn}
+use Rattle.leaves.specs.declared.values.Belongs as Belongs
 use Rattle.leaves.specs.declared.values.Env.{Env}
 use Rattle.leaves.specs.declared.values.Matched.{Matched}
 use Rattle.leaves.specs.declared.values.Read.{Read}
@@ -45,6 +46,11 @@ IfDone P (Refused n) area = Unit {0}
 
 unfoldable pub matchedAs : Matched → Option Values
 matchedAs m = elim (m .ok) [ true ↦ some (valuesOf (m .env)) | false ↦ none ]
+
+unfoldable pub belongsAnswer : Belongs.Belongs → ℕ → Answer Bool
+belongsAnswer Belongs.the-variants.Yes k = done true k
+belongsAnswer Belongs.the-variants.No k = done false k
+belongsAnswer (Belongs.the-variants.Refused n) k = refused n
 
 -- the value of a union, or of a difference
 unfoldable pub combined : Bool → RowSet → RowSet → RowSet
@@ -100,3 +106,16 @@ pub record SayMatch (ws : List ℕ) (at : ℕ) (env : Env) (x : Row) (r : Matche
 -- whether the row that the terms come to belongs to the set
 pub record SayHas (ws : List ℕ) (at : ℕ) (env : Env) (set : List ℕ) (r : Bool) : Type 0 where
   pub means : (n : ℕ) (ts : List Term) → StandsRow n ws at ts → has (setIn set) (rowOf (valuesOf env) ts) ≡ r
+
+-- whether the certificate of the row that the terms come to is held
+pub record SayCertified (store ws : List ℕ) (at : ℕ) (env : Env) (key name polarity : ℕ) (r : Bool) : Type 0 where
+  pub means : (n : ℕ) (ts : List Term) → StandsRow n ws at ts → lists recordBefore (records store) (key ∷ name ∷ polarity ∷ rowWords (rowOf (valuesOf env) ts)) ≡ r
+
+-- whether a row belongs to a set of this form that lists it or does not
+pub record Told (form : ℕ) (listed : Bool) (r : Belongs.Belongs) : Type 0 where
+  pub means : (xs : List Row) (x : Row) → lists rowBefore xs x ≡ listed → (k : ℕ) → done (has (formed form xs) x) k ≡ belongsAnswer r k
+
+-- whether the row that the terms come to belongs to the name's set, or the refusal that reading the name meets
+pub record SayBelongs (store ws : List ℕ) (at row : ℕ) (env : Env) (r : Belongs.Belongs) : Type 0 where
+  pub means : (t : Term) (m : ℕ) (p : Polarity) → At ws at (nameWords t m p) → (n : ℕ) (ts : List Term) → StandsRow n ws row ts → (k : ℕ) →
+      after (small (namesHeld (certificates store) (value (valuesOf env) t) m p) k) (λ s i. done (has s (rowOf (valuesOf env) ts)) i) ≡ belongsAnswer r k

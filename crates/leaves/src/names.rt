@@ -5,8 +5,10 @@ ghost use Prim.Native.Nat.{_≤_};
 ghost use lib.ListN.{length, getD};
 ghost use Rattle.rows.specs.Layout.{setRoom, formed, written};
 ghost use Rattle.certificates.specs.Store.{soundStore};
-ghost use Rattle.leaves.specs.Places.{SomeName};
-ghost use Rattle.leaves.specs.Leaves.{Records, recordRows, SayName};
+ghost use Rattle.leaves.specs.Places.{SomeName, SomeRow};
+ghost use Rattle.leaves.specs.Leaves.{Records, recordRows, SayName, SayCertified, Told, SayBelongs};
+use crate::row_of;
+use crate::values::Belongs;
 use crate::values::Env;
 use crate::values::Read;
 use crate::values::term_at;
@@ -20,6 +22,7 @@ use sets::row::load;
 use sets::row::store as store_row;
 use sets::set::clear;
 use store::certificates_in;
+use store::holds;
 
 // Has an empty set list the rows of these records, which are in order.
 fn copy_rows(records: &[u32], count: usize, area: &mut [u32])
@@ -62,4 +65,59 @@ pub fn read_name(
     }
     copy_rows(records, count, area);
     Read::Done(draws)
+}
+
+// Is the row that the terms come to certified for this name?
+fn is_certified(
+    words: &[u32],
+    at: usize,
+    env: Env,
+    store: &[u32],
+    key: u32,
+    name: u32,
+    polarity: u32,
+) -> bool
+    requires { ⌜ (env .count ≤ 16) × SomeRow (now words) at × (soundStore (now store) ≡ true) ⌝ }
+    ensures { λ r. ⌜ SayCertified (now (store .entry)) (now (words .entry)) at env key name polarity r ⌝ }
+{
+    let row = row_of(words, at, env);
+    let mut certificate = [key, name, polarity, 0, 0, 0, 0, 0];
+    store_row(&mut certificate, ROW_IN_RECORD, row);
+    holds(store, &certificate)
+}
+
+// Whether a row belongs to a set of this form that lists it or does not.
+fn told(form: u32, listed: bool) -> Belongs
+    ensures { λ r. ⌜ Told form listed r ⌝ }
+{
+    if form == 0 {
+        if listed {
+            return Belongs::Yes;
+        }
+        return Belongs::No;
+    }
+    if listed {
+        return Belongs::No;
+    }
+    Belongs::Yes
+}
+
+// Whether the row written at `row` belongs to the name's set: what `read_name` and `has_row` would find, without a copy of its rows.
+pub fn name_has(words: &[u32], at: usize, row: usize, env: Env, store: &[u32]) -> Belongs
+    requires { ⌜ (env .count ≤ 16) × SomeName (now words) at × SomeRow (now words) row × (soundStore (now store) ≡ true) ⌝ }
+    ensures { λ r. ⌜ SayBelongs (now (store .entry)) (now (words .entry)) at row env r ⌝ }
+{
+    let issuer = term_at(words, at);
+    let key = value_of(env, issuer);
+    let name = words[at + 2];
+    let polarity = words[at + 3];
+    if key < FIRST_KEY {
+        return told(polarity, false);
+    }
+    let records = certificates_in(store, key, name, polarity);
+    if MOST_LISTED < records.len() / RECORD_WORDS {
+        return Belongs::Refused(TOO_MANY_ROWS);
+    }
+    let listed = is_certified(words, row, env, store, key, name, polarity);
+    told(polarity, listed)
 }

@@ -25,6 +25,13 @@ pub enum Read {
     Refused(u32),
 }
 
+// Whether a row belongs to a set, or the number of a refusal.
+pub enum Belongs {
+    Yes,
+    No,
+    Refused(u32),
+}
+
 pub enum Term {
     Atom(u32),
     Variable(u32),

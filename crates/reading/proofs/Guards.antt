@@ -5,27 +5,31 @@ use mathlib.Core.Bool.{Bool, true, false}
 use mathlib.Core.List.{List}
 use native.Mathlib.Omega.{arith}
 use lib.Dec.{eqb}
-use lib.ListN.{length, take, drop}
+use lib.ListN.{length, take, drop, getD}
 use borrow.Author.Tests.{eq-eqb, ne-eqb}
 use Rattle.rows.specs.Row.{Row}
 use Rattle.rows.specs.Sets.{has}
 use Rattle.rows.specs.Layout.{rowsIn, setIn}
 use Rattle.rows.proofs.Case.{never}
+use Rattle.certificates.specs.Store.{certificates}
+use Rattle.policy.specs.Syntax.{Term, Expr, Body, absent}
 use Rattle.policy.specs.Words.{guardCount}
 use Rattle.meaning.specs.Values.{value, rowOf}
-use Rattle.meaning.specs.Reading.{Answer, done, Reading, read}
+use Rattle.meaning.specs.Evidence.{namesHeld}
+use Rattle.meaning.specs.Reading.{Answer, done, refused, Reading, after, small, read}
 use Rattle.meaning.proofs.Steps.{either}
 use Rattle.leaves.specs.Values.{valuesOf, termOf}
-use Rattle.leaves.specs.Places.{StandsBody, SomeRow, SomeExpr, SomeGuard, PastRow, PastExpr, IsGuard}
+use Rattle.leaves.specs.Places.{Stands, StandsBody, StandsAbsent, SomeRow, SomeName, SomeExpr, SomeGuard, PastRow, PastExpr, IsGuard}
 use Rattle.leaves.specs.Areas.{Filled, Gathering, Kept, roomOf, bodyRoom}
-use Rattle.leaves.specs.Leaves.{rowsAnswer, IfDone, SayHead, SayHas}
-use Rattle.reading.specs.Readers.{From, gathering, Means, AskExpr, AskBody, AskDraw, AskAbsent, SayExpr, SayBody, SayDraw, SayAbsent}
-use Rattle.leaves.proofs.Places.{on-head, on-draw, on-same, on-different, on-absent, in-head, in-draw, in-same, in-different, in-absent, expr-some, row-length}
+use Rattle.leaves.specs.Leaves.{rowsAnswer, IfDone, belongsAnswer, SayHead, SayHas, SayBelongs}
+use Rattle.reading.specs.Readers.{From, gathering, Means, AskExpr, AskBody, AskDraw, AskAbsent, AskNamed, SayExpr, SayBody, SayDraw, SayAbsent}
+use Rattle.leaves.proofs.Places.{on-listed, in-listed, on-head, on-draw, on-same, on-different, on-absent, in-head, in-draw, in-same, in-different, in-absent, expr-some, inside, row-length}
 use Rattle.leaves.proofs.Held.{held-value}
-use Rattle.leaves.proofs.Past.{operand-here, over-is, over-here}
+use Rattle.leaves.proofs.Past.{some-name, name-inside, past-name, operand-here, over-is, over-here}
 use Rattle.sets.proofs.Front.{SameFront, rows-same}
 use Rattle.leaves.proofs.Areas.{gathering-same, kept-self, kept-then, givenBack, back-length, back-part, back-front, back-kept, part-length, part-whole}
 use Rattle.reading.proofs.Exprs.{after-done, after-refused, done-means, refused-means, done-filled, some-room}
+use Rattle.leaves.specs.declared.values.Belongs as Belongs
 use Rattle.leaves.specs.declared.values.Env.{Env}
 use Rattle.leaves.specs.declared.values.Read.{Read}
 use Rattle.leaves.specs.declared.values.Read.the-variants.{Done, Refused}
@@ -219,6 +223,12 @@ module _ {f : From} {ws : List ℕ} {at left : ℕ} {env : Env} {area : List ℕ
     pub inner-after : at < inner
     inner-after = let e = past .past (env .count) (q .r) (q .here .row) in omega (arith, row-length (q .r))
 
+    pub inner-later : length ws - inner < length ws - at
+    inner-later = let a = inner-after in omega (arith, inside (operand-here past (q .here)))
+
+    pub ask-named : getD ws inner 0 ≡ 4 → AskNamed f ws at inner left env area free
+    ask-named e = record { ask = q; past = past; name = e }
+
     pub ask-inner : AskExpr f ws inner env (take (length area - free) (drop free area))
     ask-inner =
         let r = q .room in
@@ -272,3 +282,50 @@ module _ {f : From} {ws : List ℕ} {at left : ℕ} {env : Env} {k free : ℕ} {
             (ap (λ (xs : List Row). gathering f b (valuesOf env) xs j) (sym (operand-rows o g)) ∙ s .means .says b (over-here past w next)));
       };
     }
+
+-- ---- an absent guard over a name: the row is looked up in the store
+
+after-has : {A B : Type 0} (m : Answer A) (h : A → Bool) (g : Bool → Reading B) → after m (λ s. g (h s)) ≡ after (after m (λ s i. done (h s) i)) g
+unfolding after
+after-has (done a k) h g = refl
+after-has (refused n) h g = refl
+
+module _ {f : From} {ws : List ℕ} {at inner left : ℕ} {env : Env} {area : List ℕ} {free : ℕ} (q : AskNamed f ws at inner left env area free) where
+  pub named-name : SomeName ws (inner + 1)
+  named-name = some-name (some-inner (q .ask) (q .past)) (q .name)
+
+  pub named-inside : inner + 5 ≤ length ws
+  named-inside = name-inside (some-inner (q .ask) (q .past)) (q .name)
+
+  pub ask-named-rest : AskBody f ws (inner + 5) left env area free
+  ask-named-rest = ask-absent-rest (q .ask) (q .past) (past-name (q .name)) refl (q .ask .ask .gathering)
+
+  module _ {b : Belongs.Belongs} (told : SayBelongs (f .store) ws (inner + 1) at env b) where
+    -- what is gathered goes by the answer
+    by-answer : (k : ℕ) {t : List Term} {e : Expr} {c : Body} → StandsAbsent (f .known) (env .count) ws at left t e c →
+        gathering f (absent t e c) (valuesOf env) (rowsIn area) k ≡ after (belongsAnswer b k) (λ y. either y (λ i. done (rowsIn area) i) (gathering f c (valuesOf env) (rowsIn area)))
+    unfolding read
+    by-answer k {t} {e} {c} s =
+        on-listed (λ x. Stands (f .known) (env .count) ws inner x →
+        gathering f (absent t x c) (valuesOf env) (rowsIn area) k ≡ after (belongsAnswer b k) (λ y. either y (λ i. done (rowsIn area) i) (gathering f c (valuesOf env) (rowsIn area))))
+        (operand-here (q .past) s) (q .name)
+        (λ u n p w.
+        after-has (small (namesHeld (certificates (f .store)) (value (valuesOf env) u) n p) k) (λ x. has x (rowOf (valuesOf env) t)) (λ y. either y (λ i. done (rowsIn area) i) (gathering f c (valuesOf env) (rowsIn area)))
+        ∙ ap (λ (a : Answer Bool). after a (λ y. either y (λ i. done (rowsIn area) i) (gathering f c (valuesOf env) (rowsIn area)))) (told .means u n p (in-listed w) (env .count) t (s .row) k))
+        (operand-here (q .past) s)
+
+    answered : (k : ℕ) {x : Belongs.Belongs} → b ≡ x → {t : List Term} {e : Expr} {c : Body} → StandsAbsent (f .known) (env .count) ws at left t e c →
+        gathering f (absent t e c) (valuesOf env) (rowsIn area) k ≡ after (belongsAnswer x k) (λ y. either y (λ i. done (rowsIn area) i) (gathering f c (valuesOf env) (rowsIn area)))
+    answered k d {c} s = by-answer k s ∙ ap (λ (x : Belongs.Belongs). after (belongsAnswer x k) (λ y. either y (λ i. done (rowsIn area) i) (gathering f c (valuesOf env) (rowsIn area)))) d
+
+    pub named-refused : {k n : ℕ} → b ≡ Belongs.the-variants.Refused n → SayAbsent f ws at left env k free area (Refused n) area
+    unfolding after belongsAnswer IfDone rowsAnswer
+    named-refused {k} d = record { gathering = tt; kept = kept-self; means = record { says = λ t e c s. answered k d s } }
+
+    pub named-has : {k : ℕ} → b ≡ Belongs.the-variants.Yes → SayAbsent f ws at left env k free area (Done k) area
+    unfolding after belongsAnswer IfDone rowsAnswer
+    named-has {k} d = record { gathering = q .ask .ask .gathering; kept = kept-self; means = record { says = λ t e c s. answered k d s } }
+
+    pub named-lacks : {k : ℕ} {r : Read} {next : List ℕ} → b ≡ Belongs.the-variants.No → SayBody f ws (inner + 5) left env k free area r next → SayAbsent f ws at left env k free area r next
+    unfolding after belongsAnswer
+    named-lacks {k} d g = record { gathering = g .gathering; kept = g .kept; means = record { says = λ t e c s. answered k d s ∙ g .means .says c (over-here (q .past) s (past-name (q .name))) } }

@@ -3,7 +3,7 @@ use Prim.Native.Nat.{ℕ, _+_, _*_, _≤_, _<_}
 use mathlib.Core.Path.{_≡_}
 use mathlib.Core.Bool.{Bool, true}
 use mathlib.Core.List.{List, []}
-use lib.ListN.{length, drop}
+use lib.ListN.{length, getD, drop}
 use Rattle.rows.specs.Row.{Row}
 use Rattle.rows.specs.Sets.{RowSet}
 use Rattle.rows.specs.Layout.{setRoom, rowsIn}
@@ -15,7 +15,7 @@ use Rattle.meaning.specs.Values.{Values}
 use Rattle.meaning.specs.Evidence.{namesHeld}
 use Rattle.meaning.specs.Reading.{Answer, Reading, after, small, drawEach, read, gather}
 use Rattle.leaves.specs.Values.{valuesOf}
-use Rattle.leaves.specs.Places.{Stands, StandsPattern, StandsBody, StandsTwo, StandsDraw, StandsAbsent}
+use Rattle.leaves.specs.Places.{Stands, StandsPattern, StandsBody, StandsTwo, StandsDraw, StandsAbsent, PastRow}
 use Rattle.leaves.specs.Leaves.{setAnswer, rowsAnswer, IfDone, combined}
 use Rattle.leaves.specs.Areas.{Filled, Gathering, Kept, setsIn, roomOf, bodyRoom}
 use Rattle.leaves.specs.declared.values.Env.{Env}
@@ -129,6 +129,12 @@ pub record AskAbsent (f : From) (ws : List ℕ) (at left : ℕ) (env : Env) (are
   pub here : StandsAbsent (f .known) (env .count) ws at left r e b
   pub room : free + setRoom * roomOf e ≤ length area
   pub rest : free + setRoom * bodyRoom b ≤ length area
+
+-- its operand is a name, which stands at `inner`, after the row
+pub record AskNamed (f : From) (ws : List ℕ) (at inner left : ℕ) (env : Env) (area : List ℕ) (free : ℕ) : Type 0 where
+  pub ask : AskAbsent f ws at left env area free
+  pub past : PastRow ws at inner
+  pub name : getD ws inner 0 ≡ 4
 
 pub record SayBody (f : From) (ws : List ℕ) (at left : ℕ) (env : Env) (k free : ℕ) (entry : List ℕ) (r : Read) (area : List ℕ) : Type 0 where
   pub gathering : IfDone Gathering r area

@@ -1,16 +1,18 @@
 // The readers of expressions and of guards, which call each other. An expression's set is left at the area's front; what lies behind it is free.
 // A comprehension gathers its rows at the front, and from `free` on the area is free: below it lie the sets that are drawn from.
-ghost use Rattle.reading.specs.Readers.{AskExpr, AskTwo, AskBody, AskDraw, AskEach, AskAbsent, SayExpr, SayTwo, SayBody, SayDraw, SayEach, SayAbsent, AskWhole, SayWhole};
+ghost use Rattle.reading.specs.Readers.{AskExpr, AskTwo, AskBody, AskDraw, AskEach, AskAbsent, AskNamed, SayExpr, SayTwo, SayBody, SayDraw, SayEach, SayAbsent, AskWhole, SayWhole};
 use leaves::combine;
 use leaves::has_row;
 use leaves::insert_head;
 use leaves::match_row;
+use leaves::names::name_has;
 use leaves::names::read_name;
 use leaves::read_definition;
 use leaves::read_rows;
 use leaves::skip::skip_expr;
 use leaves::skip::skip_pattern;
 use leaves::skip::skip_row;
+use leaves::values::Belongs;
 use leaves::values::Env;
 use leaves::values::Guard;
 pub use leaves::values::Read;
@@ -313,6 +315,21 @@ fn read_absent(
     ensures { λ r. ⌜ SayAbsent (record { store = now (store .entry); defs = now (defs .entry); known = known }) (now (words .entry)) at left env draws free (now (area .entry)) r (now (area .exit)) ⌝ }
 {
     let inner = skip_row(words, at);
+    if words[inner] == 4 {
+        return absent_name(
+            words,
+            at,
+            inner,
+            left,
+            env,
+            store,
+            defs,
+            known,
+            draws,
+            area,
+            free,
+        );
+    }
     match read_expr(
         words,
         inner,
@@ -331,6 +348,41 @@ fn read_absent(
             let rest = skip_expr(words, inner);
             read_guards(words, rest, left, env, store, defs, known, used, area, free)
         }
+    }
+}
+
+// An absent guard whose operand is the name at `inner`: its row is looked up in the store, and the name's rows are not read.
+fn absent_name(
+    words: &[u32],
+    at: usize,
+    inner: usize,
+    left: u32,
+    env: Env,
+    store: &[u32],
+    defs: &[u32],
+    known: usize,
+    draws: u32,
+    area: &mut [u32],
+    free: usize,
+) -> Read
+    requires { ⌜ AskNamed (record { store = now store; defs = now defs; known = known }) (now words) at inner left env (now area) free ⌝ }
+    ensures { λ r. ⌜ SayAbsent (record { store = now (store .entry); defs = now (defs .entry); known = known }) (now (words .entry)) at left env draws free (now (area .entry)) r (now (area .exit)) ⌝ }
+{
+    match name_has(words, inner + 1, at, env, store) {
+        Belongs::Refused(n) => Read::Refused(n),
+        Belongs::Yes => Read::Done(draws),
+        Belongs::No => read_guards(
+            words,
+            inner + 5,
+            left,
+            env,
+            store,
+            defs,
+            known,
+            draws,
+            area,
+            free,
+        ),
     }
 }
 

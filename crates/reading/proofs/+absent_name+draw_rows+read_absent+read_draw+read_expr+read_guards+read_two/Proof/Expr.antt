@@ -6,8 +6,8 @@ use Rattle.leaves.proofs.Past.{some-rows, definition-inside, some-name, some-bo
 use Rattle.leaves.proofs.Areas.{cleared}
 use Rattle.reading.proofs.Exprs.{some-expr, long, definition-known, ask-union, ask-difference, code-left, ask-guards, say-finite, say-cofinite, say-definition, say-name, say-union, say-difference, say-comprehension}
 use Rattle.reading.proofs.read_expr.Reads as read-expr
-use Rattle.reading.proofs.+draw_rows+read_absent+read_draw+read_expr+read_guards+read_two.Lts-read_expr as read-expr-lts
-use Rattle.reading.proofs.+draw_rows+read_absent+read_draw+read_expr+read_guards+read_two.Proof.Cycle.{read-expr-at, read-expr-claims}
+use Rattle.reading.proofs.+absent_name+draw_rows+read_absent+read_draw+read_expr+read_guards+read_two.Lts-read_expr as read-expr-lts
+use Rattle.reading.proofs.+absent_name+draw_rows+read_absent+read_draw+read_expr+read_guards+read_two.Proof.Cycle.{read-expr-at, read-expr-claims}
 
 pub mul-code : (t : ℕ) → read-expr-lts.Need-mul-code (read-expr-claims t) (read-expr-at t) read-expr.Post
 mul-code t c =

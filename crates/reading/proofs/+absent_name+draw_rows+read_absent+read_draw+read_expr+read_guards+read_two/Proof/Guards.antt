@@ -6,8 +6,8 @@ use Rattle.leaves.proofs.Places.{inside-body}
 use Rattle.leaves.proofs.Held.{guard-told}
 use Rattle.reading.proofs.Guards.{some-head, some-guard, ask-draw, ask-absent, ask-same, ask-different, say-head, say-draw, say-absent, say-same, say-different, same-fails, different-fails}
 use Rattle.reading.proofs.read_guards.Reads as read-guards
-use Rattle.reading.proofs.+draw_rows+read_absent+read_draw+read_expr+read_guards+read_two.Lts-read_guards as read-guards-lts
-use Rattle.reading.proofs.+draw_rows+read_absent+read_draw+read_expr+read_guards+read_two.Proof.Cycle.{read-guards-at, read-guards-claims}
+use Rattle.reading.proofs.+absent_name+draw_rows+read_absent+read_draw+read_expr+read_guards+read_two.Lts-read_guards as read-guards-lts
+use Rattle.reading.proofs.+absent_name+draw_rows+read_absent+read_draw+read_expr+read_guards+read_two.Proof.Cycle.{read-guards-at, read-guards-claims}
 
 pub insert-head-requires : (t : ℕ) → read-guards-lts.Need-insert-head-requires (read-guards-claims t) (read-guards-at t) read-guards.Post
 insert-head-requires t c κs =

@@ -4,8 +4,8 @@ use mathlib.Core.Path.{_∙_}
 use native.Mathlib.Omega.{arith}
 use Rattle.reading.proofs.Draws.{each-room, each-slots, each-body, drawing-start, row-inside, row-narrow, drawing-miss, drawing-hit, each-stopped, each-limited, each-done}
 use Rattle.reading.proofs.draw_rows.Reads as draw-rows
-use Rattle.reading.proofs.+draw_rows+read_absent+read_draw+read_expr+read_guards+read_two.Lts-draw_rows as draw-rows-lts
-use Rattle.reading.proofs.+draw_rows+read_absent+read_draw+read_expr+read_guards+read_two.Proof.Cycle.{draw-rows-at, draw-rows-Inv-loop, draw-rows-μ-loop, draw-rows-claims}
+use Rattle.reading.proofs.+absent_name+draw_rows+read_absent+read_draw+read_expr+read_guards+read_two.Lts-draw_rows as draw-rows-lts
+use Rattle.reading.proofs.+absent_name+draw_rows+read_absent+read_draw+read_expr+read_guards+read_two.Proof.Cycle.{draw-rows-at, draw-rows-Inv-loop, draw-rows-μ-loop, draw-rows-claims}
 
 pub add-wide : (t : ℕ) → draw-rows-lts.Need-add-wide (draw-rows-claims t) (draw-rows-at t) draw-rows.Post draw-rows-Inv-loop draw-rows-μ-loop
 add-wide t c =

@@ -3,40 +3,59 @@ mod Absent
 mod Draw
 mod Expr
 mod Guards
+mod Name
 mod Rows
 mod Two
 use borrow.Author.Needs.{needs}
+use Rattle.reading.proofs.absent_name.Reads as absent-name
+use Rattle.reading.proofs.+absent_name+draw_rows+read_absent+read_draw+read_expr+read_guards+read_two.Lts-absent_name as absent-name-lts
 use Rattle.reading.proofs.draw_rows.Reads as draw-rows
-use Rattle.reading.proofs.+draw_rows+read_absent+read_draw+read_expr+read_guards+read_two.Lts-draw_rows as draw-rows-lts
+use Rattle.reading.proofs.+absent_name+draw_rows+read_absent+read_draw+read_expr+read_guards+read_two.Lts-draw_rows as draw-rows-lts
 use Rattle.reading.proofs.read_absent.Reads as read-absent
-use Rattle.reading.proofs.+draw_rows+read_absent+read_draw+read_expr+read_guards+read_two.Lts-read_absent as read-absent-lts
+use Rattle.reading.proofs.+absent_name+draw_rows+read_absent+read_draw+read_expr+read_guards+read_two.Lts-read_absent as read-absent-lts
 use Rattle.reading.proofs.read_draw.Reads as read-draw
-use Rattle.reading.proofs.+draw_rows+read_absent+read_draw+read_expr+read_guards+read_two.Lts-read_draw as read-draw-lts
+use Rattle.reading.proofs.+absent_name+draw_rows+read_absent+read_draw+read_expr+read_guards+read_two.Lts-read_draw as read-draw-lts
 use Rattle.reading.proofs.read_expr.Reads as read-expr
-use Rattle.reading.proofs.+draw_rows+read_absent+read_draw+read_expr+read_guards+read_two.Lts-read_expr as read-expr-lts
+use Rattle.reading.proofs.+absent_name+draw_rows+read_absent+read_draw+read_expr+read_guards+read_two.Lts-read_expr as read-expr-lts
 use Rattle.reading.proofs.read_guards.Reads as read-guards
-use Rattle.reading.proofs.+draw_rows+read_absent+read_draw+read_expr+read_guards+read_two.Lts-read_guards as read-guards-lts
+use Rattle.reading.proofs.+absent_name+draw_rows+read_absent+read_draw+read_expr+read_guards+read_two.Lts-read_guards as read-guards-lts
 use Rattle.reading.proofs.read_two.Reads as read-two
-use Rattle.reading.proofs.+draw_rows+read_absent+read_draw+read_expr+read_guards+read_two.Lts-read_two as read-two-lts
-use Rattle.reading.proofs.+draw_rows+read_absent+read_draw+read_expr+read_guards+read_two.{statement}
-use Rattle.reading.proofs.+draw_rows+read_absent+read_draw+read_expr+read_guards+read_two.Tie.{close}
-use Rattle.reading.proofs.+draw_rows+read_absent+read_draw+read_expr+read_guards+read_two.Proof.Cycle.{μ-draw-rows, μ-read-absent, μ-read-draw, μ-read-expr, μ-read-guards, μ-read-two, draw-rows-at, read-absent-at, read-draw-at, read-expr-at, read-guards-at, read-two-at, draw-rows-Inv-loop, draw-rows-μ-loop, draw-rows-claims, read-absent-claims, read-draw-claims, read-expr-claims, read-guards-claims, read-two-claims}
-use Rattle.reading.proofs.+draw_rows+read_absent+read_draw+read_expr+read_guards+read_two.Proof.Absent as absent
-use Rattle.reading.proofs.+draw_rows+read_absent+read_draw+read_expr+read_guards+read_two.Proof.Draw as draw
-use Rattle.reading.proofs.+draw_rows+read_absent+read_draw+read_expr+read_guards+read_two.Proof.Expr as expr
-use Rattle.reading.proofs.+draw_rows+read_absent+read_draw+read_expr+read_guards+read_two.Proof.Guards as guards
-use Rattle.reading.proofs.+draw_rows+read_absent+read_draw+read_expr+read_guards+read_two.Proof.Rows as rows
-use Rattle.reading.proofs.+draw_rows+read_absent+read_draw+read_expr+read_guards+read_two.Proof.Two as two
+use Rattle.reading.proofs.+absent_name+draw_rows+read_absent+read_draw+read_expr+read_guards+read_two.Lts-read_two as read-two-lts
+use Rattle.reading.proofs.+absent_name+draw_rows+read_absent+read_draw+read_expr+read_guards+read_two.{statement}
+use Rattle.reading.proofs.+absent_name+draw_rows+read_absent+read_draw+read_expr+read_guards+read_two.Tie.{close}
+use Rattle.reading.proofs.+absent_name+draw_rows+read_absent+read_draw+read_expr+read_guards+read_two.Proof.Cycle.{μ-absent-name, μ-draw-rows, μ-read-absent, μ-read-draw, μ-read-expr, μ-read-guards, μ-read-two, absent-name-at, draw-rows-at, read-absent-at, read-draw-at, read-expr-at, read-guards-at, read-two-at, draw-rows-Inv-loop, draw-rows-μ-loop, absent-name-claims, draw-rows-claims, read-absent-claims, read-draw-claims, read-expr-claims, read-guards-claims, read-two-claims}
+use Rattle.reading.proofs.+absent_name+draw_rows+read_absent+read_draw+read_expr+read_guards+read_two.Proof.Absent as absent
+use Rattle.reading.proofs.+absent_name+draw_rows+read_absent+read_draw+read_expr+read_guards+read_two.Proof.Draw as draw
+use Rattle.reading.proofs.+absent_name+draw_rows+read_absent+read_draw+read_expr+read_guards+read_two.Proof.Expr as expr
+use Rattle.reading.proofs.+absent_name+draw_rows+read_absent+read_draw+read_expr+read_guards+read_two.Proof.Guards as guards
+use Rattle.reading.proofs.+absent_name+draw_rows+read_absent+read_draw+read_expr+read_guards+read_two.Proof.Name as name
+use Rattle.reading.proofs.+absent_name+draw_rows+read_absent+read_draw+read_expr+read_guards+read_two.Proof.Rows as rows
+use Rattle.reading.proofs.+absent_name+draw_rows+read_absent+read_draw+read_expr+read_guards+read_two.Proof.Two as two
 
-pub +draw-rows+read-absent+read-draw+read-expr+read-guards+read-two-spec : {M : Type 1} → statement M
-+draw-rows+read-absent+read-draw+read-expr+read-guards+read-two-spec =
+pub +absent-name+draw-rows+read-absent+read-draw+read-expr+read-guards+read-two-spec : {M : Type 1} → statement M
++absent-name+draw-rows+read-absent+read-draw+read-expr+read-guards+read-two-spec =
     close
+    μ-absent-name
     μ-draw-rows
     μ-read-absent
     μ-read-draw
     μ-read-expr
     μ-read-guards
     μ-read-two
+    (λ t. absent-name-lts.spec (absent-name-claims t)
+    (absent-name-at t)
+    absent-name.Post
+    (name.add-name-has t)
+    (name.name-has-requires t)
+    (λ c. search needs)
+    (λ c. search needs)
+    (λ c. search needs)
+    (name.add-read-guards t)
+    (name.read-guards-requires t)
+    (name.returns t)
+    (name.returns-2 t)
+    (λ c. search needs)
+    (name.returns-3 t))
     (λ t. draw-rows-lts.spec (draw-rows-claims t)
     (draw-rows-at t)
     draw-rows.Post
@@ -72,6 +91,11 @@ pub +draw-rows+read-absent+read-draw+read-expr+read-guards+read-two-spec : {M : 
     (read-absent-at t)
     read-absent.Post
     (absent.skip-row-requires t)
+    (absent.mul-if1 t)
+    (absent.shared-slice-read-if1 t)
+    (absent.absent-name-requires t)
+    (λ c. search needs)
+    (absent.returns t)
     (absent.mul-read-expr t)
     (absent.sub-read-expr t)
     (absent.part-read-expr-start t)
@@ -85,13 +109,13 @@ pub +draw-rows+read-absent+read-draw+read-expr+read-guards+read-two-spec : {M : 
     (absent.part-has-row-end t)
     (absent.has-row-requires t)
     (λ c. search needs)
-    (absent.returns t)
+    (absent.returns-2 t)
     (absent.skip-expr-requires t)
     (absent.read-guards-requires t)
     (λ c. search needs)
-    (absent.returns-2 t)
+    (absent.returns-3 t)
     (λ c. search needs)
-    (absent.returns-3 t))
+    (absent.returns-4 t))
     (λ t. read-draw-lts.spec (read-draw-claims t)
     (read-draw-at t)
     read-draw.Post

@@ -3,8 +3,8 @@ use Prim.Native.Nat.{ℕ}
 use native.Mathlib.Omega.{arith}
 use Rattle.reading.proofs.Draws.{some-operand, draw-room, ask-operand, drawn, draw-refused, some-pattern, draw-later, draw-complement, ask-each, say-each}
 use Rattle.reading.proofs.read_draw.Reads as read-draw
-use Rattle.reading.proofs.+draw_rows+read_absent+read_draw+read_expr+read_guards+read_two.Lts-read_draw as read-draw-lts
-use Rattle.reading.proofs.+draw_rows+read_absent+read_draw+read_expr+read_guards+read_two.Proof.Cycle.{read-draw-at, read-draw-claims}
+use Rattle.reading.proofs.+absent_name+draw_rows+read_absent+read_draw+read_expr+read_guards+read_two.Lts-read_draw as read-draw-lts
+use Rattle.reading.proofs.+absent_name+draw_rows+read_absent+read_draw+read_expr+read_guards+read_two.Proof.Cycle.{read-draw-at, read-draw-claims}
 
 -- where the operand is read, and where the draw begins, from where the pattern is passed
 abbrev operand-read : (t : ℕ) → read-draw-lts.After-skip-pattern (read-draw-claims t) (read-draw-at t) read-draw.Post → read-draw-lts.After-read-expr (read-draw-claims t) (read-draw-at t) read-draw.Post

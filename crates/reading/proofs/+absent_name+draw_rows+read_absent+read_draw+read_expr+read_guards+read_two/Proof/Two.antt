@@ -6,8 +6,8 @@ use lib.ListN.{length}
 use Rattle.leaves.proofs.Places.{inside}
 use Rattle.reading.proofs.Exprs.{some-left, ask-left, ask-right, right-after, say-left-refused, say-right-refused, both-filled, say-combined}
 use Rattle.reading.proofs.read_two.Reads as read-two
-use Rattle.reading.proofs.+draw_rows+read_absent+read_draw+read_expr+read_guards+read_two.Lts-read_two as read-two-lts
-use Rattle.reading.proofs.+draw_rows+read_absent+read_draw+read_expr+read_guards+read_two.Proof.Cycle.{read-two-at, read-two-claims}
+use Rattle.reading.proofs.+absent_name+draw_rows+read_absent+read_draw+read_expr+read_guards+read_two.Lts-read_two as read-two-lts
+use Rattle.reading.proofs.+absent_name+draw_rows+read_absent+read_draw+read_expr+read_guards+read_two.Proof.Cycle.{read-two-at, read-two-claims}
 
 pub read-expr-requires : (t : ℕ) → read-two-lts.Need-read-expr-requires (read-two-claims t) (read-two-at t) read-two.Post
 read-expr-requires t c κs = (omega arith, ask-left (c .before .before .before .before .before .pre .1))

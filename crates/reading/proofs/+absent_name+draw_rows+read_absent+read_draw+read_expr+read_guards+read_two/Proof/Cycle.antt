@@ -4,30 +4,34 @@ use lib.ListN.{length}
 use Rattle.reading.proofs.Draws.{Drawing}
 use borrow.Fn.Kinds.{In}
 use borrow.Fn.PlainCycle.{Measures, is, falls, and}
+use Rattle.reading.proofs.absent_name.Reads as absent-name
+use Rattle.reading.proofs.absent_name.Kinds as absent-name-kinds
+use Rattle.reading.proofs.+absent_name+draw_rows+read_absent+read_draw+read_expr+read_guards+read_two.Lts-absent_name as absent-name-lts
 use Rattle.reading.proofs.draw_rows.Reads as draw-rows
 use Rattle.reading.proofs.draw_rows.Kinds as draw-rows-kinds
-use Rattle.reading.proofs.+draw_rows+read_absent+read_draw+read_expr+read_guards+read_two.Lts-draw_rows as draw-rows-lts
+use Rattle.reading.proofs.+absent_name+draw_rows+read_absent+read_draw+read_expr+read_guards+read_two.Lts-draw_rows as draw-rows-lts
 use Rattle.reading.proofs.read_absent.Reads as read-absent
 use Rattle.reading.proofs.read_absent.Kinds as read-absent-kinds
-use Rattle.reading.proofs.+draw_rows+read_absent+read_draw+read_expr+read_guards+read_two.Lts-read_absent as read-absent-lts
+use Rattle.reading.proofs.+absent_name+draw_rows+read_absent+read_draw+read_expr+read_guards+read_two.Lts-read_absent as read-absent-lts
 use Rattle.reading.proofs.read_draw.Reads as read-draw
 use Rattle.reading.proofs.read_draw.Kinds as read-draw-kinds
-use Rattle.reading.proofs.+draw_rows+read_absent+read_draw+read_expr+read_guards+read_two.Lts-read_draw as read-draw-lts
+use Rattle.reading.proofs.+absent_name+draw_rows+read_absent+read_draw+read_expr+read_guards+read_two.Lts-read_draw as read-draw-lts
 use Rattle.reading.proofs.read_expr.Reads as read-expr
 use Rattle.reading.proofs.read_expr.Kinds as read-expr-kinds
-use Rattle.reading.proofs.+draw_rows+read_absent+read_draw+read_expr+read_guards+read_two.Lts-read_expr as read-expr-lts
+use Rattle.reading.proofs.+absent_name+draw_rows+read_absent+read_draw+read_expr+read_guards+read_two.Lts-read_expr as read-expr-lts
 use Rattle.reading.proofs.read_guards.Reads as read-guards
 use Rattle.reading.proofs.read_guards.Kinds as read-guards-kinds
-use Rattle.reading.proofs.+draw_rows+read_absent+read_draw+read_expr+read_guards+read_two.Lts-read_guards as read-guards-lts
+use Rattle.reading.proofs.+absent_name+draw_rows+read_absent+read_draw+read_expr+read_guards+read_two.Lts-read_guards as read-guards-lts
 use Rattle.reading.proofs.read_two.Reads as read-two
 use Rattle.reading.proofs.read_two.Kinds as read-two-kinds
-use Rattle.reading.proofs.+draw_rows+read_absent+read_draw+read_expr+read_guards+read_two.Lts-read_two as read-two-lts
+use Rattle.reading.proofs.+absent_name+draw_rows+read_absent+read_draw+read_expr+read_guards+read_two.Lts-read_two as read-two-lts
 use Rattle.leaves.proofs.combine.Reads as combine-reads
 use Rattle.leaves.proofs.has_row.Reads as has-row-reads
 use Rattle.leaves.proofs.insert_head.Reads as insert-head-reads
 use Rattle.leaves.proofs.match_row.Reads as match-row-reads
 use Rattle.leaves.proofs.read_definition.Reads as read-definition-reads
 use Rattle.leaves.proofs.read_rows.Reads as read-rows-reads
+use Rattle.leaves.proofs.names.name_has.Reads as name-has-reads
 use Rattle.leaves.proofs.names.read_name.Reads as read-name-reads
 use Rattle.leaves.proofs.skip.skip_expr.Reads as skip-expr-reads
 use Rattle.leaves.proofs.skip.skip_pattern.Reads as skip-pattern-reads
@@ -37,6 +41,10 @@ use Rattle.leaves.proofs.values.value_of.Reads as value-of-reads
 use Rattle.sets.proofs.row.load.Reads as load-reads
 use Rattle.sets.proofs.row.wide.Reads as wide-reads
 use Rattle.sets.proofs.set.clear.Reads as clear-reads
+
+-- the words left from the name on
+abbrev pub μ-absent-name : Measures 4 absent-name-kinds.ps ℕ
+μ-absent-name κs a = 2 * (length (a .0 .now) - a .1 .1 .0) + 1
 
 -- the words left, from the guards that follow on
 abbrev pub μ-draw-rows : Measures 4 draw-rows-kinds.ps ℕ
@@ -56,6 +64,14 @@ abbrev pub μ-read-guards : Measures 4 read-guards-kinds.ps ℕ
 
 abbrev pub μ-read-two : Measures 4 read-two-kinds.ps ℕ
 μ-read-two κs a = 2 * (length (a .0 .now) - a .1 .0) + 1
+
+abbrev pub absent-name-at : ℕ → In 4 absent-name-kinds.ps
+absent-name-at t =
+    and 4 absent-name-kinds.ps (is 4 absent-name-kinds.ps μ-absent-name t) absent-name.Pre
+
+abbrev pub absent-name-below : ℕ → In 4 absent-name-kinds.ps
+absent-name-below t =
+    and 4 absent-name-kinds.ps (falls 4 absent-name-kinds.ps _<_ μ-absent-name t) absent-name.Pre
 
 abbrev pub draw-rows-at : ℕ → In 4 draw-rows-kinds.ps
 draw-rows-at t = and 4 draw-rows-kinds.ps (is 4 draw-rows-kinds.ps μ-draw-rows t) draw-rows.Pre
@@ -108,13 +124,17 @@ draw-rows-Inv-loop words pattern rest left env store defs known draws area₀ fr
 abbrev pub draw-rows-μ-loop : draw-rows-lts.MeasureT-loop
 draw-rows-μ-loop words pattern rest left env store defs known draws area₀ free count used₀ i₀ area used i = count - i
 
+-- what `absent_name` knows of the functions that it calls
+abbrev pub absent-name-claims : ℕ → absent-name-lts.Claims
+absent-name-claims t = (name-has-reads.Asked, name-has-reads.Learnt, read-guards-below t, read-guards.Post)
+
 -- what `draw_rows` knows of the functions that it calls
 abbrev pub draw-rows-claims : ℕ → draw-rows-lts.Claims
 draw-rows-claims t = (wide-reads.Asked, wide-reads.Learnt, load-reads.Asked, load-reads.Learnt, match-row-reads.Asked, match-row-reads.Learnt, read-guards-below t, read-guards.Post)
 
 -- what `read_absent` knows of the functions that it calls
 abbrev pub read-absent-claims : ℕ → read-absent-lts.Claims
-read-absent-claims t = (skip-row-reads.Asked, skip-row-reads.Learnt, read-expr-below t, read-expr.Post, has-row-reads.Asked, has-row-reads.Learnt, skip-expr-reads.Asked, skip-expr-reads.Learnt, read-guards-below t, read-guards.Post)
+read-absent-claims t = (skip-row-reads.Asked, skip-row-reads.Learnt, absent-name-below t, absent-name.Post, read-expr-below t, read-expr.Post, has-row-reads.Asked, has-row-reads.Learnt, skip-expr-reads.Asked, skip-expr-reads.Learnt, read-guards-below t, read-guards.Post)
 
 -- what `read_draw` knows of the functions that it calls
 abbrev pub read-draw-claims : ℕ → read-draw-lts.Claims
