@@ -2,6 +2,7 @@
 ghost use Prim.Native.Nat.{_≤_, _<_};
 ghost use lib.ListN.{length};
 use crate::lines::after;
+use rows::FIRST_KEY;
 
 // What was read, and the place after it.
 pub struct Number {
@@ -65,7 +66,7 @@ pub fn starts_word(byte: u8) -> bool {
 
 // The key of this number.
 fn key(number: u32) -> u32 {
-    std::num::wrapping_add_u32(number, 2147483648)
+    std::num::wrapping_add_u32(number, FIRST_KEY)
 }
 
 // The word that starts at `at`.
