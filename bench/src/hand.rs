@@ -115,11 +115,7 @@ fn common(released: &[Words8], kept: &[Words8], answer: &mut [u32]) -> u32 {
 }
 
 pub fn public(store: &[u32], answer: &mut [u32]) -> Option<u32> {
-    if sound(store) {
-        public_free(store, answer)
-    } else {
-        None
-    }
+    sound(store).then(|| public_free(store, answer)).flatten()
 }
 
 pub fn public_free(store: &[u32], answer: &mut [u32]) -> Option<u32> {
@@ -236,11 +232,7 @@ pub fn file(store: &mut [u32], record: &Words8) -> bool {
 }
 
 pub fn small(store: &[u32], answer: &mut [u32]) -> Option<u32> {
-    if sound(store) {
-        small_free(store, answer)
-    } else {
-        None
-    }
+    sound(store).then(|| small_free(store, answer)).flatten()
 }
 
 pub fn small_free(store: &[u32], answer: &mut [u32]) -> Option<u32> {

@@ -1,8 +1,8 @@
 //! The library beside a straightforward evaluator, hand-tuned programs and SQLite, on five tasks.
 //!
-//!     cargo run --release --offline --features library [-- ROUNDS]
+//!     cargo run --release --offline [-- ROUNDS]
 //!
-//! Prints a table of medians, with ratios to the hand-tuned program, and draws it to docs/benchmark.svg when the library takes part.
+//! Prints a table of medians, with ratios to the hand-tuned program, and draws it to docs/benchmark.svg.
 
 mod hand;
 mod measure;
@@ -54,11 +54,7 @@ pub const CONTESTANTS: [&str; 5] = [LIBRARY, STRAIGHTFORWARD, HAND, FREE, SQLITE
 
 /// The engines behind the C interface.
 fn engines() -> Vec<(&'static str, Rc<dyn Engine>)> {
-    vec![
-        #[cfg(feature = "library")]
-        (LIBRARY, Rc::new(differential::library::Library)),
-        (STRAIGHTFORWARD, Rc::new(Evaluator::default())),
-    ]
+    vec![(LIBRARY, Rc::new(differential::library::Library)), (STRAIGHTFORWARD, Rc::new(Evaluator::default()))]
 }
 
 /// The areas of a query, used again by each.
@@ -251,11 +247,9 @@ fn main() {
     println!("{}; {}; medians of {rounds} samples of processor time; in brackets the ratio to the hand-tuned program", processor(), sqlite_version());
     let measured: Vec<Measured> = tasks().into_iter().map(|task| measure(task, rounds)).collect();
     print_table(&measured);
-    if cfg!(feature = "library") {
-        let path = concat!(env!("CARGO_MANIFEST_DIR"), "/../docs/benchmark.svg");
-        std::fs::write(path, picture::draw(&measured)).expect("the folder docs is there");
-        println!("drawn to docs/benchmark.svg");
-    }
+    let path = concat!(env!("CARGO_MANIFEST_DIR"), "/../docs/benchmark.svg");
+    std::fs::write(path, picture::draw(&measured)).expect("the folder docs is there");
+    println!("drawn to docs/benchmark.svg");
 }
 
 #[cfg(test)]
