@@ -1,11 +1,13 @@
 -- The checker's cycle: an expression and the guards of a comprehension, way out by way out.
 use Prim.Native.Nat.{ℕ, zero, suc, _+_, _-_, _≤_, _<_}
 use mathlib.Core.Path.{_≡_, refl, sym, _∙_, ap}
+use mathlib.Core.Logic.{_⊎_, inl, inr}
 use mathlib.Core.Bool.{true, false}
 use mathlib.Core.List.{List, [], _∷_}
 use native.Mathlib.Omega.{arith}
 use lib.Dec.{eqb}
 use lib.ListN.{length, drop}
+use denote.Enum.Declared.{tagOf}
 use borrow.Author.Tests.{lt-ltb, le-ltb, eq-eqb, ne-eqb}
 use Rattle.refusals.specs.Table.{badWord, tooDeep}
 use Rattle.policy.specs.Syntax.{Term, Expr, union, difference, comprehension, Body, draw, same, different}
@@ -28,6 +30,7 @@ use Rattle.terms.specs.declared.Passed.the-variants as passed
 use Rattle.terms.specs.declared.PatternRead as PatternRead
 use Rattle.terms.specs.declared.PatternRead.the-variants as patternRead
 use Rattle.policy.proofs.Basics.{impossible}
+use Rattle.terms.proofs.Guard.{the-type}
 use Rattle.terms.proofs.Answering.{Got, Lost, got-of, lost-of, word-found, word-refused, tested-first}
 use Rattle.terms.proofs.TermAnswers.{guard-found, guard-refused}
 use Rattle.terms.proofs.RowAnswers.{after-after, passed-found, passed-lost}
@@ -251,13 +254,27 @@ module _ (ws : List ℕ) (at n k : ℕ) (ks : List Known) (inner : ℕ → Reade
       guards-absent d a = earlier (answers-as (followed (ap openingOf d)) a)
 
       -- "No other operand counts": a comparison leaves the facts as they are
-      pub guards-same : {a b : TermHeld.Term} → g ≡ Same a b → {x : Answer Facts} → Answers ws next x (bodyFacts ks inner (left - 1) n (drop next ws) k) → Answers ws at x (bodyFacts ks inner left n (drop at ws) k)
+      guards-same : {a b : TermHeld.Term} → g ≡ Same a b → {x : Answer Facts} → Answers ws next x (bodyFacts ks inner (left - 1) n (drop next ws) k) → Answers ws at x (bodyFacts ks inner left n (drop at ws) k)
       unfolding bodyFacts keeping bodyFrom openingOf factsOf hasPolarity guardsHave openExpr drawsClosed guardsClosed
       guards-same {a} {b} d x = earlier (answers-as (followed (ap openingOf d) ∙ kept-give (bodyFactsOf ks) (same (termOf a) (termOf b)) (body inner (left - 1) n (drop next ws) k)) x)
 
-      pub guards-different : {a b : TermHeld.Term} → g ≡ Different a b → {x : Answer Facts} → Answers ws next x (bodyFacts ks inner (left - 1) n (drop next ws) k) → Answers ws at x (bodyFacts ks inner left n (drop at ws) k)
+      guards-different : {a b : TermHeld.Term} → g ≡ Different a b → {x : Answer Facts} → Answers ws next x (bodyFacts ks inner (left - 1) n (drop next ws) k) → Answers ws at x (bodyFacts ks inner left n (drop at ws) k)
       unfolding bodyFacts keeping bodyFrom openingOf factsOf hasPolarity guardsHave openExpr drawsClosed guardsClosed
       guards-different {a} {b} d x = earlier (answers-as (followed (ap openingOf d) ∙ kept-give (bodyFactsOf ks) (different (termOf a) (termOf b)) (body inner (left - 1) n (drop next ws) k)) x)
+
+      -- whichever of the two it is, as the `match` on it tells
+      pub guards-compared : (tagOf the-type g ≡ 1) ⊎ (tagOf the-type g ≡ 2) → {x : Answer Facts} → Answers ws next x (bodyFacts ks inner (left - 1) n (drop next ws) k) →
+          Answers ws at x (bodyFacts ks inner left n (drop at ws) k)
+      guards-compared t = go g refl t
+        where
+          go : (h : GuardHeld.Guard) → g ≡ h → (tagOf the-type h ≡ 1) ⊎ (tagOf the-type h ≡ 2) → {x : Answer Facts} → Answers ws next x (bodyFacts ks inner (left - 1) n (drop next ws) k) →
+              Answers ws at x (bodyFacts ks inner left n (drop at ws) k)
+          go Draw e (inl p) = absurd (omega (arith, p))
+          go Draw e (inr p) = absurd (omega (arith, p))
+          go (Same a b) e t = guards-same e
+          go (Different a b) e t = guards-different e
+          go Absent e (inl p) = absurd (omega (arith, p))
+          go Absent e (inr p) = absurd (omega (arith, p))
 
 pub pattern-found : {ws : List ℕ} {at c next : ℕ} {m : Reader ℕ} {r : PatternRead.PatternRead} → Follows ws at (patternIs r) m → r ≡ patternRead.Found c next → Got ws at m c next
 unfolding patternIs

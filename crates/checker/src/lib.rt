@@ -328,16 +328,7 @@ fn check_guards(
         GuardRead::Refused(n) => Checking::Refused(n),
         GuardRead::Found(guard, next) => match guard {
             Guard::Draw => check_draw(words, next, levels, variables, draws, earlier, left - 1),
-            Guard::Same(_, _) => check_guards(
-                words,
-                next,
-                levels,
-                variables,
-                draws,
-                earlier,
-                left - 1,
-            ),
-            Guard::Different(_, _) => check_guards(
+            Guard::Same(_, _) | Guard::Different(_, _) => check_guards(
                 words,
                 next,
                 levels,

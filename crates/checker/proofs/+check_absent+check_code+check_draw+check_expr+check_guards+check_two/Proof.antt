@@ -7,7 +7,7 @@ use Rattle.terms.proofs.Answering.{word-found, word-bounds}
 use Rattle.terms.proofs.TermAnswers.{guard-found}
 use Rattle.terms.proofs.RowAnswers.{passed-found}
 use Rattle.checker.proofs.CheckAnswers.{checked}
-use Rattle.checker.proofs.CycleAnswers.{expr-uncoded, expr-deep, expr-coded, leaf-answers, leaf-answers-of, comprehension-uncounted, comprehension-counted, two-first, two-second, union-found, difference-found, head-answers, guards-unopened, guards-draw, guards-same, guards-different, guards-absent, pattern-found, draw-ninth, draw-unread, draw-unmatched, draw-rest, draw-found, absent-unread, absent-set, absent-rest, absent-found}
+use Rattle.checker.proofs.CycleAnswers.{expr-uncoded, expr-deep, expr-coded, leaf-answers, leaf-answers-of, comprehension-uncounted, comprehension-counted, two-first, two-second, union-found, difference-found, head-answers, guards-unopened, guards-draw, guards-compared, guards-absent, pattern-found, draw-ninth, draw-unread, draw-unmatched, draw-rest, draw-found, absent-unread, absent-set, absent-rest, absent-found}
 use borrow.Author.Needs.{needs}
 use Prim.Native.Nat.{ℕ, _<_, _+_, _*_, _-_}
 use lib.ListN.{length}
@@ -333,26 +333,14 @@ check-guards-sub-check-draw t c = search needs
 check-guards-check-draw-requires : (t : ℕ) → check-guards-lts.Need-check-draw-requires (check-guards-claims t) (check-guards-at t) check-guards.Post
 check-guards-check-draw-requires t c κs = (omega (arith, c .before .before .before .before .before .before .before .before .pre .0, guard-found (c .before .before .before .before .before .read-guard .ensures) (c .before .before .before .guard .given .1) .onward, guard-found (c .before .before .before .before .before .read-guard .ensures) (c .before .before .before .guard .given .1) .within), c .before .before .before .before .before .before .before .before .pre .1)
 
-check-guards-enum-told-2 : (t : ℕ) → check-guards-lts.Need-enum-told-2 (check-guards-claims t) (check-guards-at t) check-guards.Post
-check-guards-enum-told-2 t c = search needs
-
 check-guards-sub-check-guards : (t : ℕ) → check-guards-lts.Need-sub-check-guards (check-guards-claims t) (check-guards-at t) check-guards.Post
 check-guards-sub-check-guards t c = search needs
 
 check-guards-check-guards-requires : (t : ℕ) → check-guards-lts.Need-check-guards-requires (check-guards-claims t) (check-guards-at t) check-guards.Post
-check-guards-check-guards-requires t c κs = (omega (arith, c .before .before .before .before .before .before .before .before .pre .0, guard-found (c .before .before .before .before .before .read-guard .ensures) (c .before .before .before .guard .given .1) .onward, guard-found (c .before .before .before .before .before .read-guard .ensures) (c .before .before .before .guard .given .1) .within), c .before .before .before .before .before .before .before .before .pre .1)
+check-guards-check-guards-requires t c κs = (omega (arith, c .before .before .before .before .before .before .before .pre .0, guard-found (c .before .before .before .before .read-guard .ensures) (c .before .before .guard .given .1) .onward, guard-found (c .before .before .before .before .read-guard .ensures) (c .before .before .guard .given .1) .within), c .before .before .before .before .before .before .before .pre .1)
 
-check-guards-enum-told-3 : (t : ℕ) → check-guards-lts.Need-enum-told-3 (check-guards-claims t) (check-guards-at t) check-guards.Post
-check-guards-enum-told-3 t c = search needs
-
-check-guards-sub-check-guards-2 : (t : ℕ) → check-guards-lts.Need-sub-check-guards-2 (check-guards-claims t) (check-guards-at t) check-guards.Post
-check-guards-sub-check-guards-2 t c = search needs
-
-check-guards-check-guards-requires-2 : (t : ℕ) → check-guards-lts.Need-check-guards-requires-2 (check-guards-claims t) (check-guards-at t) check-guards.Post
-check-guards-check-guards-requires-2 t c κs = (omega (arith, c .before .before .before .before .before .before .before .before .pre .0, guard-found (c .before .before .before .before .before .read-guard .ensures) (c .before .before .before .guard .given .1) .onward, guard-found (c .before .before .before .before .before .read-guard .ensures) (c .before .before .before .guard .given .1) .within), c .before .before .before .before .before .before .before .before .pre .1)
-
-check-guards-enum-told-4 : (t : ℕ) → check-guards-lts.Need-enum-told-4 (check-guards-claims t) (check-guards-at t) check-guards.Post
-check-guards-enum-told-4 t c = search needs
+check-guards-enum-told-2 : (t : ℕ) → check-guards-lts.Need-enum-told-2 (check-guards-claims t) (check-guards-at t) check-guards.Post
+check-guards-enum-told-2 t c = search needs
 
 check-guards-sub-check-absent : (t : ℕ) → check-guards-lts.Need-sub-check-absent (check-guards-claims t) (check-guards-at t) check-guards.Post
 check-guards-sub-check-absent t c = search needs
@@ -367,13 +355,10 @@ check-guards-returns-3 : (t : ℕ) → check-guards-lts.Need-returns-3 (check-gu
 check-guards-returns-3 t c = let a = c .before .before .before .before .before .before .before .before .before .args in guards-draw (a .words .now) (a .at) (a .variables) (a .draws) (knownIn (a .earlier)) (inside (knownIn (a .earlier)) (a .levels)) (a .left) (c .before .before .before .before .before .before .before .if1 .left) (c .before .before .before .before .before .before .read-guard .ensures) (c .before .before .before .before .guard .given .1) (c .before .enum-told .given .1) (c .check-draw .ensures)
 
 check-guards-returns-4 : (t : ℕ) → check-guards-lts.Need-returns-4 (check-guards-claims t) (check-guards-at t) check-guards.Post
-check-guards-returns-4 t c = let a = c .before .before .before .before .before .before .before .before .before .args in guards-same (a .words .now) (a .at) (a .variables) (a .draws) (knownIn (a .earlier)) (inside (knownIn (a .earlier)) (a .levels)) (a .left) (c .before .before .before .before .before .before .before .if1 .left) (c .before .before .before .before .before .before .read-guard .ensures) (c .before .before .before .before .guard .given .1) (c .before .enum-told2 .given .1) (c .check-guards .ensures)
+check-guards-returns-4 t c = let a = c .before .before .before .before .before .before .before .before .args in guards-compared (a .words .now) (a .at) (a .variables) (a .draws) (knownIn (a .earlier)) (inside (knownIn (a .earlier)) (a .levels)) (a .left) (c .before .before .before .before .before .before .if1 .left) (c .before .before .before .before .before .read-guard .ensures) (c .before .before .before .guard .given .1) (c .before .match2 .keys2) (c .check-guards .ensures)
 
 check-guards-returns-5 : (t : ℕ) → check-guards-lts.Need-returns-5 (check-guards-claims t) (check-guards-at t) check-guards.Post
-check-guards-returns-5 t c = let a = c .before .before .before .before .before .before .before .before .before .args in guards-different (a .words .now) (a .at) (a .variables) (a .draws) (knownIn (a .earlier)) (inside (knownIn (a .earlier)) (a .levels)) (a .left) (c .before .before .before .before .before .before .before .if1 .left) (c .before .before .before .before .before .before .read-guard .ensures) (c .before .before .before .before .guard .given .1) (c .before .enum-told3 .given .1) (c .check-guards2 .ensures)
-
-check-guards-returns-6 : (t : ℕ) → check-guards-lts.Need-returns-6 (check-guards-claims t) (check-guards-at t) check-guards.Post
-check-guards-returns-6 t c = let a = c .before .before .before .before .before .before .before .before .before .args in guards-absent (a .words .now) (a .at) (a .variables) (a .draws) (knownIn (a .earlier)) (inside (knownIn (a .earlier)) (a .levels)) (a .left) (c .before .before .before .before .before .before .before .if1 .left) (c .before .before .before .before .before .before .read-guard .ensures) (c .before .before .before .before .guard .given .1) (c .before .enum-told4 .given .1) (c .check-absent .ensures)
+check-guards-returns-5 t c = let a = c .before .before .before .before .before .before .before .before .before .args in guards-absent (a .words .now) (a .at) (a .variables) (a .draws) (knownIn (a .earlier)) (inside (knownIn (a .earlier)) (a .levels)) (a .left) (c .before .before .before .before .before .before .before .if1 .left) (c .before .before .before .before .before .before .read-guard .ensures) (c .before .before .before .before .guard .given .1) (c .before .enum-told2 .given .1) (c .check-absent .ensures)
 
 check-two-check-expr-requires : (t : ℕ) → check-two-lts.Need-check-expr-requires (check-two-claims t) (check-two-at t) check-two.Post
 check-two-check-expr-requires t c κs = search needs
@@ -498,20 +483,15 @@ pub +check-absent+check-code+check-draw+check-expr+check-guards+check-two-spec :
     (check-guards-enum-told t)
     (check-guards-sub-check-draw t)
     (check-guards-check-draw-requires t)
-    (check-guards-enum-told-2 t)
     (check-guards-sub-check-guards t)
     (check-guards-check-guards-requires t)
-    (check-guards-enum-told-3 t)
-    (check-guards-sub-check-guards-2 t)
-    (check-guards-check-guards-requires-2 t)
-    (check-guards-enum-told-4 t)
+    (check-guards-enum-told-2 t)
     (check-guards-sub-check-absent t)
     (check-guards-check-absent-requires t)
     (check-guards-returns-2 t)
     (check-guards-returns-3 t)
     (check-guards-returns-4 t)
-    (check-guards-returns-5 t)
-    (check-guards-returns-6 t))
+    (check-guards-returns-5 t))
     λ t. check-two-lts.spec (check-two-claims t)
     (check-two-at t)
     check-two.Post
