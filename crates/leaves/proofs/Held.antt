@@ -1,15 +1,18 @@
 -- The term, slot or guard that the code holds is the one that stands in the words.
 use Prim.Native.Nat.{ℕ, _+_, _≤_, _<_}
 use mathlib.Core.Path.{_≡_, refl, sym, ap, subst, _∙_}
+use mathlib.Core.Logic.{_⊎_, inl, inr}
+use mathlib.Core.Bool.{false, not}
 use mathlib.Core.List.{List, [], _∷_, _++_}
 use native.Mathlib.Omega.{arith}
 use native.Mathlib.Numerals.{add-one}
+use lib.Dec.{eqb}
 use lib.ListN.{length, take, getD, set, length-take, List·getD-eq-default}
 use lib.Seq.{getD-take, take-suc-set}
 use Rattle.policy.specs.Syntax.{Term, atom, var, Slot, old, new, Body, head, draw, same, different, absent}
 use Rattle.policy.specs.Words.{termWords, slotWords, guardCount, exprWords, bodyWords}
 use Rattle.meaning.specs.Values.{Values, value}
-use Rattle.leaves.specs.Values.{valuesOf, termOf, termHeld, slotHeld, guardHeld}
+use Rattle.leaves.specs.Values.{valuesOf, termOf, termHeld, slotHeld, guardHeld, passing}
 use Rattle.leaves.specs.Places.{At, SomeGuard, IsTerm, IsSlot, IsGuard}
 use Rattle.leaves.proofs.Places.{at-word, at-next, at-front, at-long, body-some, two-terms}
 use Rattle.leaves.specs.declared.values.Env.{Env}
@@ -19,6 +22,8 @@ use Rattle.leaves.specs.declared.values.Slot as Held-slot
 use Rattle.leaves.specs.declared.values.Slot.the-variants.{Old, New}
 use Rattle.leaves.specs.declared.values.Guard as Held-guard
 use Rattle.leaves.specs.declared.values.Guard.the-variants.{Draw, Same, Different, Absent}
+use Rattle.leaves.proofs.values.Guard.{the-type}
+use denote.Enum.Declared.{tagOf}
 
 -- ---- values
 
@@ -46,6 +51,25 @@ term-back (var i) = refl
 -- the value of a term is that of the term held
 pub held-value : (vs : Values) {x : Held-term.Term} (t : Term) → x ≡ termHeld t → value vs (termOf x) ≡ value vs t
 held-value vs t h = ap (λ (y : Held-term.Term). value vs (termOf y)) h ∙ ap (value vs) (term-back t)
+
+-- whether a comparison passes, from the two atoms
+module _ (vs : Values) {x y : Held-term.Term} {a b : ℕ} (first : a ≡ value vs (termOf x)) (second : b ≡ value vs (termOf y)) {g : Held-guard.Guard} where
+  pub same-passes : g ≡ Same x y → eqb a b ≡ passing vs g
+  unfolding passing
+  same-passes e = rw (first, second, e) refl
+
+  pub different-passes : g ≡ Different x y → not (eqb a b) ≡ passing vs g
+  unfolding passing
+  different-passes e = rw (first, second, e) refl
+
+pub none-passes : (vs : Values) (g : Held-guard.Guard) → (tagOf the-type g ≡ 0) ⊎ (tagOf the-type g ≡ 3) → false ≡ passing vs g
+unfolding passing
+none-passes vs Draw t = refl
+none-passes vs (Same x y) (inl e) = absurd (omega (arith, e))
+none-passes vs (Same x y) (inr e) = absurd (omega (arith, e))
+none-passes vs (Different x y) (inl e) = absurd (omega (arith, e))
+none-passes vs (Different x y) (inr e) = absurd (omega (arith, e))
+none-passes vs Absent t = refl
 
 -- ---- terms, slots and guards
 

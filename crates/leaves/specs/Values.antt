@@ -1,7 +1,9 @@
 -- What the values that the code hands about stand for.
+use mathlib.Core.Bool.{Bool, false, not}
+use lib.Dec.{eqb}
 use lib.ListN.{take}
 use Rattle.policy.specs.Syntax.{Term, atom, var, Slot, old, new, Body, head, draw, same, different, absent}
-use Rattle.meaning.specs.Values.{Values}
+use Rattle.meaning.specs.Values.{Values, value}
 use Rattle.leaves.specs.declared.values.Env.{Env}
 use Rattle.leaves.specs.declared.values.Term as Held-term
 use Rattle.leaves.specs.declared.values.Term.the-variants.{Atom, Variable}
@@ -35,3 +37,10 @@ guardHeld (draw e p b) = Draw
 guardHeld (same x y b) = Same (termHeld x) (termHeld y)
 guardHeld (different x y b) = Different (termHeld x) (termHeld y)
 guardHeld (absent r e b) = Absent
+
+-- whether a comparison passes: "same and different, if the two atoms are equal or differ". The others compare nothing; of them it says no.
+unfoldable pub passing : Values → Held-guard.Guard → Bool
+passing vs Draw = false
+passing vs (Same x y) = eqb (value vs (termOf x)) (value vs (termOf y))
+passing vs (Different x y) = not (eqb (value vs (termOf x)) (value vs (termOf y)))
+passing vs Absent = false

@@ -4,7 +4,7 @@ ghost use mathlib.Core.List.{[], _∷_, _++_};
 ghost use Prim.Native.Nat.{_+_, _≤_, _<_};
 ghost use lib.ListN.{length};
 ghost use Rattle.meaning.specs.Values.{value};
-ghost use Rattle.leaves.specs.Values.{valuesOf, termOf};
+ghost use Rattle.leaves.specs.Values.{valuesOf, termOf, passing};
 ghost use Rattle.leaves.specs.Places.{IsTerm, IsSlot, IsGuard, SomeGuard};
 
 // The values of the variables in scope, variable 0 first.
@@ -119,6 +119,18 @@ pub fn value_of(env: Env, term: Term) -> u32
                 0
             }
         }
+    }
+}
+
+// Whether a comparison passes: the two atoms are equal, or differ. A draw and an absent guard compare nothing; of them it says no.
+pub fn passes(env: Env, guard: Guard) -> bool
+    requires { ⌜ env .count ≤ 16 ⌝ }
+    ensures { λ r. ⌜ r ≡ passing (valuesOf env) guard ⌝ }
+{
+    match guard {
+        Guard::Same(x, y) => value_of(env, x) == value_of(env, y),
+        Guard::Different(x, y) => value_of(env, x) != value_of(env, y),
+        Guard::Draw | Guard::Absent => false,
     }
 }
 

@@ -1,12 +1,13 @@
 -- The reader of guards, guard by guard, and that of an absent guard.
 use Prim.Native.Nat.{ℕ, _+_, _-_, _*_, _≤_, _<_}
 use mathlib.Core.Path.{_≡_, refl, sym, ap, subst, _∙_}
-use mathlib.Core.Bool.{Bool, true, false}
+use mathlib.Core.Logic.{_⊎_, inl, inr}
+use mathlib.Core.Bool.{Bool, true, false, not}
 use mathlib.Core.List.{List}
 use native.Mathlib.Omega.{arith}
 use lib.Dec.{eqb}
 use lib.ListN.{length, take, drop, getD}
-use borrow.Author.Tests.{eq-eqb, ne-eqb}
+use denote.Enum.Declared.{tagOf}
 use Rattle.rows.specs.Row.{Row}
 use Rattle.rows.specs.Sets.{has}
 use Rattle.rows.specs.Layout.{rowsIn, setIn}
@@ -18,13 +19,13 @@ use Rattle.meaning.specs.Values.{value, rowOf}
 use Rattle.meaning.specs.Evidence.{namesHeld}
 use Rattle.meaning.specs.Reading.{Answer, done, refused, Reading, after, small, read}
 use Rattle.meaning.proofs.Steps.{either}
-use Rattle.leaves.specs.Values.{valuesOf, termOf}
+use Rattle.leaves.specs.Values.{valuesOf, passing}
 use Rattle.leaves.specs.Places.{Stands, StandsBody, StandsAbsent, SomeRow, SomeName, SomeExpr, SomeGuard, PastRow, PastExpr, IsGuard}
 use Rattle.leaves.specs.Areas.{Filled, Gathering, Kept, roomOf, bodyRoom}
 use Rattle.leaves.specs.Leaves.{rowsAnswer, IfDone, belongsAnswer, SayHead, SayHas, SayBelongs}
 use Rattle.reading.specs.Readers.{From, gathering, Means, AskExpr, AskBody, AskDraw, AskAbsent, AskNamed, SayExpr, SayBody, SayDraw, SayAbsent}
 use Rattle.leaves.proofs.Places.{on-listed, in-listed, on-head, on-draw, on-same, on-different, on-absent, in-head, in-draw, in-same, in-different, in-absent, expr-some, inside, row-length}
-use Rattle.leaves.proofs.Held.{held-value}
+use Rattle.leaves.proofs.Held.{held-value, same-passes, different-passes}
 use Rattle.leaves.proofs.Past.{some-name, name-inside, past-name, operand-here, over-is, over-here}
 use Rattle.sets.proofs.Front.{SameFront, rows-same}
 use Rattle.leaves.proofs.Areas.{gathering-same, kept-self, kept-then, givenBack, back-length, back-part, back-front, back-kept, part-length, part-whole}
@@ -34,7 +35,9 @@ use Rattle.leaves.specs.declared.values.Env.{Env}
 use Rattle.leaves.specs.declared.values.Read.{Read}
 use Rattle.leaves.specs.declared.values.Read.the-variants.{Done, Refused}
 use Rattle.leaves.specs.declared.values.Term as Held-term
+use Rattle.leaves.specs.declared.values.Guard as Held-guard
 use Rattle.leaves.specs.declared.values.Guard.the-variants.{Draw, Same, Different, Absent}
+use Rattle.leaves.proofs.values.Guard.{the-type}
 
 -- ---- a step that is one of two
 
@@ -45,6 +48,58 @@ first-of false m n k a e h = never e refl
 second-of : (b : Bool) (m n : Reading (List Row)) (k : ℕ) (a : Answer (List Row)) → b ≡ false → n k ≡ a → either b m n k ≡ a
 second-of true m n k a e h = never refl e
 second-of false m n k a e h = h
+
+-- the same step by the test turned round
+turned : (b : Bool) (m n : Reading (List Row)) (k : ℕ) → either b n m k ≡ either (not b) m n k
+turned true m n k = refl
+turned false m n k = refl
+
+-- ---- a comparison
+
+-- the guard is one of the two comparisons, as the `match` on it tells
+abbrev pub Compares : Held-guard.Guard → Type 0
+Compares g = (tagOf the-type g ≡ 1) ⊎ (tagOf the-type g ≡ 2)
+
+-- the guards after a comparison, and what is gathered: it goes by whether the comparison passes
+record Compared (f : From) (ws : List ℕ) (at left : ℕ) (env : Env) (g : Held-guard.Guard) (b : Body) : Type 0 where
+  pub rest : Body
+  pub here : StandsBody (f .known) (env .count) ws (at + 5) (left - 1) rest
+  pub room : bodyRoom rest ≡ bodyRoom b
+  pub gathers : (found : List Row) (k : ℕ) → gathering f b (valuesOf env) found k ≡ either (passing (valuesOf env) g) (gathering f rest (valuesOf env) found) (λ j. done found j) k
+
+module _ (f : From) {ws : List ℕ} {at left : ℕ} (env : Env) (z : left ≡ 0 → ⊥) where
+  compared-same : {x y : Held-term.Term} → IsGuard ws at (Same x y) → {b : Body} → StandsBody (f .known) (env .count) ws at left b → Compared f ws at left env (Same x y) b
+  unfolding read roomOf
+  compared-same {x} {y} i s =
+      on-same (λ c. StandsBody (f .known) (env .count) ws at left c → Compared f ws at left env (Same x y) c) s z x y i
+      (λ u v c d h t. record {
+        rest = c;
+        here = in-same t;
+        room = refl;
+        gathers = λ found k.
+            ap (λ (o : Bool). either o (gathering f c (valuesOf env) found) (λ j. done found j) k) (same-passes (valuesOf env) (sym (held-value (valuesOf env) u d)) (sym (held-value (valuesOf env) v h)) refl);
+      }) s
+
+  compared-different : {x y : Held-term.Term} → IsGuard ws at (Different x y) → {b : Body} → StandsBody (f .known) (env .count) ws at left b → Compared f ws at left env (Different x y) b
+  unfolding read roomOf
+  compared-different {x} {y} i s =
+      on-different (λ c. StandsBody (f .known) (env .count) ws at left c → Compared f ws at left env (Different x y) c) s z x y i
+      (λ u v c d h t. record {
+        rest = c;
+        here = in-different t;
+        room = refl;
+        gathers = λ found k.
+            turned (eqb (value (valuesOf env) u) (value (valuesOf env) v)) (gathering f c (valuesOf env) found) (λ j. done found j) k
+            ∙ ap (λ (o : Bool). either o (gathering f c (valuesOf env) found) (λ j. done found j) k) (different-passes (valuesOf env) (sym (held-value (valuesOf env) u d)) (sym (held-value (valuesOf env) v h)) refl);
+      }) s
+
+  compared : {g : Held-guard.Guard} → Compares g → IsGuard ws at g → {b : Body} → StandsBody (f .known) (env .count) ws at left b → Compared f ws at left env g b
+  compared {g = Draw} (inl e) i s = absurd (omega (arith, e))
+  compared {g = Draw} (inr e) i s = absurd (omega (arith, e))
+  compared {g = Same x y} t i s = compared-same i s
+  compared {g = Different x y} t i s = compared-different i s
+  compared {g = Absent} (inl e) i s = absurd (omega (arith, e))
+  compared {g = Absent} (inr e) i s = absurd (omega (arith, e))
 
 -- ---- what the callees are asked
 
@@ -71,17 +126,12 @@ module _ {f : From} {ws : List ℕ} {at left : ℕ} {env : Env} {area : List ℕ
         on-absent (λ b. StandsBody (f .known) (env .count) ws at left b → free + 642 * bodyRoom b ≤ length area → AskAbsent f ws (at + 1) (left - 1) env area free) (q .here) z i
         (λ r e b s h. record { ask = q .ask; r = r; e = e; b = b; here = in-absent s; room = omega arith; rest = omega arith }) (q .here) (q .room)
 
-    pub ask-same : (x y : Held-term.Term) → IsGuard ws at (Same x y) → AskBody f ws (at + 5) (left - 1) env area free
-    unfolding roomOf
-    ask-same x y i =
-        on-same (λ b. StandsBody (f .known) (env .count) ws at left b → free + 642 * bodyRoom b ≤ length area → AskBody f ws (at + 5) (left - 1) env area free) (q .here) z x y i
-        (λ u v b d e s r. record { ask = q .ask; b = b; here = in-same s; room = r }) (q .here) (q .room)
-
-    pub ask-different : (x y : Held-term.Term) → IsGuard ws at (Different x y) → AskBody f ws (at + 5) (left - 1) env area free
-    unfolding roomOf
-    ask-different x y i =
-        on-different (λ b. StandsBody (f .known) (env .count) ws at left b → free + 642 * bodyRoom b ≤ length area → AskBody f ws (at + 5) (left - 1) env area free) (q .here) z x y i
-        (λ u v b d e s r. record { ask = q .ask; b = b; here = in-different s; room = r }) (q .here) (q .room)
+    pub ask-compared : {g : Held-guard.Guard} → Compares g → IsGuard ws at g → AskBody f ws (at + 5) (left - 1) env area free
+    ask-compared t i =
+        let c = compared f env z t i (q .here) in
+        let e = c .room in
+        let r = q .room in
+        record { ask = q .ask; b = c .rest; here = c .here; room = omega arith }
 
 -- ---- what is said, guard by guard
 
@@ -118,64 +168,32 @@ module _ {f : From} {ws : List ℕ} {at left : ℕ} {env : Env} {k free : ℕ} {
       };
     }
 
-    module _ {x y : Held-term.Term} where
-      pub say-same : IsGuard ws at (Same x y) → value (valuesOf env) (termOf x) ≡ value (valuesOf env) (termOf y) → SayBody f ws (at + 5) (left - 1) env k free entry r area → SayBody f ws at left env k free entry r area
-      unfolding read
-      say-same i e g = record {
-        gathering = g .gathering;
-        kept = g .kept;
-        means = record {
-          says = λ b s.
-              on-same (λ c. StandsBody (f .known) (env .count) ws at left c → gathering f c (valuesOf env) (rowsIn entry) k ≡ rowsAnswer r area) s z x y i
-              (λ u v c d h t.
-              let same-values : value (valuesOf env) u ≡ value (valuesOf env) v = sym (held-value (valuesOf env) u d) ∙ e ∙ held-value (valuesOf env) v h in
-              first-of (eqb (value (valuesOf env) u) (value (valuesOf env) v)) (gathering f c (valuesOf env) (rowsIn entry)) (λ j. done (rowsIn entry) j) k (rowsAnswer r area) (eq-eqb _ _ same-values) (g .means .says c (in-same t))) s;
-        };
-      }
+    pub say-passes : {g : Held-guard.Guard} → Compares g → IsGuard ws at g → passing (valuesOf env) g ≡ true → SayBody f ws (at + 5) (left - 1) env k free entry r area → SayBody f ws at left env k free entry r area
+    say-passes {g} t i e s = record {
+      gathering = s .gathering;
+      kept = s .kept;
+      means = record {
+        says = λ b h.
+            let c = compared f env z t i h in
+            c .gathers (rowsIn entry) k
+            ∙ first-of (passing (valuesOf env) g) (gathering f (c .rest) (valuesOf env) (rowsIn entry)) (λ j. done (rowsIn entry) j) k (rowsAnswer r area) e (s .means .says (c .rest) (c .here));
+      };
+    }
 
-      pub say-different : IsGuard ws at (Different x y) → (value (valuesOf env) (termOf x) ≡ value (valuesOf env) (termOf y) → ⊥) → SayBody f ws (at + 5) (left - 1) env k free entry r area → SayBody f ws at left env k free entry r area
-      unfolding read
-      say-different i e g = record {
-        gathering = g .gathering;
-        kept = g .kept;
-        means = record {
-          says = λ b s.
-              on-different (λ c. StandsBody (f .known) (env .count) ws at left c → gathering f c (valuesOf env) (rowsIn entry) k ≡ rowsAnswer r area) s z x y i
-              (λ u v c d h t.
-              let differ : (value (valuesOf env) u ≡ value (valuesOf env) v → ⊥) = λ w. e (held-value (valuesOf env) u d ∙ w ∙ sym (held-value (valuesOf env) v h)) in
-              second-of (eqb (value (valuesOf env) u) (value (valuesOf env) v)) (λ j. done (rowsIn entry) j) (gathering f c (valuesOf env) (rowsIn entry)) k (rowsAnswer r area) (ne-eqb _ _ differ) (g .means .says c (in-different t))) s;
-        };
-      }
-
--- a test that fails: the rows found so far are left as they are
-module _ {f : From} {ws : List ℕ} {at left : ℕ} {env : Env} {k free : ℕ} {area : List ℕ} (z : left ≡ 0 → ⊥) (g : Gathering area) {x y : Held-term.Term} where
-  pub same-fails : IsGuard ws at (Same x y) → (value (valuesOf env) (termOf x) ≡ value (valuesOf env) (termOf y) → ⊥) → SayBody f ws at left env k free area (Done k) area
-  unfolding read IfDone rowsAnswer
-  same-fails i e = record {
-    gathering = g;
-    kept = kept-self;
-    means = record {
-      says = λ b s.
-          on-same (λ c. StandsBody (f .known) (env .count) ws at left c → gathering f c (valuesOf env) (rowsIn area) k ≡ done (rowsIn area) k) s z x y i
-          (λ u v c d h t.
-          let differ : (value (valuesOf env) u ≡ value (valuesOf env) v → ⊥) = λ w. e (held-value (valuesOf env) u d ∙ w ∙ sym (held-value (valuesOf env) v h)) in
-          second-of (eqb (value (valuesOf env) u) (value (valuesOf env) v)) (gathering f c (valuesOf env) (rowsIn area)) (λ j. done (rowsIn area) j) k (done (rowsIn area) k) (ne-eqb _ _ differ) refl) s;
-    };
-  }
-
-  pub different-fails : IsGuard ws at (Different x y) → value (valuesOf env) (termOf x) ≡ value (valuesOf env) (termOf y) → SayBody f ws at left env k free area (Done k) area
-  unfolding read IfDone rowsAnswer
-  different-fails i e = record {
-    gathering = g;
-    kept = kept-self;
-    means = record {
-      says = λ b s.
-          on-different (λ c. StandsBody (f .known) (env .count) ws at left c → gathering f c (valuesOf env) (rowsIn area) k ≡ done (rowsIn area) k) s z x y i
-          (λ u v c d h t.
-          let same-values : value (valuesOf env) u ≡ value (valuesOf env) v = sym (held-value (valuesOf env) u d) ∙ e ∙ held-value (valuesOf env) v h in
-          first-of (eqb (value (valuesOf env) u) (value (valuesOf env) v)) (λ j. done (rowsIn area) j) (gathering f c (valuesOf env) (rowsIn area)) k (done (rowsIn area) k) (eq-eqb _ _ same-values) refl) s;
-    };
-  }
+-- a comparison that fails: the rows found so far are left as they are
+pub say-fails : {f : From} {ws : List ℕ} {at left : ℕ} {env : Env} {k free : ℕ} {area : List ℕ} → (left ≡ 0 → ⊥) → Gathering area → {g : Held-guard.Guard} → Compares g → IsGuard ws at g → passing (valuesOf env) g ≡ false →
+    SayBody f ws at left env k free area (Done k) area
+unfolding IfDone rowsAnswer
+say-fails {f} {env} {k} {area} z gathered {g} t i e = record {
+  gathering = gathered;
+  kept = kept-self;
+  means = record {
+    says = λ b h.
+        let c = compared f env z t i h in
+        c .gathers (rowsIn area) k
+        ∙ second-of (passing (valuesOf env) g) (gathering f (c .rest) (valuesOf env) (rowsIn area)) (λ j. done (rowsIn area) j) k (done (rowsIn area) k) e refl;
+  };
+}
 
 -- ---- an operand that was read into the area from `free` on, and the area given back
 

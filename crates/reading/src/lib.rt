@@ -17,7 +17,7 @@ use leaves::values::Env;
 use leaves::values::Guard;
 pub use leaves::values::Read;
 use leaves::values::guard_at;
-use leaves::values::value_of;
+use leaves::values::passes;
 use refusals::COMPLEMENT_DRAWN;
 use refusals::TOO_MANY_DRAWS;
 use rows::SET_ROOM;
@@ -136,7 +136,8 @@ fn read_guards(
     if left == 0 {
         return insert_head(words, at, env, draws, area);
     }
-    match guard_at(words, at) {
+    let guard = guard_at(words, at);
+    match guard {
         Guard::Draw => read_draw(
             words,
             at + 1,
@@ -149,29 +150,8 @@ fn read_guards(
             area,
             free,
         ),
-        Guard::Same(x, y) => {
-            let a = value_of(env, x);
-            let b = value_of(env, y);
-            if a == b {
-                return read_guards(
-                    words,
-                    at + 5,
-                    left - 1,
-                    env,
-                    store,
-                    defs,
-                    known,
-                    draws,
-                    area,
-                    free,
-                );
-            }
-            Read::Done(draws)
-        }
-        Guard::Different(x, y) => {
-            let a = value_of(env, x);
-            let b = value_of(env, y);
-            if a != b {
+        Guard::Same(_, _) | Guard::Different(_, _) => {
+            if passes(env, guard) {
                 return read_guards(
                     words,
                     at + 5,

@@ -37,7 +37,7 @@ use Rattle.leaves.proofs.skip.skip_expr.Reads as skip-expr-reads
 use Rattle.leaves.proofs.skip.skip_pattern.Reads as skip-pattern-reads
 use Rattle.leaves.proofs.skip.skip_row.Reads as skip-row-reads
 use Rattle.leaves.proofs.values.guard_at.Reads as guard-at-reads
-use Rattle.leaves.proofs.values.value_of.Reads as value-of-reads
+use Rattle.leaves.proofs.values.passes.Reads as passes-reads
 use Rattle.sets.proofs.row.load.Reads as load-reads
 use Rattle.sets.proofs.row.wide.Reads as wide-reads
 use Rattle.sets.proofs.set.clear.Reads as clear-reads
@@ -146,7 +146,7 @@ read-expr-claims t = (read-rows-reads.Asked, read-rows-reads.Learnt, read-defini
 
 -- what `read_guards` knows of the functions that it calls
 abbrev pub read-guards-claims : ℕ → read-guards-lts.Claims
-read-guards-claims t = (insert-head-reads.Asked, insert-head-reads.Learnt, guard-at-reads.Asked, guard-at-reads.Learnt, read-draw-below t, read-draw.Post, value-of-reads.Asked, value-of-reads.Learnt, read-guards-below t, read-guards.Post, read-absent-below t, read-absent.Post)
+read-guards-claims t = (insert-head-reads.Asked, insert-head-reads.Learnt, guard-at-reads.Asked, guard-at-reads.Learnt, read-draw-below t, read-draw.Post, passes-reads.Asked, passes-reads.Learnt, read-guards-below t, read-guards.Post, read-absent-below t, read-absent.Post)
 
 -- what `read_two` knows of the functions that it calls
 abbrev pub read-two-claims : ℕ → read-two-lts.Claims
