@@ -1,6 +1,6 @@
 -- The checker of expressions, way out by way out.
 use Prim.Native.Nat.{ℕ, zero, suc, _+_, _≤_, _<_}
-use mathlib.Core.Path.{_≡_, refl, sym, _∙_, ap}
+use mathlib.Core.Path.{_≡_, refl, sym, _∙_, ap, subst}
 use mathlib.Core.Bool.{Bool, true, false, not}
 use mathlib.Core.List.{List, [], _∷_, _++_}
 use native.Mathlib.Omega.{arith}
@@ -14,7 +14,7 @@ use Rattle.policy.specs.Syntax.{Term, Expr, finite, cofinite, definition, liste
 use Rattle.policy.specs.Decode.{Read, got, refused, Reader, after, give, wordWhere, polarity, issuer, rows, codeOf, exprAs}
 use Rattle.policy.specs.Polarity.{Known, unknown, hasPolarity, openExpr, drawsClosed}
 use Rattle.terms.specs.Answers.{found, stopped, outcome, Onward, Answers, Follows, kept, keeping, nothing, between, wordIs, passedIs}
-use Rattle.checker.specs.Checks.{factsOf, declaredBy, knownAt, knownUpTo, knownIn, checkingIs, noneInside, codeFacts}
+use Rattle.checker.specs.Checks.{factsOf, termFacts, declaredBy, knownAt, knownUpTo, knownIn, checkingIs, noneInside, codeFacts}
 use Rattle.checker.specs.declared.Facts.{Facts}
 use Rattle.checker.specs.declared.Earlier.{Earlier}
 use Rattle.checker.specs.declared.Checking.{Checking}
@@ -88,7 +88,7 @@ facts-same p q r s = cc
 
 -- codes 1 and 2
 abbrev literalFacts : ℕ → Facts
-literalFacts code = record { plus = true; minus = true; «open» = eqb code 2; «draws_closed» = true }
+literalFacts code = termFacts (eqb code 2)
 
 module _ (ws : List ℕ) (at n k : ℕ) (ks : List Known) where
   -- both codes give a literal of the rows
@@ -102,11 +102,11 @@ module _ (ws : List ℕ) (at n k : ℕ) (ks : List Known) where
   literal (suc (suc (suc c))) l h y g = absurd (omega arith)
 
   module _ (code : ℕ) (low : 1 ≤ code) (high : code ≤ 2) {r : Passed.Passed} (f : Follows ws at (passedIs r) (keeping nothing (rows n))) where
-    pub literal-found : {next : ℕ} → r ≡ passed.To next → Answers ws at (checkingIs (checking.Found (literalFacts code) next k)) (codeFacts ks noneInside n code (drop at ws) k)
+    pub literal-found : {next : ℕ} {x : Facts} → r ≡ passed.To next → x ≡ literalFacts code → Answers ws at (checkingIs (checking.Found x next k)) (codeFacts ks noneInside n code (drop at ws) k)
     unfolding keeping kept
-    literal-found {next} e =
+    literal-found {next} e facts =
         let g = passed-found f e in
-        shows (literal code low high (got (literalFacts code) (drop next ws) k) (λ h s. kept-then nothing (factsOf ks) (rows n (drop at ws) k) _ (g .reads k) (λ rs t. ap (λ x. got x (drop next ws) k) (s rs)))) (g .onward) (g .within)
+        subst (λ (x : Facts). Answers ws at (checkingIs (checking.Found x next k)) (codeFacts ks noneInside n code (drop at ws) k)) (sym facts) (shows (literal code low high (got (literalFacts code) (drop next ws) k) (λ h s. kept-then nothing (factsOf ks) (rows n (drop at ws) k) _ (g .reads k) (λ rs t. ap (λ x. got x (drop next ws) k) (s rs)))) (g .onward) (g .within))
 
     pub literal-refused : {m : ℕ} → r ≡ passed.Refused m → Answers ws at (checkingIs (checking.Refused m)) (codeFacts ks noneInside n code (drop at ws) k)
     unfolding keeping

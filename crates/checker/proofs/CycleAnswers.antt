@@ -1,6 +1,6 @@
 -- The checker's cycle: an expression and the guards of a comprehension, way out by way out.
 use Prim.Native.Nat.{ℕ, zero, suc, _+_, _-_, _≤_, _<_}
-use mathlib.Core.Path.{_≡_, refl, sym, _∙_, ap}
+use mathlib.Core.Path.{_≡_, refl, sym, _∙_, ap, subst}
 use mathlib.Core.Logic.{_⊎_, inl, inr}
 use mathlib.Core.Bool.{true, false}
 use mathlib.Core.List.{List, [], _∷_}
@@ -14,7 +14,7 @@ use Rattle.policy.specs.Syntax.{Term, Expr, union, difference, comprehension, B
 use Rattle.policy.specs.Decode.{Read, got, refused, Reader, after, give, wordWhere, countDraw, term, width, row, Pattern, slots, isDraw, isAbsent, guardOf, guardAs, body, codeOf, isCode, exprAs, expr}
 use Rattle.policy.specs.Polarity.{Known, hasPolarity, guardsHave, openExpr, drawsClosed, guardsClosed}
 use Rattle.terms.specs.Answers.{Answer, found, stopped, Onward, Answers, Follows, kept, keeping, nothing, between, wordIs, termOf, passedIs, pattern, scope, patternIs, Opening, drawOpens, absentOpens, sameOpens, differentOpens, openingFor, opening, openingOf, openingIs}
-use Rattle.checker.specs.Checks.{factsOf, unionOf, differenceOf, drawOf, absentOf, checkingIs, inside, noneInside, exprFacts, codeFacts, bodyFacts, guardFacts}
+use Rattle.checker.specs.Checks.{factsOf, termFacts, unionOf, differenceOf, drawOf, absentOf, checkingIs, inside, noneInside, exprFacts, codeFacts, bodyFacts, guardFacts}
 use Rattle.checker.specs.declared.Facts.{Facts}
 use Rattle.checker.specs.declared.Checking.{Checking}
 use Rattle.checker.specs.declared.Checking.the-variants as checking
@@ -203,9 +203,6 @@ body-opening inner c n (suc (suc (suc (suc (suc w)))) ∷ us) k = refl
 abbrev bodyFactsOf : List Known → Body → Facts
 bodyFactsOf ks b = factsOf ks (comprehension b)
 
-abbrev headFacts : Facts
-headFacts = record { plus = true; minus = true; «open» = false; «draws_closed» = true }
-
 module _ (ws : List ℕ) (at n k : ℕ) (ks : List Known) where
   pub head-answers : (inner : ℕ → Reader Expr) (left : ℕ) → left ≡ 0 → {x : Answer Facts} → Answers ws at x (bodyFacts ks noneInside 0 n (drop at ws) k) → Answers ws at x (bodyFacts ks inner left n (drop at ws) k)
   unfolding bodyFacts keeping body
@@ -217,11 +214,12 @@ module _ (ws : List ℕ) (at n k : ℕ) (ks : List Known) where
     unfolding bodyFacts keeping body
     head-refused e = refuses (kept-stops nothing (bodyFactsOf ks) (row n (drop at ws) k) _ (passed-lost f e .reads k))
 
-    pub head-found : {next : ℕ} → r ≡ passed.To next → Answers ws at (checkingIs (checking.Found headFacts next k)) (bodyFacts ks noneInside 0 n (drop at ws) k)
+    pub head-found : {next : ℕ} {x : Facts} → r ≡ passed.To next → x ≡ termFacts false → Answers ws at (checkingIs (checking.Found x next k)) (bodyFacts ks noneInside 0 n (drop at ws) k)
     unfolding bodyFacts keeping kept body factsOf hasPolarity guardsHave openExpr drawsClosed guardsClosed
-    head-found e =
+    head-found {next} e facts =
         let g = passed-found f e in
-        shows (kept-then nothing (bodyFactsOf ks) (row n (drop at ws) k) _ (g .reads k) (λ r p. refl)) (g .onward) (g .within)
+        subst (λ (x : Facts). Answers ws at (checkingIs (checking.Found x next k)) (bodyFacts ks noneInside 0 n (drop at ws) k)) (sym facts)
+        (shows (kept-then nothing (bodyFactsOf ks) (row n (drop at ws) k) _ (g .reads k) (λ r p. refl)) (g .onward) (g .within))
 
 -- so many guards are left, and the first opens
 module _ (ws : List ℕ) (at n k : ℕ) (ks : List Known) (inner : ℕ → Reader Expr) (left : ℕ) (some : left ≡ 0 → ⊥) where

@@ -21,6 +21,10 @@ unfoldable pub factsOf : List Known → Expr → Facts
 unfolding hasPolarity openExpr drawsClosed
 factsOf ks e = record { plus = hasPolarity e ks plus; minus = hasPolarity e ks minus; «open» = openExpr e ks; «draws_closed» = drawsClosed e ks }
 
+-- of rows of terms alone, or of their complement
+abbrev pub termFacts : Bool → Facts
+termFacts complement = record { plus = true; minus = true; «open» = complement; «draws_closed» = true }
+
 -- of an expression, from those of its parts
 unfoldable pub unionOf : Facts → Facts → Facts
 unionOf a b = record { plus = a .plus && b .plus; minus = a .minus && b .minus; «open» = a .«open» || b .«open»; «draws_closed» = a .«draws_closed» && b .«draws_closed» }

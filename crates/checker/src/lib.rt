@@ -8,7 +8,7 @@ ghost use lib.ListN.{length, drop};
 ghost use Rattle.policy.specs.Decode.{isDraw, isAbsent, parse};
 ghost use Rattle.policy.specs.Judgement.{checkQuery};
 ghost use Rattle.terms.specs.Answers.{Answers};
-ghost use Rattle.checker.specs.Checks.{unionOf, differenceOf, drawOf, absentOf, knownIn, checkingIs, noneInside, inside, exprFacts, codeFacts, bodyFacts, guardFacts, wholeOf, admitOf, declaredOf, definitionParsed, knownAs};
+ghost use Rattle.checker.specs.Checks.{termFacts, unionOf, differenceOf, drawOf, absentOf, knownIn, checkingIs, noneInside, inside, exprFacts, codeFacts, bodyFacts, guardFacts, wholeOf, admitOf, declaredOf, definitionParsed, knownAs};
 use rows::LAST_NAME;
 use terms::Guard;
 use terms::GuardRead;
@@ -112,6 +112,18 @@ fn absent_of(lacking: Facts, rest: Facts) -> Facts
     }
 }
 
+// Of rows of terms, in a literal, a comparison or a head: "No other operand counts", so terms take no polarity away.
+fn of_terms(complement: bool) -> Facts
+    ensures { λ r. ⌜ r ≡ termFacts complement ⌝ }
+{
+    Facts {
+        plus: true,
+        minus: true,
+        open: complement,
+        draws_closed: true,
+    }
+}
+
 // Codes 1 and 2: the rows.
 fn check_literal(
     words: &[u32],
@@ -127,12 +139,7 @@ fn check_literal(
     match read_rows(words, at, variables) {
         Passed::Refused(n) => Checking::Refused(n),
         Passed::To(next) => {
-            let facts = Facts {
-                plus: true,
-                minus: true,
-                open: code == 2,
-                draws_closed: true,
-            };
+            let facts = of_terms(code == 2);
             Checking::Found(facts, next, draws)
         }
     }
@@ -199,12 +206,7 @@ fn check_head(words: &[u32], at: usize, variables: u32, draws: u32, earlier: Ear
     match read_row(words, at, variables) {
         Passed::Refused(n) => Checking::Refused(n),
         Passed::To(next) => {
-            let facts = Facts {
-                plus: true,
-                minus: true,
-                open: false,
-                draws_closed: true,
-            };
+            let facts = of_terms(false);
             Checking::Found(facts, next, draws)
         }
     }

@@ -14,12 +14,15 @@ enum-known-n c = search needs
 enum-known-next : tie.Need-enum-known-next
 enum-known-next c = search needs
 
+of-terms-requires : tie.Need-of-terms-requires
+of-terms-requires c κs = search needs
+
 returns : tie.Need-returns
 returns c = let a = c .before .before .before .before .before .args in head-refused (a .words .now) (a .at) (a .variables) (a .draws) (knownIn (a .earlier)) (c .before .before .before .read-row .ensures) (c .before .n .given .1)
 
 returns-2 : tie.Need-returns-2
-returns-2 c = let a = c .before .before .before .before .before .args in head-found (a .words .now) (a .at) (a .variables) (a .draws) (knownIn (a .earlier)) (c .before .before .before .read-row .ensures) (c .before .next .given .1)
+returns-2 c = let a = c .before .before .before .before .before .before .args in head-found (a .words .now) (a .at) (a .variables) (a .draws) (knownIn (a .earlier)) (c .before .before .before .before .read-row .ensures) (c .before .before .next .given .1) (c .of-terms .ensures)
 
 pub check-head-spec : {M : Type 1} → statement M
 check-head-spec =
-    tie.close (tie.spec read-row-requires enum-known-n enum-known-next returns returns-2)
+    tie.close (tie.spec read-row-requires enum-known-n enum-known-next of-terms-requires returns returns-2)

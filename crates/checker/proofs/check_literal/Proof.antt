@@ -14,12 +14,15 @@ enum-known-n c = search needs
 enum-known-next : tie.Need-enum-known-next
 enum-known-next c = search needs
 
+of-terms-requires : tie.Need-of-terms-requires
+of-terms-requires c κs = search needs
+
 returns : tie.Need-returns
 returns c = let a = c .before .before .before .before .before .args in literal-refused (a .words .now) (a .at) (a .variables) (a .draws) (knownIn (a .earlier)) (a .code) (c .before .before .before .before .before .pre .0) (c .before .before .before .before .before .pre .1) (c .before .before .before .read-rows .ensures) (c .before .n .given .1)
 
 returns-2 : tie.Need-returns-2
-returns-2 c = let a = c .before .before .before .before .before .args in literal-found (a .words .now) (a .at) (a .variables) (a .draws) (knownIn (a .earlier)) (a .code) (c .before .before .before .before .before .pre .0) (c .before .before .before .before .before .pre .1) (c .before .before .before .read-rows .ensures) (c .before .next .given .1)
+returns-2 c = let a = c .before .before .before .before .before .before .args in literal-found (a .words .now) (a .at) (a .variables) (a .draws) (knownIn (a .earlier)) (a .code) (c .before .before .before .before .before .before .pre .0) (c .before .before .before .before .before .before .pre .1) (c .before .before .before .before .read-rows .ensures) (c .before .before .next .given .1) (c .of-terms .ensures)
 
 pub check-literal-spec : {M : Type 1} → statement M
 check-literal-spec =
-    tie.close (tie.spec read-rows-requires enum-known-n enum-known-next returns returns-2)
+    tie.close (tie.spec read-rows-requires enum-known-n enum-known-next of-terms-requires returns returns-2)
