@@ -1,9 +1,8 @@
 // Certificates and the store that holds them: document 01, "Store and filing".
-mod record;
-mod records;
-
+ghost use Prim.Native.Nat.{_-_, _≤_};
 ghost use mathlib.Core.Path.{_≡_};
 ghost use mathlib.Core.Bool.{true};
+ghost use lib.ListN.{length, take, drop};
 ghost use Rattle.rows.specs.Ordered.{lists};
 ghost use Rattle.certificates.specs.Certificate.{recordBefore};
 ghost use Rattle.certificates.specs.Store.{records, soundStore};
@@ -13,10 +12,10 @@ ghost use Rattle.certificates.specs.NamePart.{namePart};
 ghost use Rattle.certificates.specs.Spans.{Spans};
 use certificates::CAPACITY;
 use certificates::RECORD_WORDS;
-use record::sound_record;
 use records::insert;
 use records::is_held;
 use records::place_of;
+use records::record::sound_record;
 pub use records::sound_store;
 
 pub enum Filing {
@@ -85,23 +84,27 @@ pub fn span_of(store: &[u32], key: u32, name: u32, polarity: u32) -> Span
     span_in(store, key, name, polarity)
 }
 
+// The words of a stretch.
+fn words_of<'a>(store: &'a [u32], span: Span) -> &'a [u32]
+    requires { ⌜ (span .from ≤ span .to) × (span .to ≤ length (now store)) ⌝ }
+    ensures { λ r. ⌜ now r ≡ take (span .to - span .from) (drop (span .from) (now (store .entry))) ⌝ }
+{
+    let from = span.from;
+    let to = span.to;
+    &store[from..to]
+}
+
 // The certificates of one name in a store that is known to be sound.
 pub fn certificates_in<'a>(store: &'a [u32], key: u32, name: u32, polarity: u32) -> &'a [u32]
     requires { ⌜ soundStore (now store) ≡ true ⌝ }
     ensures { λ r. ⌜ now r ≡ namePart (now (store .entry)) key name polarity ⌝ }
 {
-    let span = span_in(store, key, name, polarity);
-    let from = span.from;
-    let to = span.to;
-    &store[from..to]
+    words_of(store, span_in(store, key, name, polarity))
 }
 
 // The certificates of one name, as the part of the store where they lie: empty if there are none or the store is unsound.
 pub fn certificates_of<'a>(store: &'a [u32], key: u32, name: u32, polarity: u32) -> &'a [u32]
     ensures { λ r. ⌜ now r ≡ namePart (now (store .entry)) key name polarity ⌝ }
 {
-    let span = span_of(store, key, name, polarity);
-    let from = span.from;
-    let to = span.to;
-    &store[from..to]
+    words_of(store, span_of(store, key, name, polarity))
 }

@@ -1,4 +1,6 @@
 // The store's words: a count, then the records in order.
+pub mod record;
+
 ghost use Prim.Native.Nat.{_+_, _*_, _≤_, _<_};
 ghost use mathlib.Core.Path.{_≡_};
 ghost use mathlib.Core.Bool.{true};

@@ -1,8 +1,8 @@
 -- The record at its place is not before the certificate, so it is the certificate if it is not past it either.
 use borrow.Author.Needs.{needs}
 use Rattle.certificates.proofs.Stores.{held-here, held-none}
-use Rattle.store.proofs.records.is_held.Statement.{statement}
-use Rattle.store.proofs.records.is_held.Tie as tie
+use Rattle.records.proofs.is_held.Statement.{statement}
+use Rattle.records.proofs.is_held.Tie as tie
 
 shared-slice-read-if1 : tie.Need-shared-slice-read-if1
 shared-slice-read-if1 c = search needs

@@ -3,9 +3,9 @@ use borrow.Author.Needs.{needs}
 use Prim.Native.Nat.{_+_, _*_}
 use Rattle.certificates.specs.Certificate.{recordWords}
 use Rattle.certificates.specs.Steps.{recordAt}
-use Rattle.store.proofs.Words.{part-is}
-use Rattle.store.proofs.records.record_at.Statement.{statement}
-use Rattle.store.proofs.records.record_at.Tie as tie
+use Rattle.records.proofs.Words.{part-is}
+use Rattle.records.proofs.record_at.Statement.{statement}
+use Rattle.records.proofs.record_at.Tie as tie
 
 mul-start : tie.Need-mul-start
 mul-start c = search needs

@@ -9,8 +9,8 @@ use Rattle.certificates.specs.Store.{countOf, records}
 use Rattle.certificates.specs.Steps.{placeIn}
 use Rattle.certificates.proofs.Sound.{sound-store}
 use Rattle.certificates.proofs.Stores.{place-few, place-stops, place-passes}
-use Rattle.store.proofs.records.place_of.Statement.{statement}
-use Rattle.store.proofs.records.place_of.Tie as tie
+use Rattle.records.proofs.place_of.Statement.{statement}
+use Rattle.records.proofs.place_of.Tie as tie
 
 abbrev Inv-loop : tie.InvT-loop
 Inv-loop store words low₀ high₀ low high = (low ≤ placeIn (records store) words) × ((placeIn (records store) words ≤ high) × (high ≤ countOf store))

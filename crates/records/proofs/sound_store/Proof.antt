@@ -6,8 +6,8 @@ use native.Mathlib.Omega.{arith}
 use borrow.Author.Tests.{not-true, not-false}
 use Rattle.certificates.specs.Store.{soundStore}
 use Rattle.certificates.proofs.Stores.{soundFrom, too-short, too-many, sound-all, sound-ended, sound-passed, sound-failed}
-use Rattle.store.proofs.records.sound_store.Statement.{statement}
-use Rattle.store.proofs.records.sound_store.Tie as tie
+use Rattle.records.proofs.sound_store.Statement.{statement}
+use Rattle.records.proofs.sound_store.Tie as tie
 
 abbrev Inv-loop : tie.InvT-loop
 Inv-loop store count i₀ i = (i ≤ count) × (soundFrom store i ≡ soundStore store)

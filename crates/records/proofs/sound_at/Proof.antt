@@ -3,8 +3,8 @@ use borrow.Author.Needs.{needs}
 use mathlib.Core.Path.{sym, _∙_}
 use borrow.Author.Tests.{not-true, not-false}
 use Rattle.certificates.proofs.Stores.{at-unsound, at-last, at-next}
-use Rattle.store.proofs.records.sound_at.Statement.{statement}
-use Rattle.store.proofs.records.sound_at.Tie as tie
+use Rattle.records.proofs.sound_at.Statement.{statement}
+use Rattle.records.proofs.sound_at.Tie as tie
 
 record-at-requires : tie.Need-record-at-requires
 record-at-requires c κs = search needs

@@ -5,9 +5,9 @@ use mathlib.Core.Path.{_≡_, refl, _∙_}
 use native.Mathlib.Omega.{arith}
 use lib.ListN.{length, drop}
 use Rattle.rows.specs.Ordered.{wordsBefore}
-use Rattle.store.proofs.Words.{before-ended, before-shorter, before-differs, before-alike}
-use Rattle.store.proofs.record.words_before.Statement.{statement}
-use Rattle.store.proofs.record.words_before.Tie as tie
+use Rattle.records.proofs.Words.{before-ended, before-shorter, before-differs, before-alike}
+use Rattle.records.proofs.record.words_before.Statement.{statement}
+use Rattle.records.proofs.record.words_before.Tie as tie
 
 abbrev Inv-loop : tie.InvT-loop
 Inv-loop a b i₀ i = (i ≤ length a) × ((i ≤ length b) × (wordsBefore (drop i a) (drop i b) ≡ wordsBefore a b))

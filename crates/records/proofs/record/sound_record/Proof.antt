@@ -8,9 +8,9 @@ use lib.ListN.{drop}
 use Rattle.rows.specs.Layout.{soundRow}
 use lib.ListN.{length-drop}
 use lib.Seq.{take-all}
-use Rattle.store.proofs.Words.{not-eight, no-key, no-name, no-polarity, its-row}
-use Rattle.store.proofs.record.sound_record.Statement.{statement}
-use Rattle.store.proofs.record.sound_record.Tie as tie
+use Rattle.records.proofs.Words.{not-eight, no-key, no-name, no-polarity, its-row}
+use Rattle.records.proofs.record.sound_record.Statement.{statement}
+use Rattle.records.proofs.record.sound_record.Tie as tie
 
 returns : tie.Need-returns
 returns c = not-eight (c .before .before .args .words .now) (c .if1 .taken)
