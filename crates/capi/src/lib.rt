@@ -8,11 +8,11 @@ use engine::Reply;
 use engine::query as ask;
 use judging::Judgement;
 use judging::judge;
-use judging::parts::Place;
-use judging::parts::place_of;
 use store::Filing;
 use store::file;
 use store::span_of;
+use table::parts::Place;
+use table::parts::place_of;
 
 // 2^32: where the upper half of a reply begins.
 const UPPER: u64 = 4294967296;

@@ -2,21 +2,22 @@
 use Prim.Native.Nat.{ℕ, zero, suc, _+_, _≤_, _<_}
 use mathlib.Core.Path.{_≡_, refl, sym, _∙_, ap, subst}
 use mathlib.Core.Bool.{Bool, true, false, not}
-use mathlib.Core.List.{List, [], _∷_, _++_}
+use mathlib.Core.List.{List}
 use native.Mathlib.Omega.{arith}
 use lib.Dec.{leb, ltb, eqb}
-use lib.ListN.{length, getD, drop, length-append, List·getD-append}
-use lib.Seq.{getD-append-add}
-use borrow.Author.Tests.{lt-ltb, le-ltb, le-leb, ltb-true, ltb-false}
+use lib.ListN.{length, getD, drop}
+use borrow.Author.Tests.{lt-ltb, le-ltb, le-leb}
 use Rattle.refusals.specs.Table.{badWord, notInScope}
 use Rattle.rows.specs.Name.{plus, minus, polarityOf, samePolarity}
 use Rattle.policy.specs.Syntax.{Term, Expr, finite, cofinite, definition, listed}
 use Rattle.policy.specs.Decode.{Read, got, refused, Reader, after, give, wordWhere, polarity, issuer, rows, codeOf, exprAs}
-use Rattle.policy.specs.Polarity.{Known, unknown, hasPolarity, openExpr, drawsClosed}
+use Rattle.policy.specs.Polarity.{Known, hasPolarity, openExpr, drawsClosed}
 use Rattle.terms.specs.Answers.{found, stopped, outcome, Onward, Answers, Follows, kept, keeping, nothing, between, wordIs, passedIs}
-use Rattle.checker.specs.Checks.{factsOf, termFacts, declaredBy, knownAt, knownUpTo, knownIn, checkingIs, noneInside, codeFacts}
-use Rattle.checker.specs.declared.Facts.{Facts}
-use Rattle.checker.specs.declared.Earlier.{Earlier}
+use Rattle.polarity.specs.Facts.{factsOf, termFacts}
+use Rattle.polarity.specs.Earlier.{declaredBy, knownAt, knownIn}
+use Rattle.polarity.specs.declared.Facts.{Facts}
+use Rattle.polarity.specs.declared.Earlier.{Earlier}
+use Rattle.checker.specs.Checks.{checkingIs, noneInside, codeFacts}
 use Rattle.checker.specs.declared.Checking.{Checking}
 use Rattle.checker.specs.declared.Checking.the-variants as checking
 use Rattle.terms.specs.declared.WordRead as WordRead
@@ -26,6 +27,8 @@ use Rattle.terms.specs.declared.Passed.the-variants as passed
 use Rattle.policy.proofs.Basics.{impossible}
 use Rattle.terms.proofs.Answering.{stops, finds, here, at-end, where-passes, where-fails, word-found, word-refused, word-bounds, same-rule}
 use Rattle.terms.proofs.RowAnswers.{passed-found, passed-lost}
+use Rattle.polarity.proofs.FactAnswers.{facts-same}
+use Rattle.polarity.proofs.EarlierAnswers.{known-count, known-get}
 
 -- an outcome of which something is kept, and what follows it
 module _ {A B C D : Type 0} (F : A → C) (H : B → D) (x : Read A) (f : A → Reader B) where
@@ -81,11 +84,6 @@ pub unchecked : {ws : List ℕ} {at n : ℕ} {y : Read Facts} {r : Checking} →
 unfolding checkingIs outcome
 unchecked {ws} {at} {n} {y} a e = let b : Answers ws at (stopped n) y = rw (ap checkingIs e) at a in sym (b .agrees)
 
--- facts are equal part by part
-pub facts-same : {a b c d a' b' c' d' : Bool} → a ≡ a' → b ≡ b' → c ≡ c' → d ≡ d' →
-    _≡_ {A = Facts} (record { plus = a; minus = b; «open» = c; «draws_closed» = d }) (record { plus = a'; minus = b'; «open» = c'; «draws_closed» = d' })
-facts-same p q r s = cc
-
 -- codes 1 and 2
 abbrev literalFacts : ℕ → Facts
 literalFacts code = termFacts (eqb code 2)
@@ -112,31 +110,7 @@ module _ (ws : List ℕ) (at n k : ℕ) (ks : List Known) where
     unfolding keeping
     literal-refused {m} e = refuses (literal code low high (refused m) (λ h s. kept-stops nothing (factsOf ks) (rows n (drop at ws) k) _ (passed-lost f e .reads k)))
 
--- code 3: what is known of the definitions before
-known-length : (x : Earlier) (d : ℕ) → length (knownUpTo x d) ≡ d
-unfolding knownUpTo
-known-length x zero = refl
-known-length x (suc d) = length-append (knownUpTo x d) (knownAt x d ∷ []) ∙ omega (arith, known-length x d)
-
-pub known-count : (x : Earlier) → length (knownIn x) ≡ x .count
-unfolding knownIn
-known-count x = known-length x (x .count)
-
-known-last : (x : Earlier) (n d : ℕ) → d < suc n → (d < n → getD (knownUpTo x n) d unknown ≡ knownAt x d) → getD (knownUpTo x (suc n)) d unknown ≡ knownAt x d
-unfolding knownUpTo
-known-last x n d h before = go (ltb d n) refl
-  where
-    go : (b : Bool) → ltb d n ≡ b → getD (knownUpTo x n ++ (knownAt x n ∷ [])) d unknown ≡ knownAt x d
-    go true t = List·getD-append (knownUpTo x n) (knownAt x n ∷ []) unknown d (omega (arith, known-length x n, ltb-true d n t)) ∙ before (ltb-true d n t)
-    go false t =
-        let e : d ≡ length (knownUpTo x n) + 0 = omega (arith, known-length x n, ltb-false d n t) in
-        let f : d ≡ n = omega (arith, ltb-false d n t) in
-        ap (λ i. getD (knownUpTo x n ++ (knownAt x n ∷ [])) i unknown) e ∙ (getD-append-add (knownUpTo x n) (knownAt x n ∷ []) 0 unknown ∙ ap (knownAt x) (sym f))
-
-known-get : (x : Earlier) (n d : ℕ) → d < n → getD (knownUpTo x n) d unknown ≡ knownAt x d
-known-get x zero d h = absurd (omega arith)
-known-get x (suc n) d h = known-last x n d h (λ l. known-get x n d l)
-
+-- code 3
 abbrev definitionFacts : Bool → Bool → Facts
 definitionFacts m o = record { plus = not m; minus = m; «open» = o; «draws_closed» = true }
 

@@ -14,8 +14,9 @@ use Rattle.policy.specs.Syntax.{Term, Expr, union, difference, comprehension, B
 use Rattle.policy.specs.Decode.{Read, got, refused, Reader, after, give, wordWhere, countDraw, term, width, row, Pattern, slots, isDraw, isAbsent, guardOf, guardAs, body, codeOf, isCode, exprAs, expr}
 use Rattle.policy.specs.Polarity.{Known, hasPolarity, guardsHave, openExpr, drawsClosed, guardsClosed}
 use Rattle.terms.specs.Answers.{Answer, found, stopped, Onward, Answers, Follows, kept, keeping, nothing, between, wordIs, termOf, passedIs, pattern, scope, patternIs, Opening, drawOpens, absentOpens, sameOpens, differentOpens, openingFor, opening, openingOf, openingIs}
-use Rattle.checker.specs.Checks.{factsOf, termFacts, unionOf, differenceOf, drawOf, absentOf, checkingIs, inside, noneInside, exprFacts, codeFacts, bodyFacts, guardFacts}
-use Rattle.checker.specs.declared.Facts.{Facts}
+use Rattle.polarity.specs.Facts.{factsOf, termFacts, unionOf, differenceOf, drawOf, absentOf}
+use Rattle.polarity.specs.declared.Facts.{Facts}
+use Rattle.checker.specs.Checks.{checkingIs, inside, noneInside, exprFacts, codeFacts, bodyFacts, guardFacts}
 use Rattle.checker.specs.declared.Checking.{Checking}
 use Rattle.checker.specs.declared.Checking.the-variants as checking
 use Rattle.terms.specs.declared.WordRead as WordRead

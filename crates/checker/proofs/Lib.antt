@@ -1,3 +1,2 @@
 pub mod CheckAnswers
 pub mod CycleAnswers
-pub mod WholeAnswers

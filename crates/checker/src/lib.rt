@@ -1,14 +1,18 @@
 // An expression checked in one pass over its words: refusals 3, 4 and 5 at the first word that breaks a rule, and on the way which polarities
 // it has, whether it is open, and whether every draw is from a set that is not.
 ghost use Prim.Native.Nat.{_+_, _≤_};
-ghost use mathlib.Core.Path.{_≡_};
-ghost use mathlib.Core.Bool.{_&&_, _||_};
-ghost use mathlib.Core.List.{[], _∷_, _++_};
-ghost use lib.ListN.{length, drop};
-ghost use Rattle.policy.specs.Decode.{isDraw, isAbsent, parse};
-ghost use Rattle.policy.specs.Judgement.{checkQuery};
+ghost use lib.ListN.{drop};
+ghost use Rattle.policy.specs.Decode.{isDraw, isAbsent};
 ghost use Rattle.terms.specs.Answers.{Answers};
-ghost use Rattle.checker.specs.Checks.{termFacts, unionOf, differenceOf, drawOf, absentOf, knownIn, checkingIs, noneInside, inside, exprFacts, codeFacts, bodyFacts, guardFacts, wholeOf, admitOf, declaredOf, definitionParsed, knownAs};
+ghost use Rattle.polarity.specs.Earlier.{knownIn};
+ghost use Rattle.checker.specs.Checks.{checkingIs, noneInside, inside, exprFacts, codeFacts, bodyFacts, guardFacts};
+use polarity::Earlier;
+use polarity::Facts;
+use polarity::absent_of;
+use polarity::difference_of;
+use polarity::draw_of;
+use polarity::of_terms;
+use polarity::union_of;
 use rows::LAST_NAME;
 use terms::Guard;
 use terms::GuardRead;
@@ -24,104 +28,14 @@ use terms::word_between;
 
 const LAST_CODE: u32 = 7;
 
-const MOST_LEVELS: u32 = 15;
-
-const MOST_QUERY_WORDS: usize = 1024;
-
 const MOST_GUARDS: u32 = 8;
 
 const MOST_DRAWS: u32 = 8;
-
-// The polarities that an expression has, whether it is open, and whether its draws are from closed sets only.
-pub struct Facts {
-    pub plus: bool,
-    pub minus: bool,
-    pub open: bool,
-    pub draws_closed: bool,
-}
-
-// What is known of the definitions before: which are declared − and which are open.
-pub struct Earlier {
-    pub count: u32,
-    pub minus: [bool; 16],
-    pub open: [bool; 16],
-}
 
 // The facts, the place of the next word and the draws met so far.
 pub enum Checking {
     Found(Facts, usize, u32),
     Refused(u32),
-}
-
-fn both(a: bool, b: bool) -> bool
-    ensures { λ r. ⌜ r ≡ (a && b) ⌝ }
-{
-    a && b
-}
-
-fn either(a: bool, b: bool) -> bool
-    ensures { λ r. ⌜ r ≡ (a || b) ⌝ }
-{
-    a || b
-}
-
-fn union_of(a: Facts, b: Facts) -> Facts
-    ensures { λ r. ⌜ r ≡ unionOf a b ⌝ }
-{
-    Facts {
-        plus: both(a.plus, b.plus),
-        minus: both(a.minus, b.minus),
-        open: either(a.open, b.open),
-        draws_closed: both(a.draws_closed, b.draws_closed),
-    }
-}
-
-// What stands to the right of a difference counts with the opposite polarity.
-fn difference_of(a: Facts, b: Facts) -> Facts
-    ensures { λ r. ⌜ r ≡ differenceOf a b ⌝ }
-{
-    Facts {
-        plus: both(a.plus, b.minus),
-        minus: both(a.minus, b.plus),
-        open: a.open,
-        draws_closed: both(a.draws_closed, b.draws_closed),
-    }
-}
-
-// A draw from `drawn`, before the other guards.
-fn draw_of(drawn: Facts, rest: Facts) -> Facts
-    ensures { λ r. ⌜ r ≡ drawOf drawn rest ⌝ }
-{
-    Facts {
-        plus: both(drawn.plus, rest.plus),
-        minus: both(drawn.minus, rest.minus),
-        open: false,
-        draws_closed: both(!drawn.open, both(drawn.draws_closed, rest.draws_closed)),
-    }
-}
-
-// The set that a row is absent from counts with the opposite polarity.
-fn absent_of(lacking: Facts, rest: Facts) -> Facts
-    ensures { λ r. ⌜ r ≡ absentOf lacking rest ⌝ }
-{
-    Facts {
-        plus: both(lacking.minus, rest.plus),
-        minus: both(lacking.plus, rest.minus),
-        open: false,
-        draws_closed: both(lacking.draws_closed, rest.draws_closed),
-    }
-}
-
-// Of rows of terms, in a literal, a comparison or a head: "No other operand counts", so terms take no polarity away.
-fn of_terms(complement: bool) -> Facts
-    ensures { λ r. ⌜ r ≡ termFacts complement ⌝ }
-{
-    Facts {
-        plus: true,
-        minus: true,
-        open: complement,
-        draws_closed: true,
-    }
 }
 
 // Codes 1 and 2: the rows.
@@ -419,104 +333,4 @@ fn check_absent(
             },
         },
     }
-}
-
-// A whole definition or query.
-pub enum Whole {
-    Checked(Facts),
-    Refused(u32),
-}
-
-// Its words, and none left over.
-pub fn check_whole(words: &[u32], earlier: Earlier) -> Whole
-    requires { ⌜ earlier .count ≤ 16 ⌝ }
-    ensures { λ r. ⌜ r ≡ wholeOf (knownIn earlier) (parse (length (knownIn earlier)) (now (words .entry))) ⌝ }
-{
-    match check_expr(words, 0, MOST_LEVELS, 0, 0, earlier) {
-        Checking::Refused(n) => Whole::Refused(n),
-        Checking::Found(facts, next, _) => {
-            if next < words.len() {
-                Whole::Refused(refusals::BAD_WORD)
-            } else {
-                Whole::Checked(facts)
-            }
-        }
-    }
-}
-
-// 6 unless it has the polarity asked for, then 7 unless its draws are from closed sets.
-fn admit(facts: Facts, had: bool) -> Whole
-    ensures { λ r. ⌜ r ≡ admitOf facts had ⌝ }
-{
-    let closed = facts.draws_closed;
-    if !had {
-        return Whole::Refused(refusals::NO_POLARITY);
-    }
-    if !closed {
-        return Whole::Refused(refusals::OPEN_DRAW);
-    }
-    Whole::Checked(facts)
-}
-
-fn declared(facts: Facts, polarity: u32) -> bool
-    ensures { λ r. ⌜ r ≡ declaredOf facts polarity ⌝ }
-{
-    if polarity == 0 {
-        facts.plus
-    } else {
-        facts.minus
-    }
-}
-
-// A definition's words, with the polarity that it declares.
-pub fn judge_definition(words: &[u32], polarity: u32, earlier: Earlier) -> Whole
-    requires { ⌜ earlier .count ≤ 16 ⌝ }
-    ensures { λ r. ⌜ r ≡ wholeOf (knownIn earlier) (definitionParsed (knownIn earlier) polarity (now (words .entry))) ⌝ }
-{
-    match check_whole(words, earlier) {
-        Whole::Refused(n) => Whole::Refused(n),
-        Whole::Checked(facts) => admit(facts, declared(facts, polarity)),
-    }
-}
-
-// A query's words: 1 to 1,024 of them.
-pub fn judge_query(words: &[u32], earlier: Earlier) -> Whole
-    requires { ⌜ earlier .count ≤ 16 ⌝ }
-    ensures { λ r. ⌜ r ≡ wholeOf (knownIn earlier) (checkQuery (knownIn earlier) (now (words .entry))) ⌝ }
-{
-    if words.len() == 0 {
-        return Whole::Refused(refusals::BAD_WORD);
-    }
-    if MOST_QUERY_WORDS < words.len() {
-        return Whole::Refused(refusals::BAD_WORD);
-    }
-    match check_whole(words, earlier) {
-        Whole::Refused(n) => Whole::Refused(n),
-        Whole::Checked(facts) => admit(facts, either(facts.plus, facts.minus)),
-    }
-}
-
-// Before any definition.
-pub fn none_earlier() -> Earlier
-    ensures { λ r. ⌜ (r .count ≡ 0) × (knownIn r ≡ []) ⌝ }
-{
-    Earlier {
-        count: 0,
-        minus: [false; 16],
-        open: [false; 16],
-    }
-}
-
-// One definition more.
-pub fn with_definition(earlier: Earlier, polarity: u32, open: bool) -> Earlier
-    requires { ⌜ earlier .count ≤ 15 ⌝ }
-    ensures { λ r. ⌜ (r .count ≡ earlier .count + 1) × (knownIn r ≡ knownIn earlier ++ (knownAs polarity «open» ∷ [])) ⌝ }
-{
-    let n = earlier.count;
-    let i = n as usize;
-    let mut next = earlier;
-    next.minus[i] = polarity != 0;
-    next.open[i] = open;
-    next.count = n + 1;
-    next
 }

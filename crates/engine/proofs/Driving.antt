@@ -16,7 +16,7 @@ use Rattle.policy.specs.Polarity.{Known, Verdict}
 use Rattle.policy.specs.Table.{Entry, table, readTable}
 use Rattle.policy.specs.Judgement.{checked, check, knownOf}
 use Rattle.policy.specs.Part.{noEntry, partWords}
-use Rattle.judging.proofs.PartAnswers.{table-sound, definition-part}
+use Rattle.table.proofs.PartAnswers.{table-sound, definition-part}
 use Rattle.policy.proofs.Judging.{AcceptedDefinition, Accepted, none, one, check-accepted}
 use Rattle.meaning.specs.Evidence.{Evidence}
 use Rattle.meaning.specs.Reading.{done, refused, read}

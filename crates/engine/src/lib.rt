@@ -10,7 +10,6 @@ ghost use Rattle.engine.specs.Reply.{Replied};
 ghost use Rattle.engine.specs.Steps.{Ready, ReadDefinitions, ReadAll};
 use judging::Judgement;
 use judging::judge;
-use judging::parts::part;
 use reading::Read;
 use reading::read_whole;
 use refusals::BAD_STORE;
@@ -20,6 +19,7 @@ use refusals::SHORT_AREA;
 use rows::SET_ROOM;
 use sets::set::copy;
 use store::sound_store;
+use table::parts::part;
 
 pub enum Reply {
     Answered { verdict: u32, draws: u32 },

@@ -14,7 +14,7 @@ use cases::say_number;
 use cases::say_words;
 use judging::Judgement;
 use judging::judge;
-use judging::parts::part;
+use table::parts::part;
 
 fn say_judgement(judgement: Judgement) {
     match judgement {

@@ -1,10 +1,10 @@
--- Whole definitions and queries, and the policy's parts, way out by way out.
+-- The definitions in file order and the query, way out by way out.
 use Prim.Native.Nat.{ℕ, suc, _+_, _-_, _≤_, _<_}
 use mathlib.Core.Path.{_≡_, refl, sym, _∙_, ap, subst}
 use mathlib.Core.Bool.{true, false}
 use mathlib.Core.List.{List, [], _∷_, _++_}
 use native.Mathlib.Omega.{arith}
-use lib.ListN.{length, getD, take, drop}
+use lib.ListN.{length, getD}
 use Rattle.refusals.specs.Table.{queryPart, noPart}
 use Rattle.rows.specs.Name.{plus, minus}
 use Rattle.rows.proofs.Lists.{all-at}
@@ -13,20 +13,22 @@ use Rattle.policy.specs.Decode.{Parsed, parsed, unparsed}
 use Rattle.policy.specs.Polarity.{Known, hasPolarity, openExpr, verdictWord}
 use Rattle.policy.specs.Table.{Entry, entryAt, entryWords, table, noTable, readTable}
 use Rattle.policy.specs.Part.{noEntry}
-use Rattle.judging.specs.Entries.{entryPlace, entriesFrom, tableIs}
 use Rattle.policy.specs.Judgement.{Checked, checked, unchecked, checkDefinition, checkQuery, verdictOf, knownOf, withDefinition, checkFrom, check, replyOf, judge}
-use Rattle.checker.specs.Checks.{factsOf, knownIn, wholeOf, definitionParsed, knownAs}
+use Rattle.policy.proofs.Basics.{impossible}
+use Rattle.table.specs.Entries.{entryPlace, entriesFrom, tableIs}
+use Rattle.table.specs.declared.TableRead.{TableRead}
+use Rattle.table.specs.declared.TableRead.the-variants as tableRead
+use Rattle.table.proofs.PartAnswers.{table-sound, length-entries, entry-in}
+use Rattle.polarity.specs.Facts.{factsOf}
+use Rattle.polarity.specs.Earlier.{knownIn, knownAs}
+use Rattle.polarity.specs.declared.Facts.{Facts}
+use Rattle.polarity.specs.declared.Earlier.{Earlier}
+use Rattle.polarity.specs.declared.Whole.{Whole}
+use Rattle.polarity.specs.declared.Whole.the-variants as whole
+use Rattle.polarity.proofs.EarlierAnswers.{known-count}
+use Rattle.judging.specs.Whole.{wholeOf, definitionParsed}
 use Rattle.judging.specs.Reply.{judgementOf}
 use Rattle.judging.specs.declared.Judgement.the-variants as judgement
-use Rattle.checker.specs.declared.Facts.{Facts}
-use Rattle.checker.specs.declared.Earlier.{Earlier}
-use Rattle.checker.specs.declared.Whole.{Whole}
-use Rattle.checker.specs.declared.Whole.the-variants as whole
-use Rattle.judging.specs.declared.table.TableRead.{TableRead}
-use Rattle.judging.specs.declared.table.TableRead.the-variants as tableRead
-use Rattle.policy.proofs.Basics.{impossible}
-use Rattle.checker.proofs.CheckAnswers.{known-count}
-use Rattle.judging.proofs.PartAnswers.{table-sound, length-entries, entry-in}
 
 -- a table of n definitions
 pub record Listed (p : List ℕ) (n : ℕ) : Type 0 where
@@ -43,16 +45,6 @@ listed-of p n e =
       fits = omega (arith, t .header .fits);
       parts = λ i h. subst (λ x. x .offset + x .size ≤ length p) (entry-in n p 2 i h) (all-at (λ x. x .offset + x .size ≤ length p) (entriesFrom n p 2) (t .parts) i noEntry (omega (arith, length-entries n p 2)));
     }
-
--- a definition's words, at places known by other names
-module _ (p : List ℕ) (i : ℕ) {at start size : ℕ} (a : at ≡ entryPlace i) (b : start ≡ getD p (at + 2) 0) (c : size ≡ getD p (at + 3) 0) where
-  pub definition-span : entryAt p (entryPlace i) .offset + entryAt p (entryPlace i) .size ≤ length p → start + size ≤ length p
-  unfolding entryAt
-  definition-span h = rw (b, c, a) h
-
-  pub definition-part : take (start + size - start) (drop start p) ≡ entryWords p (entryAt p (entryPlace i))
-  unfolding entryWords entryAt
-  definition-part = let e : start + size - start ≡ size = omega arith in ap (λ n. take n (drop start p)) e ∙ rw (b, c, a)
 
 -- the verdict
 pub verdict-exact : (f : Facts) → f .plus ≡ true → f .minus ≡ true → 0 ≡ verdictWord (verdictOf (f .plus) (f .minus))

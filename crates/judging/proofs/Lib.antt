@@ -1,3 +1,2 @@
-pub mod TableAnswers
-pub mod PartAnswers
+pub mod WholeAnswers
 pub mod JudgeAnswers

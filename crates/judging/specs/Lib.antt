@@ -1,3 +1,2 @@
 pub mod Reply
-pub mod Places
-pub mod Entries
+pub mod Whole

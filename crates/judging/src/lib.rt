@@ -1,32 +1,83 @@
-// A policy and a query judged, and the words of their parts.
-pub mod parts;
-pub mod table;
-
+// A policy and a query judged: refusals 1 to 7, each part through 3 to 7 before the next.
 ghost use Prim.Native.Nat.{_+_, _≤_};
 ghost use mathlib.Core.Path.{_≡_};
 ghost use lib.ListN.{length};
 ghost use Rattle.policy.specs.Polarity.{verdictWord};
 ghost use Rattle.policy.specs.Table.{entryAt, table, readTable};
-ghost use Rattle.judging.specs.Entries.{entryPlace, entriesFrom};
-ghost use Rattle.policy.specs.Judgement.{checkDefinition, verdictOf, judge};
-ghost use Rattle.checker.specs.Checks.{knownIn, wholeOf};
+ghost use Rattle.policy.specs.Decode.{parse};
+ghost use Rattle.policy.specs.Judgement.{checkDefinition, checkQuery, verdictOf, judge};
+ghost use Rattle.table.specs.Entries.{entryPlace, entriesFrom};
+ghost use Rattle.polarity.specs.Earlier.{knownIn};
+ghost use Rattle.judging.specs.Whole.{wholeOf, definitionParsed};
 ghost use Rattle.judging.specs.Reply.{judgementOf};
-use checker::Earlier;
-use checker::Facts;
-use checker::Whole;
-use checker::judge_definition;
-use checker::judge_query;
-use checker::none_earlier;
-use checker::with_definition;
+use checker::Checking;
+use checker::check_expr;
+use polarity::Earlier;
+use polarity::Facts;
+use polarity::Whole;
+use polarity::admit;
+use polarity::declared;
+use polarity::either;
+use polarity::none_earlier;
+use polarity::with_definition;
 use table::TableRead;
 use table::definition_words;
 use table::entry_place;
 use table::read_table;
 use table::wide;
 
+const MOST_LEVELS: u32 = 15;
+
+const MOST_QUERY_WORDS: usize = 1024;
+
 pub enum Judgement {
     Verdict(u32),
     Refused { number: u32, part: u32 },
+}
+
+// A definition's or a query's words, and none left over.
+fn check_whole(words: &[u32], earlier: Earlier) -> Whole
+    requires { ⌜ earlier .count ≤ 16 ⌝ }
+    ensures { λ r. ⌜ r ≡ wholeOf (knownIn earlier) (parse (length (knownIn earlier)) (now (words .entry))) ⌝ }
+{
+    match check_expr(words, 0, MOST_LEVELS, 0, 0, earlier) {
+        Checking::Refused(n) => Whole::Refused(n),
+        Checking::Found(facts, next, _) => {
+            if next < words.len() {
+                Whole::Refused(refusals::BAD_WORD)
+            } else {
+                Whole::Checked(facts)
+            }
+        }
+    }
+}
+
+// A definition's words, with the polarity that it declares.
+fn judge_definition(words: &[u32], polarity: u32, earlier: Earlier) -> Whole
+    requires { ⌜ earlier .count ≤ 16 ⌝ }
+    ensures { λ r. ⌜ r ≡ wholeOf (knownIn earlier) (definitionParsed (knownIn earlier) polarity (now (words .entry))) ⌝ }
+{
+    match check_whole(words, earlier) {
+        Whole::Refused(n) => Whole::Refused(n),
+        Whole::Checked(facts) => admit(facts, declared(facts, polarity)),
+    }
+}
+
+// A query's words: 1 to 1,024 of them.
+fn judge_query(words: &[u32], earlier: Earlier) -> Whole
+    requires { ⌜ earlier .count ≤ 16 ⌝ }
+    ensures { λ r. ⌜ r ≡ wholeOf (knownIn earlier) (checkQuery (knownIn earlier) (now (words .entry))) ⌝ }
+{
+    if words.len() == 0 {
+        return Whole::Refused(refusals::BAD_WORD);
+    }
+    if MOST_QUERY_WORDS < words.len() {
+        return Whole::Refused(refusals::BAD_WORD);
+    }
+    match check_whole(words, earlier) {
+        Whole::Refused(n) => Whole::Refused(n),
+        Whole::Checked(facts) => admit(facts, either(facts.plus, facts.minus)),
+    }
 }
 
 // 0 exact, 1 lower, 2 upper.

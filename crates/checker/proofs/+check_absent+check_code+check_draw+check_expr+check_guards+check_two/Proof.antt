@@ -2,7 +2,8 @@
 -- a law of `CycleAnswers`.
 use native.Mathlib.Omega.{arith}
 use Rattle.refusals.specs.Table.{badWord}
-use Rattle.checker.specs.Checks.{knownIn, inside}
+use Rattle.polarity.specs.Earlier.{knownIn}
+use Rattle.checker.specs.Checks.{inside}
 use Rattle.terms.proofs.Answering.{word-found, word-bounds}
 use Rattle.terms.proofs.TermAnswers.{guard-found}
 use Rattle.terms.proofs.RowAnswers.{passed-found}
@@ -31,14 +32,14 @@ use Rattle.checker.proofs.+check_absent+check_code+check_draw+check_exp
 use Rattle.checker.proofs.check_two.Reads as check-two
 use Rattle.checker.proofs.check_two.Kinds as check-two-kinds
 use Rattle.checker.proofs.+check_absent+check_code+check_draw+check_expr+check_guards+check_two.Lts-check_two as check-two-lts
-use Rattle.checker.proofs.absent_of.Reads as absent-of-reads
+use Rattle.polarity.proofs.absent_of.Reads as absent-of-reads
 use Rattle.checker.proofs.check_definition.Reads as check-definition-reads
 use Rattle.checker.proofs.check_head.Reads as check-head-reads
 use Rattle.checker.proofs.check_literal.Reads as check-literal-reads
 use Rattle.checker.proofs.check_name.Reads as check-name-reads
-use Rattle.checker.proofs.difference_of.Reads as difference-of-reads
-use Rattle.checker.proofs.draw_of.Reads as draw-of-reads
-use Rattle.checker.proofs.union_of.Reads as union-of-reads
+use Rattle.polarity.proofs.difference_of.Reads as difference-of-reads
+use Rattle.polarity.proofs.draw_of.Reads as draw-of-reads
+use Rattle.polarity.proofs.union_of.Reads as union-of-reads
 use Rattle.terms.proofs.read_guard.Reads as read-guard-reads
 use Rattle.terms.proofs.read_pattern.Reads as read-pattern-reads
 use Rattle.terms.proofs.read_row.Reads as read-row-reads

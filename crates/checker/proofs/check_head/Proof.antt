@@ -1,5 +1,5 @@
 -- Each way out is a law of `CycleAnswers`.
-use Rattle.checker.specs.Checks.{knownIn}
+use Rattle.polarity.specs.Earlier.{knownIn}
 use Rattle.checker.proofs.CycleAnswers.{head-refused, head-found}
 use borrow.Author.Needs.{needs}
 use Rattle.checker.proofs.check_head.Statement.{statement}

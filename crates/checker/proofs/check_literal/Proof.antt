@@ -1,5 +1,5 @@
 -- Each way out is a law of `CheckAnswers`.
-use Rattle.checker.specs.Checks.{knownIn}
+use Rattle.polarity.specs.Earlier.{knownIn}
 use Rattle.checker.proofs.CheckAnswers.{literal-found, literal-refused}
 use borrow.Author.Needs.{needs}
 use Rattle.checker.proofs.check_literal.Statement.{statement}

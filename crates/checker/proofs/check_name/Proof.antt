@@ -1,6 +1,6 @@
 -- Each way out is a law of `CheckAnswers`.
 use native.Mathlib.Omega.{arith}
-use Rattle.checker.specs.Checks.{knownIn}
+use Rattle.polarity.specs.Earlier.{knownIn}
 use Rattle.terms.proofs.Answering.{word-found}
 use Rattle.checker.proofs.CheckAnswers.{name-unissued, name-over, name-unpolarized, name-found}
 use borrow.Author.Needs.{needs}

@@ -4,9 +4,10 @@ use mathlib.Core.Path.{_∙_, ap}
 use native.Mathlib.Omega.{arith}
 use lib.ListN.{getD}
 use Rattle.policy.specs.Table.{entryAt}
-use Rattle.judging.specs.Entries.{entryPlace}
+use Rattle.table.specs.Entries.{entryPlace}
 use Rattle.policy.specs.Judgement.{checkDefinition}
-use Rattle.checker.specs.Checks.{knownIn, wholeOf}
+use Rattle.polarity.specs.Earlier.{knownIn}
+use Rattle.judging.specs.Whole.{wholeOf}
 use Rattle.judging.proofs.JudgeAnswers.{listed-of, Judging, judging-starts, judging-refused, judging-goes-on, query-unjudged, query-judged}
 use borrow.Author.Needs.{needs}
 use Rattle.judging.proofs.judge_all.Statement.{statement}

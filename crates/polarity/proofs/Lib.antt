@@ -1,0 +1,2 @@
+pub mod FactAnswers
+pub mod EarlierAnswers

@@ -1,0 +1,2 @@
+pub mod TableAnswers
+pub mod PartAnswers

@@ -1,0 +1,187 @@
+-- The parts of a policy: what a sound table says of them, and where the code finds them.
+use Prim.Native.Nat.{ℕ, zero, suc, _+_, _-_, _*_, _≤_, _<_}
+use mathlib.Core.Path.{_≡_, refl, sym, _∙_, ap, subst}
+use mathlib.Core.Bool.{Bool, true, false}
+use mathlib.Core.List.{List, [], _∷_}
+use native.Mathlib.Omega.{arith}
+use lib.Dec.{ltb, eqb}
+use lib.ListN.{length, getD, take, drop}
+use borrow.Author.Tests.{eq-eqb, ne-eqb, lt-ltb, le-ltb, ltb-true}
+use Rattle.refusals.specs.Table.{badTable, badHeader}
+use Rattle.rows.specs.Word.{All}
+use Rattle.rows.proofs.Case.{Case, isTrue, isFalse, split}
+use Rattle.rows.proofs.Lists.{all-at}
+use Rattle.policy.specs.Table.{Entry, entryAt, entryWords, Table, table, noTable, soundEntry, push, entries, soundHeader, readTable}
+use Rattle.policy.specs.Part.{inPolicy, wholeQuery, nowhere, noEntry, placeAmong, placeOf, wordsAt, partWords}
+use Rattle.policy.specs.Part as Part
+use Rattle.table.specs.Entries.{entriesFrom, tableIs}
+use Rattle.table.specs.Places.{placeIs}
+use Rattle.table.specs.declared.TableRead.{TableRead}
+use Rattle.table.specs.declared.TableRead.the-variants as tableRead
+use Rattle.table.specs.declared.parts.Place as Held
+use Rattle.table.specs.declared.parts.Place.the-variants as place
+use Rattle.policy.proofs.Basics.{impossible}
+use Rattle.table.proofs.TableAnswers.{Header, header-of, sound-of}
+
+abbrev inside : List ℕ → Entry → Type 0
+inside policy x = x .offset + x .size ≤ length policy
+
+record Pushed (x : Entry) (t : Table) (xs : List Entry) : Type 0 where
+  ys : List Entry
+  rest : t ≡ table ys
+  is : x ∷ ys ≡ xs
+
+pushed : (x : Entry) (t : Table) (xs : List Entry) → push x t ≡ table xs → Pushed x t xs
+unfolding push
+pushed x (table ys) xs e = record { ys = ys; rest = refl; is = cc }
+pushed x (noTable n) xs e = impossible cc
+
+-- n entries were read, each with its part inside the policy
+record Sound (policy : List ℕ) (n : ℕ) (xs : List Entry) : Type 0 where
+  count : length xs ≡ n
+  parts : All (inside policy) xs
+
+entries-sound : (n : ℕ) (policy : List ℕ) (at due : ℕ) (earlier xs : List Entry) → entries n policy at due earlier ≡ table xs → Sound policy n xs
+unfolding entries All
+entries-sound zero policy at due earlier xs e = go (eqb due (length policy)) e
+  where
+    go : (b : Bool) → (elim b as (λ c. Table) [ true ↦ table [] | false ↦ noTable badTable ]) ≡ table xs → Sound policy 0 xs
+    go true f = subst (Sound policy 0) (let g : [] ≡ xs = cc in g) (record { count = refl; parts = tt })
+    go false f = impossible cc
+entries-sound (suc n) policy at due earlier xs e =
+    go (λ ys f. entries-sound n policy (at + 4) (entryAt policy at .offset + entryAt policy at .size) (entryAt policy at ∷ earlier) ys f) (split (soundEntry policy due earlier (entryAt policy at)))
+  where
+    go : ((ys : List Entry) → entries n policy (at + 4) (entryAt policy at .offset + entryAt policy at .size) (entryAt policy at ∷ earlier) ≡ table ys → Sound policy n ys) →
+        Case (soundEntry policy due earlier (entryAt policy at)) → Sound policy (suc n) xs
+    go ih (isTrue s) =
+        let p = pushed (entryAt policy at) _ xs (rw (s, entries) at e) in
+        let t = ih (p .ys) (p .rest) in
+        subst (Sound policy (suc n)) (p .is) (record { count = ap suc (t .count); parts = (sound-of policy due earlier (entryAt policy at) s .ends, t .parts) })
+    go ih (isFalse s) = impossible (let f : noTable badTable ≡ table xs = rw (s, entries) at e in cc)
+
+pub record SoundTable (policy : List ℕ) (xs : List Entry) : Type 0 where
+  pub header : Header policy
+  pub count : length xs ≡ getD policy 1 0
+  pub parts : All (λ x. x .offset + x .size ≤ length policy) xs
+
+pub table-sound : (policy : List ℕ) (xs : List Entry) → readTable policy ≡ table xs → SoundTable policy xs
+unfolding readTable
+table-sound policy xs e = go (split (soundHeader policy))
+  where
+    go : Case (soundHeader policy) → SoundTable policy xs
+    go (isTrue h) =
+        let t = entries-sound (getD policy 1 0) policy 2 (2 + 4 * getD policy 1 0) [] xs (rw (h, readTable) at e) in
+        record { header = header-of policy h; count = t .count; parts = t .parts }
+    go (isFalse h) = impossible (let f : noTable badHeader ≡ table xs = rw (h, readTable) at e in cc)
+
+-- ---- parts
+
+pub entry-in : (n : ℕ) (policy : List ℕ) (at d : ℕ) → d < n → getD (entriesFrom n policy at) d noEntry ≡ entryAt policy (at + 4 * d)
+unfolding entriesFrom
+entry-in zero policy at d h = absurd (omega arith)
+entry-in (suc n) policy at zero h = ap (entryAt policy) (let e : at ≡ at + 4 * 0 = omega arith in e)
+entry-in (suc n) policy at (suc d) h = entry-in n policy (at + 4) d (omega arith) ∙ ap (entryAt policy) (let e : at + 4 + 4 * d ≡ at + 4 * suc d = omega arith in e)
+
+pub length-entries : (n : ℕ) (policy : List ℕ) (at : ℕ) → length (entriesFrom n policy at) ≡ n
+unfolding entriesFrom
+length-entries zero policy at = refl
+length-entries (suc n) policy at = ap suc (length-entries n policy (at + 4))
+
+pub place-none : (policy : List ℕ) (number n : ℕ) → noTable n ≡ readTable policy → inPolicy 0 0 ≡ placeOf policy number
+unfolding placeOf nowhere
+place-none policy number n e = rw (← e, placeOf)
+
+module _ (policy : List ℕ) (number count : ℕ) (sound : table (entriesFrom count policy 2) ≡ readTable policy) where
+  pub place-query : number ≡ 16 → wholeQuery ≡ placeOf policy number
+  unfolding placeOf placeAmong
+  place-query q = rw (← sound, placeOf) (rw (eq-eqb number 16 q, placeAmong))
+
+  module _ (other : number ≡ 16 → ⊥) where
+    pub place-past : count ≤ number → inPolicy 0 0 ≡ placeOf policy number
+    unfolding placeOf placeAmong nowhere
+    place-past h = rw (← sound, placeOf) (rw (ne-eqb number 16 other, le-ltb number (length (entriesFrom count policy 2)) (omega (arith, length-entries count policy 2)), placeAmong))
+
+    pub place-entry : number < count → inPolicy (getD policy (2 + 4 * number + 2) 0) (getD policy (2 + 4 * number + 3) 0) ≡ placeOf policy number
+    unfolding placeOf placeAmong entryAt
+    place-entry h =
+        let x : getD (entriesFrom count policy 2) number noEntry ≡ entryAt policy (2 + 4 * number) = entry-in count policy 2 number h in
+        rw (← sound, placeOf) (rw (ne-eqb number 16 other, lt-ltb number (length (entriesFrom count policy 2)) (omega (arith, length-entries count policy 2)), placeAmong)
+        (ap (λ (y : Entry). inPolicy (y .offset) (y .size)) (sym x)))
+
+-- a part lies inside the policy
+in-policy : (a b c d : ℕ) → inPolicy a b ≡ inPolicy c d → (a ≡ c) × (b ≡ d)
+in-policy a b c d e = (cc, cc)
+
+pub place-inside : (policy : List ℕ) (number start size : ℕ) → inPolicy start size ≡ placeOf policy number → start + size ≤ length policy
+unfolding placeOf placeAmong nowhere
+place-inside policy number start size e = go (readTable policy) refl (split (eqb number 16))
+  where
+    go : (t : Table) → readTable policy ≡ t → Case (eqb number 16) → start + size ≤ length policy
+    go (noTable n) f b =
+        let g : inPolicy start size ≡ inPolicy 0 0 = rw (f, placeOf) at e in
+        let z = in-policy start size 0 0 g in
+        let z₀ = z .0 in
+        let z₁ = z .1 in
+        omega arith
+    go (table xs) f (isTrue b) = impossible (let g : inPolicy start size ≡ wholeQuery = rw (b, placeAmong) at (rw (f, placeOf) at e) in cc)
+    go (table xs) f (isFalse b) = pick (split (ltb number (length xs)))
+      where
+        pick : Case (ltb number (length xs)) → start + size ≤ length policy
+        pick (isTrue l) =
+            let g : inPolicy start size ≡ inPolicy (getD xs number noEntry .offset) (getD xs number noEntry .size) = rw (b, l, placeAmong) at (rw (f, placeOf) at e) in
+            let z = in-policy start size _ _ g in
+            let z₀ = z .0 in
+            let z₁ = z .1 in
+            let p = all-at (λ x. x .offset + x .size ≤ length policy) xs (table-sound policy xs f .parts) number noEntry (ltb-true number (length xs) l) in
+            omega arith
+        pick (isFalse l) =
+            let g : inPolicy start size ≡ inPolicy 0 0 = rw (b, l, placeAmong) at (rw (f, placeOf) at e) in
+            let z = in-policy start size 0 0 g in
+            let z₀ = z .0 in
+            let z₁ = z .1 in
+            omega arith
+
+-- the words of a part
+pub query-part : (policy query : List ℕ) (number : ℕ) → wholeQuery ≡ placeOf policy number → query ≡ partWords policy query number
+unfolding partWords wordsAt
+query-part policy query number e = ap (wordsAt policy query) e
+
+pub policy-part : (policy query : List ℕ) (number start size : ℕ) → inPolicy start size ≡ placeOf policy number → take (start + size - start) (drop start policy) ≡ partWords policy query number
+unfolding partWords wordsAt
+policy-part policy query number start size e =
+    ap (λ (n : ℕ). take n (drop start policy)) (let m : start + size - start ≡ size = omega arith in m) ∙ ap (wordsAt policy query) e
+
+-- definition d's part is its entry's words
+pub definition-part : (policy query : List ℕ) (xs : List Entry) (d : ℕ) → readTable policy ≡ table xs → d < length xs → partWords policy query d ≡ entryWords policy (getD xs d noEntry)
+unfolding partWords placeOf placeAmong wordsAt entryWords
+definition-part policy query xs d e h =
+    let t = table-sound policy xs e in
+    let few = t .header .count in
+    let count = t .count in
+    rw (e, placeOf) (rw (ne-eqb d 16 (λ q. omega arith), lt-ltb d (length xs) h, placeAmong))
+
+-- a table in hand
+pub table-refused : (policy : List ℕ) (r : TableRead) (n : ℕ) → tableIs policy r ≡ readTable policy → r ≡ tableRead.Refused n → noTable n ≡ readTable policy
+unfolding tableIs
+table-refused policy r n e is = ap (tableIs policy) (sym is) ∙ e
+
+pub table-read : (policy : List ℕ) (r : TableRead) (n : ℕ) → tableIs policy r ≡ readTable policy → r ≡ tableRead.Sound n → table (entriesFrom n policy 2) ≡ readTable policy
+unfolding tableIs
+table-read policy r n e is = ap (tableIs policy) (sym is) ∙ e
+
+-- a place in hand
+pub place-held : (p : Part.Place) (r : Held.Place) (start size : ℕ) → placeIs r ≡ p → r ≡ place.InPolicy start size → inPolicy start size ≡ p
+unfolding placeIs
+place-held p r start size e is = ap placeIs (sym is) ∙ e
+
+pub query-held : (p : Part.Place) (r : Held.Place) → placeIs r ≡ p → r ≡ place.WholeQuery → wholeQuery ≡ p
+unfolding placeIs
+query-held p r e is = ap placeIs (sym is) ∙ e
+
+pub table-whole : (policy : List ℕ) (n : ℕ) → table (entriesFrom n policy 2) ≡ readTable policy → 2 + 4 * n ≤ length policy
+table-whole policy n e =
+    let t = table-sound policy (entriesFrom n policy 2) (sym e) in
+    let c = t .count in
+    let l = length-entries n policy 2 in
+    let f = t .header .fits in
+    omega arith
