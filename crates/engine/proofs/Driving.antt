@@ -20,11 +20,11 @@ use Rattle.table.proofs.PartAnswers.{table-sound, definition-part}
 use Rattle.policy.proofs.Judging.{AcceptedDefinition, Accepted, none, one, check-accepted}
 use Rattle.meaning.specs.Evidence.{Evidence}
 use Rattle.meaning.specs.Reading.{done, refused, read}
-use Rattle.leaves.specs.Areas.{Filled, setsIn}
+use Rattle.values.specs.Answers.{Filled, setAnswer, IfDone}
+use Rattle.leaves.specs.Areas.{setsIn}
 use Rattle.reading.specs.Readers.{From, AskWhole, SayWhole}
-use Rattle.leaves.specs.Leaves.{setAnswer, IfDone}
-use Rattle.leaves.specs.declared.values.Read.{Read}
-use Rattle.leaves.specs.declared.values.Read.the-variants as read
+use Rattle.values.specs.declared.Read.{Read}
+use Rattle.values.specs.declared.Read.the-variants as read
 use Rattle.demands.specs.Query.{Outcome, answered, declined, readFrom, answerArea}
 use Rattle.engine.specs.Reply.{replyTo}
 use Rattle.engine.specs.declared.Progress.{Progress}

@@ -12,10 +12,12 @@ use borrow.Rule.Slice.PartMut.{putMid}
 use Rattle.rows.specs.Sets.{RowSet}
 use Rattle.rows.specs.Layout.{setRoom, setIn, setWords, put, written}
 use Rattle.rows.proofs.Case.{Case, isTrue, isFalse, split}
-use Rattle.leaves.specs.Areas.{Filled, setsIn}
+use Rattle.values.specs.Answers.{Filled}
+use Rattle.leaves.specs.Areas.{setsIn}
 use Rattle.sets.proofs.Front.{SameFront, set-same}
 use Rattle.sets.proofs.Standing.{Stands, set-fits, copied-stands}
-use Rattle.leaves.proofs.Areas.{lies, filled-same}
+use Rattle.values.proofs.Answers.{lies}
+use Rattle.leaves.proofs.Areas.{filled-same}
 use Rattle.engine.specs.Steps.{Placed}
 
 drop-split : (l k : ℕ) (ys : List ℕ) → l ≤ k → k ≤ length ys → drop l (take k ys) ++ drop k ys ≡ drop l ys

@@ -11,7 +11,8 @@ use Rattle.policy.specs.Syntax.{Expr}
 use Rattle.policy.specs.Polarity.{Verdict, verdictWord}
 use Rattle.policy.specs.Judgement.{checked, check}
 use Rattle.meaning.specs.Evidence.{Evidence, namesHeld}
-use Rattle.leaves.specs.Areas.{Filled, setsIn}
+use Rattle.values.specs.Answers.{Filled}
+use Rattle.leaves.specs.Areas.{setsIn}
 use Rattle.demands.specs.Query.{Outcome, answered, declined, readFrom, definitionRoom, scratchRoom, answerArea}
 use Rattle.engine.specs.Reply.{replyTo}
 use Rattle.engine.specs.declared.Reply.{Reply}

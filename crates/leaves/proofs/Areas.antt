@@ -8,12 +8,11 @@ use lib.Seq.{take-all, drop-at, length-take-le, take-take, getD-take, getD-drop,
 use borrow.Rule.Slice.PartMut.{putMid, take-put}
 use Rattle.rows.specs.Sets.{RowSet, only}
 use Rattle.rows.specs.Layout.{setWords, written, rowsIn, formed, setIn}
-use Rattle.rows.proofs.LayoutLaws.{formed-listing, formed-word}
 use Rattle.rows.proofs.Put.{put-after}
 use Rattle.sets.proofs.Laid.{written-put}
 use Rattle.sets.proofs.Front.{SameFront, word-same, sound-same}
-use Rattle.sets.proofs.Standing.{Stands, stands-rows, stands-form, cleared-stands}
-use Rattle.leaves.specs.Areas.{Filled, Gathering, Empty, Kept, setsIn}
+use Rattle.values.specs.Answers.{Filled}
+use Rattle.leaves.specs.Areas.{Gathering, Kept, setsIn}
 
 -- ---- a set lies at the front
 
@@ -23,15 +22,6 @@ module _ {a b : List ℕ} (e : SameFront a b) where
 
   pub gathering-same : Gathering a → Gathering b
   gathering-same g = record { filled = filled-same (g .filled); finite = word-same e 0 (omega arith) ∙ g .finite }
-
-pub lies : {S : RowSet} {area : List ℕ} → Stands S area → Filled area
-lies s = record { long = s .long; sound = s .sound }
-
--- a set that is started
-pub cleared : {form : ℕ} (area : List ℕ) {now : List ℕ} → 642 ≤ length area → form ≤ 1 → now ≡ written (formed form []) area → Empty form now
-cleared {form} area long h e =
-    let s = cleared-stands form area long e in
-    record { filled = lies s; is = stands-form s ∙ formed-word form [] h; none = stands-rows s ∙ formed-listing form [] }
 
 pub finite-set : (ws : List ℕ) → getD ws 0 0 ≡ 0 → setIn ws ≡ only (rowsIn ws)
 unfolding setIn formed

@@ -12,11 +12,10 @@ use Rattle.algebra.specs.Combined.{Combined}
 use Rattle.sets.proofs.Standing.{Fit, sound-fit}
 use Rattle.algebra.proofs.Standing.{unite-fit, subtract-fit, combined-stands}
 use Rattle.meaning.specs.Reading.{done}
-use Rattle.leaves.specs.Areas.{Filled}
-use Rattle.leaves.specs.Leaves.{setAnswer, IfDone, combined, SayCombined}
-use Rattle.leaves.proofs.Areas.{lies}
-use Rattle.leaves.proofs.Literals.{small-few, small-many}
-use Rattle.leaves.specs.declared.values.Read.the-variants.{Done, Refused}
+use Rattle.values.specs.Answers.{Filled, setAnswer, IfDone}
+use Rattle.leaves.specs.Leaves.{combined, SayCombined}
+use Rattle.values.proofs.Answers.{lies, small-few, small-many}
+use Rattle.values.specs.declared.Read.the-variants.{Done, Refused}
 
 module _ {area : List ℕ} (left : Filled area) (right : Filled (drop 642 area)) where
   pub two-rooms : 1284 ≤ length area

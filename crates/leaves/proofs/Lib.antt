@@ -1,9 +1,5 @@
-pub mod Places
-pub mod Held
-pub mod Past
 pub mod Areas
 pub mod Match
-pub mod Rows
+pub mod Inserting
 pub mod Literals
-pub mod Named
 pub mod Combined

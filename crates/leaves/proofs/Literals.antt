@@ -6,10 +6,8 @@ use mathlib.Core.Bool.{true}
 use mathlib.Core.List.{List, [], _∷_, map}
 use native.Mathlib.Omega.{arith}
 use lib.ListN.{length, take, drop, getD}
-use borrow.Author.Tests.{le-leb, lt-leb}
 use Rattle.rows.specs.Ordered.{_∈_, insert, join}
 use Rattle.rows.specs.Row.{Row, rowBefore}
-use Rattle.rows.specs.Sets.{RowSet, listing}
 use Rattle.rows.specs.Layout.{rowsIn, formed, setIn, soundSet, written}
 use Rattle.sets.specs.Values as held
 use Rattle.sets.specs.declared.row.Row as Held-row
@@ -22,25 +20,17 @@ use Rattle.sets.proofs.SetWords.{sound-ascending}
 use Rattle.sets.proofs.Standing.{copied-stands}
 use Rattle.policy.specs.Syntax.{Term}
 use Rattle.meaning.specs.Values.{Values, rowOf}
-use Rattle.meaning.specs.Reading.{done, refused, small, rowsOf}
-use Rattle.leaves.specs.Values.{valuesOf}
-use Rattle.leaves.specs.Places.{SomeRow, SomeRows, PastRow}
-use Rattle.leaves.specs.Areas.{Filled, Empty}
-use Rattle.leaves.specs.Leaves.{SayRow, SayRows, SayDefinition}
-use Rattle.leaves.proofs.Past.{RowsLeft, RowsNext, rows-inside, rows-next, rows-none}
-use Rattle.leaves.proofs.Areas.{lies, sets-at, part-whole}
-use Rattle.leaves.proofs.Rows.{Listed}
-use Rattle.leaves.specs.declared.values.Env.{Env}
-
--- ---- a set that is small, and one that is not
-
-pub small-few : (s : RowSet) (k : ℕ) → length (listing s) ≤ 128 → small s k ≡ done s k
-unfolding small
-small-few s k h = rw (le-leb (length (listing s)) 128 h, small)
-
-pub small-many : (s : RowSet) (k : ℕ) → 128 < length (listing s) → small s k ≡ refused 13
-unfolding small
-small-many s k h = rw (lt-leb (length (listing s)) 128 h, small)
+use Rattle.meaning.specs.Reading.{small, rowsOf}
+use Rattle.values.specs.Values.{valuesOf}
+use Rattle.values.specs.Places.{SomeRow, SomeRows, PastRow}
+use Rattle.values.specs.Rows.{SayRow}
+use Rattle.values.specs.Answers.{Filled, Empty}
+use Rattle.leaves.specs.Leaves.{SayRows, SayDefinition}
+use Rattle.values.proofs.Past.{RowsLeft, RowsNext, rows-inside, rows-next, rows-none}
+use Rattle.values.proofs.Answers.{lies, small-few}
+use Rattle.leaves.proofs.Areas.{sets-at, part-whole}
+use Rattle.leaves.proofs.Inserting.{Listed}
+use Rattle.values.specs.declared.Env.{Env}
 
 -- ---- inserts commute, so the rows may go in from the first to the last
 

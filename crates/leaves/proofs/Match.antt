@@ -18,14 +18,14 @@ use Rattle.policy.specs.Syntax.{Term, Slot, old, new}
 use Rattle.policy.specs.Words.{termWords, slotWords, fresh}
 use Rattle.meaning.specs.Values.{Values, value}
 use Rattle.meaning.specs.Reading.{match}
-use Rattle.leaves.specs.Values.{valuesOf, termOf, termHeld, slotHeld}
-use Rattle.leaves.specs.Places.{At, StandsPattern, SomePattern, IsSlot}
+use Rattle.values.specs.Values.{valuesOf, termOf, termHeld, slotHeld}
+use Rattle.values.specs.Places.{At, StandsPattern, SomePattern, IsSlot}
 use Rattle.leaves.specs.Leaves.{matchedAs, SayMatch}
-use Rattle.leaves.proofs.Places.{at-word, at-next, at-skip, at-long, term-length, slots-length, slots-scope, pattern-wide}
-use Rattle.leaves.proofs.Held.{held-value}
-use Rattle.leaves.specs.declared.values.Env.{Env}
-use Rattle.leaves.specs.declared.values.Term as Held-term
-use Rattle.leaves.specs.declared.values.Slot.the-variants.{Old, New}
+use Rattle.values.proofs.Places.{at-word, at-next, at-skip, at-long, term-length, slots-length, slots-scope, pattern-wide}
+use Rattle.values.proofs.Held.{held-value}
+use Rattle.values.specs.declared.Env.{Env}
+use Rattle.values.specs.declared.Term as Held-term
+use Rattle.values.specs.declared.Slot.the-variants.{Old, New}
 
 -- a pattern and a row of another width
 match-short : (p : List Slot) (vs : Values) (x : Row) → (length p ≡ length x → ⊥) → match p vs x ≡ none

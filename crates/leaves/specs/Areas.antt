@@ -1,28 +1,17 @@
--- Sets in the area that is lent: where they lie, what stays, and how many of them an expression needs room for.
+-- Sets in the areas that are lent: which lie there, what stays, and how many of them an expression needs room for.
 use Prim.Native.Nat.{ℕ, zero, suc, _≤_, _<_, max}
 use mathlib.Core.Path.{_≡_}
-use mathlib.Core.Bool.{true}
 use mathlib.Core.List.{List, [], _∷_}
-use lib.ListN.{length, getD, drop}
+use lib.ListN.{getD, drop}
 use Rattle.rows.specs.Sets.{RowSet}
-use Rattle.rows.specs.Layout.{setRoom, rowsIn, formed, setIn, soundSet}
+use Rattle.rows.specs.Layout.{setRoom, rowsIn, formed, setIn}
 use Rattle.policy.specs.Syntax.{Expr, finite, cofinite, definition, listed, union, difference, comprehension, Body, head, draw, same, different, absent}
+use Rattle.values.specs.Answers.{Filled}
 
--- a set lies at the area's front, with room for any other
-pub record Filled (area : List ℕ) : Type 0 where
-  pub long : setRoom ≤ length area
-  pub sound : soundSet area ≡ true
-
--- so does the set of a comprehension while its rows are gathered: it is finite
+-- the set of a comprehension while its rows are gathered lies at the front: it is finite
 pub record Gathering (area : List ℕ) : Type 0 where
   pub filled : Filled area
   pub finite : getD area 0 0 ≡ 0
-
--- a set with this form and no rows
-pub record Empty (form : ℕ) (area : List ℕ) : Type 0 where
-  pub filled : Filled area
-  pub is : getD area 0 0 ≡ form
-  pub none : rowsIn area ≡ []
 
 -- the words behind the first set, up to `free`, are as they were
 pub record Kept (free : ℕ) (before after : List ℕ) : Type 0 where

@@ -1,4 +1,2 @@
-pub mod Places
 pub mod Areas
-pub mod Values
 pub mod Leaves

@@ -1,24 +1,12 @@
 // What the readers do in one step: rows and sets in the area, without reading an expression inside another.
-pub mod names;
-pub mod skip;
-pub mod values;
-
-ghost use Prim.Native.Nat.{ℕ, _+_, _*_, _≤_, _<_};
+ghost use Prim.Native.Nat.{ℕ, _*_, _≤_, _<_};
 ghost use lib.ListN.{length, drop};
 ghost use Rattle.rows.specs.Layout.{setRoom};
 ghost use Rattle.sets.specs.Values.{rowOf};
-ghost use Rattle.leaves.specs.Places.{SomeRow, SomeRows, SomePattern};
-ghost use Rattle.leaves.specs.Areas.{Filled, Gathering};
-ghost use Rattle.leaves.specs.Leaves.{SayRow, SayRows, SayDefinition, SayCombined, SayHead, SayMatch, SayHas};
-use crate::skip::skip_row;
-use crate::values::Env;
-use crate::values::Matched;
-use crate::values::Read;
-use crate::values::Slot;
-use crate::values::slot_at;
-use crate::values::term_at;
-use crate::values::value_of;
-use crate::values::with_value;
+ghost use Rattle.values.specs.Places.{SomeRow, SomeRows, SomePattern};
+ghost use Rattle.values.specs.Answers.{Filled};
+ghost use Rattle.leaves.specs.Areas.{Gathering};
+ghost use Rattle.leaves.specs.Leaves.{SayRows, SayDefinition, SayCombined, SayHead, SayMatch, SayHas};
 use algebra::subtract;
 use algebra::unite;
 use refusals::TOO_MANY_ROWS;
@@ -30,26 +18,15 @@ use sets::set::clear;
 use sets::set::copy;
 use sets::set::has;
 use sets::set::insert;
-
-// The row that the terms come to.
-fn row_of(words: &[u32], at: usize, env: Env) -> Row
-    requires { ⌜ (env .count ≤ 16) × SomeRow (now words) at ⌝ }
-    ensures { λ r. ⌜ SayRow (now (words .entry)) at env r ⌝ }
-{
-    let width = words[at];
-    let end = wide(width);
-    let mut atoms = [0u32; 4];
-    let mut j: usize = 0;
-    while j < end {
-        let term = term_at(words, at + 1 + 2 * j);
-        atoms[j] = value_of(env, term);
-        j += 1;
-    }
-    Row {
-        width: width,
-        atoms: atoms,
-    }
-}
+use values::Env;
+use values::Matched;
+use values::Read;
+use values::Slot;
+use values::row_of;
+use values::skip::skip_row;
+use values::slot_at;
+use values::value_of;
+use values::with_value;
 
 // The rows written there, in a set of this form: no more than a set lists, so there is room for each.
 pub fn read_rows(words: &[u32], at: usize, form: u32, env: Env, area: &mut [u32])

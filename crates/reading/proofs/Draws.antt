@@ -23,21 +23,22 @@ use Rattle.policy.specs.Syntax.{Slot, Body}
 use Rattle.policy.specs.Words.{fresh}
 use Rattle.meaning.specs.Values.{Values}
 use Rattle.meaning.specs.Reading.{Answer, done, refused, Reading, after, drawable, tick, match, onMatch, drawEach, read}
-use Rattle.leaves.specs.Values.{valuesOf}
-use Rattle.leaves.specs.Places.{StandsPattern, StandsBody, SomeExpr, SomePattern, PastExpr, PastPattern}
+use Rattle.values.specs.Values.{valuesOf}
+use Rattle.values.specs.Places.{StandsPattern, StandsBody, SomeExpr, SomePattern, PastExpr, PastPattern}
+use Rattle.values.specs.Answers.{IfDone}
 use Rattle.leaves.specs.Areas.{Gathering, Kept}
-use Rattle.leaves.specs.Leaves.{rowsAnswer, IfDone, matchedAs, SayMatch}
+use Rattle.leaves.specs.Leaves.{rowsAnswer, matchedAs, SayMatch}
 use Rattle.reading.specs.Readers.{From, gathering, MeansBody, MeansEach, AskExpr, AskBody, AskDraw, AskEach, SayExpr, SayBody, SayDraw, SayEach}
-use Rattle.leaves.proofs.Places.{expr-some, inside, slots-scope}
-use Rattle.leaves.proofs.Past.{pattern-here, rest-is, rest-here}
+use Rattle.values.proofs.Places.{expr-some, inside, slots-scope}
+use Rattle.values.proofs.Past.{pattern-here, rest-is, rest-here}
 use Rattle.sets.proofs.Front.{SameFront, rows-same, word-same}
 use Rattle.leaves.proofs.Areas.{filled-same, gathering-same, finite-set, kept-self, kept-less, kept-then, kept-part, givenBack, back-kept, part-length}
 use Rattle.reading.proofs.Exprs.{after-done, after-refused, refused-means, some-room}
 use Rattle.reading.proofs.Guards.{Operand, operand, operand-rows}
-use Rattle.leaves.specs.declared.values.Env.{Env}
-use Rattle.leaves.specs.declared.values.Matched.{Matched}
-use Rattle.leaves.specs.declared.values.Read.{Read}
-use Rattle.leaves.specs.declared.values.Read.the-variants.{Done, Refused}
+use Rattle.values.specs.declared.Env.{Env}
+use Rattle.values.specs.declared.Matched.{Matched}
+use Rattle.values.specs.declared.Read.{Read}
+use Rattle.values.specs.declared.Read.the-variants.{Done, Refused}
 
 -- ---- one draw
 

@@ -10,18 +10,20 @@ use Rattle.rows.specs.Sets.{RowSet, only}
 use Rattle.rows.specs.Layout.{formed, setIn}
 use Rattle.policy.specs.Syntax.{Expr, finite, cofinite, definition, listed, union, difference, comprehension}
 use Rattle.meaning.specs.Reading.{Answer, done, refused, Reading, after, small, read}
-use Rattle.leaves.specs.Values.{valuesOf}
-use Rattle.leaves.specs.Places.{Stands, SomeExpr, PastExpr}
-use Rattle.leaves.specs.Areas.{Filled, Gathering, Empty, setsIn, roomOf}
-use Rattle.leaves.specs.Leaves.{setAnswer, rowsAnswer, IfDone, combined, SayRows, SayDefinition, SayName, SayCombined}
+use Rattle.values.specs.Values.{valuesOf}
+use Rattle.values.specs.Places.{Stands, SomeExpr, PastExpr}
+use Rattle.values.specs.Answers.{Filled, Empty, setAnswer, IfDone}
+use Rattle.names.specs.Names.{SayName}
+use Rattle.leaves.specs.Areas.{Gathering, setsIn, roomOf}
+use Rattle.leaves.specs.Leaves.{rowsAnswer, combined, SayRows, SayDefinition, SayCombined}
 use Rattle.reading.specs.Readers.{From, reading, gathering, Means, AskExpr, AskTwo, AskBody, SayExpr, SayTwo, SayBody}
-use Rattle.leaves.proofs.Places.{on-finite, on-cofinite, on-definition, on-listed, on-union, on-difference, on-comprehension, in-finite, in-cofinite, in-definition, in-listed, in-union, in-difference, in-comprehension, code-here, expr-some}
-use Rattle.leaves.proofs.Past.{right-here, last-code}
+use Rattle.values.proofs.Places.{on-finite, on-cofinite, on-definition, on-listed, on-union, on-difference, on-comprehension, in-finite, in-cofinite, in-definition, in-listed, in-union, in-difference, in-comprehension, code-here, expr-some}
+use Rattle.values.proofs.Past.{right-here, last-code}
 use Rattle.sets.proofs.Front.{SameFront, set-same}
 use Rattle.leaves.proofs.Areas.{filled-same, finite-set, givenBack, back-part, back-front, part-length}
-use Rattle.leaves.specs.declared.values.Env.{Env}
-use Rattle.leaves.specs.declared.values.Read.{Read}
-use Rattle.leaves.specs.declared.values.Read.the-variants.{Done, Refused}
+use Rattle.values.specs.declared.Env.{Env}
+use Rattle.values.specs.declared.Read.{Read}
+use Rattle.values.specs.declared.Read.the-variants.{Done, Refused}
 
 -- ---- readings one after the other
 

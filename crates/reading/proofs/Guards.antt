@@ -19,25 +19,27 @@ use Rattle.meaning.specs.Values.{value, rowOf}
 use Rattle.meaning.specs.Evidence.{namesHeld}
 use Rattle.meaning.specs.Reading.{Answer, done, refused, Reading, after, small, read}
 use Rattle.meaning.proofs.Steps.{either}
-use Rattle.leaves.specs.Values.{valuesOf, passing}
-use Rattle.leaves.specs.Places.{Stands, StandsBody, StandsAbsent, SomeRow, SomeName, SomeExpr, SomeGuard, PastRow, PastExpr, IsGuard}
-use Rattle.leaves.specs.Areas.{Filled, Gathering, Kept, roomOf, bodyRoom}
-use Rattle.leaves.specs.Leaves.{rowsAnswer, IfDone, belongsAnswer, SayHead, SayHas, SayBelongs}
+use Rattle.values.specs.Values.{valuesOf, passing}
+use Rattle.values.specs.Places.{Stands, StandsBody, StandsAbsent, SomeRow, SomeName, SomeExpr, SomeGuard, PastRow, PastExpr, IsGuard}
+use Rattle.values.specs.Answers.{Filled, IfDone}
+use Rattle.names.specs.Names.{belongsAnswer, SayBelongs}
+use Rattle.leaves.specs.Areas.{Gathering, Kept, roomOf, bodyRoom}
+use Rattle.leaves.specs.Leaves.{rowsAnswer, SayHead, SayHas}
 use Rattle.reading.specs.Readers.{From, gathering, Means, AskExpr, AskBody, AskDraw, AskAbsent, AskNamed, SayExpr, SayBody, SayDraw, SayAbsent}
-use Rattle.leaves.proofs.Places.{on-listed, in-listed, on-head, on-draw, on-same, on-different, on-absent, in-head, in-draw, in-same, in-different, in-absent, expr-some, inside, row-length}
-use Rattle.leaves.proofs.Held.{held-value, same-passes, different-passes}
-use Rattle.leaves.proofs.Past.{some-name, name-inside, past-name, operand-here, over-is, over-here}
+use Rattle.values.proofs.Places.{on-listed, in-listed, on-head, on-draw, on-same, on-different, on-absent, in-head, in-draw, in-same, in-different, in-absent, expr-some, inside, row-length}
+use Rattle.values.proofs.Held.{held-value, same-passes, different-passes}
+use Rattle.values.proofs.Past.{some-name, name-inside, past-name, operand-here, over-is, over-here}
 use Rattle.sets.proofs.Front.{SameFront, rows-same}
 use Rattle.leaves.proofs.Areas.{gathering-same, kept-self, kept-then, givenBack, back-length, back-part, back-front, back-kept, part-length, part-whole}
 use Rattle.reading.proofs.Exprs.{after-done, after-refused, done-means, refused-means, done-filled, some-room}
-use Rattle.leaves.specs.declared.values.Belongs as Belongs
-use Rattle.leaves.specs.declared.values.Env.{Env}
-use Rattle.leaves.specs.declared.values.Read.{Read}
-use Rattle.leaves.specs.declared.values.Read.the-variants.{Done, Refused}
-use Rattle.leaves.specs.declared.values.Term as Held-term
-use Rattle.leaves.specs.declared.values.Guard as Held-guard
-use Rattle.leaves.specs.declared.values.Guard.the-variants.{Draw, Same, Different, Absent}
-use Rattle.leaves.proofs.values.Guard.{the-type}
+use Rattle.values.specs.declared.Belongs as Belongs
+use Rattle.values.specs.declared.Env.{Env}
+use Rattle.values.specs.declared.Read.{Read}
+use Rattle.values.specs.declared.Read.the-variants.{Done, Refused}
+use Rattle.values.specs.declared.Term as Held-term
+use Rattle.values.specs.declared.Guard as Held-guard
+use Rattle.values.specs.declared.Guard.the-variants.{Draw, Same, Different, Absent}
+use Rattle.values.proofs.Guard.{the-type}
 
 -- ---- a step that is one of two
 

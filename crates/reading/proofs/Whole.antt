@@ -8,11 +8,11 @@ use Rattle.policy.specs.Words.{exprWords}
 use Rattle.policy.specs.WellFormed.{depth, bodyDepth, drawCount, bodyDraws}
 use Rattle.policy.specs.Decode.{parse, parsed}
 use Rattle.policy.proofs.Decoding.{parse-words, parse-fits}
-use Rattle.leaves.specs.Values.{valuesOf}
-use Rattle.leaves.specs.Places.{Stands}
+use Rattle.values.specs.Values.{valuesOf}
+use Rattle.values.specs.Places.{Stands}
 use Rattle.leaves.specs.Areas.{roomOf, bodyRoom}
 use Rattle.reading.specs.Readers.{From, AskExpr, SayExpr, AskWhole, SayWhole}
-use Rattle.leaves.specs.declared.values.Read.{Read}
+use Rattle.values.specs.declared.Read.{Read}
 
 -- each level and each draw adds one set at most
 mutual

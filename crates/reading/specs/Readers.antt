@@ -14,12 +14,13 @@ use Rattle.policy.specs.Decode.{parse, parsed}
 use Rattle.meaning.specs.Values.{Values}
 use Rattle.meaning.specs.Evidence.{namesHeld}
 use Rattle.meaning.specs.Reading.{Answer, Reading, after, small, drawEach, read, gather}
-use Rattle.leaves.specs.Values.{valuesOf}
-use Rattle.leaves.specs.Places.{Stands, StandsPattern, StandsBody, StandsTwo, StandsDraw, StandsAbsent, PastRow}
-use Rattle.leaves.specs.Leaves.{setAnswer, rowsAnswer, IfDone, combined}
-use Rattle.leaves.specs.Areas.{Filled, Gathering, Kept, setsIn, roomOf, bodyRoom}
-use Rattle.leaves.specs.declared.values.Env.{Env}
-use Rattle.leaves.specs.declared.values.Read.{Read}
+use Rattle.values.specs.Values.{valuesOf}
+use Rattle.values.specs.Places.{Stands, StandsPattern, StandsBody, StandsTwo, StandsDraw, StandsAbsent, PastRow}
+use Rattle.values.specs.Answers.{Filled, setAnswer, IfDone}
+use Rattle.leaves.specs.Areas.{Gathering, Kept, setsIn, roomOf, bodyRoom}
+use Rattle.leaves.specs.Leaves.{rowsAnswer, combined}
+use Rattle.values.specs.declared.Env.{Env}
+use Rattle.values.specs.declared.Read.{Read}
 
 -- ---- what is read from besides the words: the store, and the sets of the definitions known
 

@@ -1,4 +1,4 @@
-use Rattle.leaves.proofs.Rows.{says-has}
+use Rattle.leaves.proofs.Inserting.{says-has}
 use Rattle.leaves.proofs.has_row.Statement.{statement}
 use Rattle.leaves.proofs.has_row.Tie as tie
 

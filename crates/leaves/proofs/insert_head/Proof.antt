@@ -1,7 +1,7 @@
 use mathlib.Core.Path.{_≡_}
 use lib.ListN.{length}
 use borrow.Author.Needs.{needs}
-use Rattle.leaves.proofs.Rows.{row-is-wide, known-listed, new-listed, full-no-room, head-listed, head-no-room}
+use Rattle.leaves.proofs.Inserting.{row-is-wide, known-listed, new-listed, full-no-room, head-listed, head-no-room}
 use Rattle.leaves.proofs.insert_head.Statement.{statement}
 use Rattle.leaves.proofs.insert_head.Tie as tie
 

@@ -5,8 +5,8 @@ use native.Mathlib.Omega.{arith}
 use lib.ListN.{length, getD}
 use borrow.Author.Needs.{needs}
 use Rattle.sets.specs.Values.{rowOf}
-use Rattle.leaves.proofs.Places.{pattern-width}
-use Rattle.leaves.proofs.Held.{slot-told}
+use Rattle.values.proofs.Places.{pattern-width}
+use Rattle.values.proofs.Held.{slot-told}
 use Rattle.leaves.proofs.Match.{Matching, other-width, matching-start, slot-inside, new-scope, same-width, matching-new, matching-old, matched, mismatched}
 use Rattle.leaves.proofs.match_row.Statement.{statement}
 use Rattle.leaves.proofs.match_row.Tie as tie

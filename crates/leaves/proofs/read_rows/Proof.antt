@@ -4,9 +4,9 @@ use mathlib.Core.Path.{_≡_, refl, _∙_}
 use native.Mathlib.Omega.{arith}
 use lib.ListN.{length}
 use borrow.Author.Needs.{needs}
-use Rattle.leaves.proofs.Past.{literal-inside}
-use Rattle.leaves.proofs.Areas.{cleared}
-use Rattle.leaves.proofs.Rows.{row-is-wide, listed}
+use Rattle.values.proofs.Past.{literal-inside}
+use Rattle.values.proofs.Answers.{cleared}
+use Rattle.leaves.proofs.Inserting.{row-is-wide, listed}
 use Rattle.leaves.proofs.Literals.{Filling, literal-few, filling-start, filling-row, filling-next, filling-end}
 use Rattle.leaves.proofs.read_rows.Statement.{statement}
 use Rattle.leaves.proofs.read_rows.Tie as tie

@@ -2,9 +2,9 @@
 use Prim.Native.Nat.{ℕ}
 use mathlib.Core.Path.{sym, subst}
 use native.Mathlib.Omega.{arith}
-use Rattle.leaves.specs.Areas.{Filled}
+use Rattle.values.specs.Answers.{Filled}
 use Rattle.leaves.proofs.Areas.{gathering-same, part-whole}
-use Rattle.leaves.proofs.Places.{inside}
+use Rattle.values.proofs.Places.{inside}
 use Rattle.reading.proofs.Guards.{has-told, absent-row, absent-room, some-inner, inner-later, ask-named, inner-after, ask-inner, absent-operand, absent-rest-after, ask-absent-rest, absent-refused, absent-fails, absent-passes}
 use Rattle.reading.proofs.read_absent.Reads as read-absent
 use Rattle.reading.proofs.+absent_name+draw_rows+read_absent+read_draw+read_expr+read_guards+read_two.Lts-read_absent as read-absent-lts

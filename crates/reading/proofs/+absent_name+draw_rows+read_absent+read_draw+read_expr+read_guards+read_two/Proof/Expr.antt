@@ -1,9 +1,9 @@
 -- The needs of `read_expr`.
 use Prim.Native.Nat.{ℕ}
 use native.Mathlib.Omega.{arith}
-use Rattle.leaves.proofs.Places.{inside, inside-body}
-use Rattle.leaves.proofs.Past.{some-rows, definition-inside, some-name, some-body}
-use Rattle.leaves.proofs.Areas.{cleared}
+use Rattle.values.proofs.Places.{inside, inside-body}
+use Rattle.values.proofs.Past.{some-rows, definition-inside, some-name, some-body}
+use Rattle.values.proofs.Answers.{cleared}
 use Rattle.reading.proofs.Exprs.{some-expr, long, definition-known, ask-union, ask-difference, code-left, ask-guards, say-finite, say-cofinite, say-definition, say-name, say-union, say-difference, say-comprehension}
 use Rattle.reading.proofs.read_expr.Reads as read-expr
 use Rattle.reading.proofs.+absent_name+draw_rows+read_absent+read_draw+read_expr+read_guards+read_two.Lts-read_expr as read-expr-lts

@@ -2,8 +2,8 @@
 use Prim.Native.Nat.{ℕ}
 use mathlib.Core.Path.{sym, _∙_}
 use native.Mathlib.Omega.{arith}
-use Rattle.leaves.proofs.Places.{inside-body}
-use Rattle.leaves.proofs.Held.{guard-told}
+use Rattle.values.proofs.Places.{inside-body}
+use Rattle.values.proofs.Held.{guard-told}
 use Rattle.reading.proofs.Guards.{some-head, some-guard, ask-draw, ask-absent, ask-compared, say-head, say-draw, say-absent, say-passes, say-fails}
 use Rattle.reading.proofs.read_guards.Reads as read-guards
 use Rattle.reading.proofs.+absent_name+draw_rows+read_absent+read_draw+read_expr+read_guards+read_two.Lts-read_guards as read-guards-lts

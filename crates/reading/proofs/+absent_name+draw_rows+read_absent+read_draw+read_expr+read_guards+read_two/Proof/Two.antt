@@ -3,7 +3,7 @@ use Prim.Native.Nat.{ℕ, _≤_}
 use mathlib.Core.List.{List}
 use native.Mathlib.Omega.{arith}
 use lib.ListN.{length}
-use Rattle.leaves.proofs.Places.{inside}
+use Rattle.values.proofs.Places.{inside}
 use Rattle.reading.proofs.Exprs.{some-left, ask-left, ask-right, right-after, say-left-refused, say-right-refused, both-filled, say-combined}
 use Rattle.reading.proofs.read_two.Reads as read-two
 use Rattle.reading.proofs.+absent_name+draw_rows+read_absent+read_draw+read_expr+read_guards+read_two.Lts-read_two as read-two-lts

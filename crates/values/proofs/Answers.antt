@@ -1,0 +1,31 @@
+-- A set at the front of an area, and whether it is small enough to be an answer.
+use Prim.Native.Nat.{ℕ, _≤_, _<_}
+use mathlib.Core.Path.{_≡_, _∙_}
+use mathlib.Core.List.{List, []}
+use lib.ListN.{length}
+use borrow.Author.Tests.{le-leb, lt-leb}
+use Rattle.rows.specs.Sets.{RowSet, listing}
+use Rattle.rows.specs.Layout.{written, formed}
+use Rattle.rows.proofs.LayoutLaws.{formed-listing, formed-word}
+use Rattle.sets.proofs.Standing.{Stands, stands-rows, stands-form, cleared-stands}
+use Rattle.meaning.specs.Reading.{done, refused, small}
+use Rattle.values.specs.Answers.{Filled, Empty}
+
+pub lies : {S : RowSet} {area : List ℕ} → Stands S area → Filled area
+lies s = record { long = s .long; sound = s .sound }
+
+-- a set that is started
+pub cleared : {form : ℕ} (area : List ℕ) {now : List ℕ} → 642 ≤ length area → form ≤ 1 → now ≡ written (formed form []) area → Empty form now
+cleared {form} area long h e =
+    let s = cleared-stands form area long e in
+    record { filled = lies s; is = stands-form s ∙ formed-word form [] h; none = stands-rows s ∙ formed-listing form [] }
+
+-- a set that is small, and one that is not
+
+pub small-few : (s : RowSet) (k : ℕ) → length (listing s) ≤ 128 → small s k ≡ done s k
+unfolding small
+small-few s k h = rw (le-leb (length (listing s)) 128 h, small)
+
+pub small-many : (s : RowSet) (k : ℕ) → 128 < length (listing s) → small s k ≡ refused 13
+unfolding small
+small-many s k h = rw (lt-leb (length (listing s)) 128 h, small)
