@@ -4,7 +4,9 @@ use mathlib.Core.Path.{_≡_, refl, sym, ap, subst, _∙_}
 use mathlib.Core.Bool.{Bool, true, false}
 use mathlib.Core.List.{List, []}
 use native.Mathlib.Omega.{arith}
+use lib.Dec.{eqb}
 use lib.ListN.{length, take, drop, getD}
+use borrow.Author.Tests.{eqb-true, eqb-false}
 use Rattle.rows.specs.Row.{Row}
 use Rattle.rows.specs.Sets.{RowSet, only}
 use Rattle.rows.specs.Layout.{formed, setIn}
@@ -74,21 +76,28 @@ module _ {f : From} {ws : List ℕ} {at : ℕ} {env : Env} {area : List ℕ} (q 
       on-definition (λ e. Stands (f .known) (env .count) ws at e → getD ws (at + 1) 0 < f .known) (q .here) c
       (λ d s. let i = in-definition s in omega (arith, i .number, i .known)) (q .here)
 
-  pub ask-union : getD ws at 0 ≡ 5 → AskTwo f ws (at + 1) env area
+  ask-union : getD ws at 0 ≡ 5 → AskTwo f ws (at + 1) env area
   unfolding roomOf
   ask-union c =
       on-union (λ e. Stands (f .known) (env .count) ws at e → 642 * roomOf e ≤ length area → AskTwo f ws (at + 1) env area) (q .here) c
       (λ a b s r. record { sound = q .sound; scope = q .scope; x = a; y = b; here = in-union s; left = omega arith; right = omega arith }) (q .here) (q .room)
 
-  pub ask-difference : getD ws at 0 ≡ 6 → AskTwo f ws (at + 1) env area
+  ask-difference : getD ws at 0 ≡ 6 → AskTwo f ws (at + 1) env area
   unfolding roomOf
   ask-difference c =
       on-difference (λ e. Stands (f .known) (env .count) ws at e → 642 * roomOf e ≤ length area → AskTwo f ws (at + 1) env area) (q .here) c
       (λ a b s r. record { sound = q .sound; scope = q .scope; x = a; y = b; here = in-difference s; left = omega arith; right = omega arith }) (q .here) (q .room)
 
-  -- the last of the seven codes
-  pub code-left : (getD ws at 0 ≡ 1 → ⊥) → (getD ws at 0 ≡ 2 → ⊥) → (getD ws at 0 ≡ 3 → ⊥) → (getD ws at 0 ≡ 4 → ⊥) → (getD ws at 0 ≡ 5 → ⊥) → (getD ws at 0 ≡ 6 → ⊥) → 6 < getD ws at 0
-  code-left a b c d e g = let h = code-here (q .here) .0 in omega arith
+  -- what is left of the codes after literals, definitions and names
+  pub two-code : 2 < getD ws at 0 → (getD ws at 0 ≡ 3 → ⊥) → (getD ws at 0 ≡ 4 → ⊥) → 4 < getD ws at 0
+  two-code l a b = omega arith
+
+  pub ask-two : 4 < getD ws at 0 → getD ws at 0 ≤ 6 → AskTwo f ws (at + 1) env area
+  ask-two l h = go (eqb (getD ws at 0) 6) refl
+    where
+      go : (b : Bool) → eqb (getD ws at 0) 6 ≡ b → AskTwo f ws (at + 1) env area
+      go true e = ask-difference (eqb-true (getD ws at 0) 6 e)
+      go false e = ask-union (let d = eqb-false (getD ws at 0) 6 e in omega arith)
 
   pub ask-guards : {clear : List ℕ} → 6 < getD ws at 0 → length clear ≡ length area → Empty 0 clear → AskBody f ws (at + 2) (getD ws (at + 1) 0) env clear 642
   unfolding roomOf
@@ -99,7 +108,7 @@ module _ {f : From} {ws : List ℕ} {at : ℕ} {env : Env} {area : List ℕ} (q 
 -- ---- what is said, code by code
 
 module _ {f : From} {ws : List ℕ} {at : ℕ} {env : Env} {k : ℕ} {area : List ℕ} where
-  pub say-finite : getD ws at 0 ≡ 1 → SayRows ws (at + 1) 0 env area → SayExpr f ws at env k (Done k) area
+  say-finite : getD ws at 0 ≡ 1 → SayRows ws (at + 1) 0 env area → SayExpr f ws at env k (Done k) area
   unfolding IfDone setAnswer formed read
   say-finite c g = record {
     filled = g .filled;
@@ -109,7 +118,7 @@ module _ {f : From} {ws : List ℕ} {at : ℕ} {env : Env} {k : ℕ} {area : Lis
     };
   }
 
-  pub say-cofinite : getD ws at 0 ≡ 2 → SayRows ws (at + 1) 1 env area → SayExpr f ws at env k (Done k) area
+  say-cofinite : getD ws at 0 ≡ 2 → SayRows ws (at + 1) 1 env area → SayExpr f ws at env k (Done k) area
   unfolding IfDone setAnswer formed read
   say-cofinite c g = record {
     filled = g .filled;
@@ -118,6 +127,17 @@ module _ {f : From} {ws : List ℕ} {at : ℕ} {env : Env} {k : ℕ} {area : Lis
           on-cofinite (λ x. Stands (f .known) (env .count) ws at x → reading f x (valuesOf env) k ≡ setAnswer (Done k) area) s c (λ rs h. g .means (env .count) rs (in-cofinite h) k) s;
     };
   }
+
+  pub say-literal : {form : ℕ} → getD ws at 0 ≤ 2 → 1 ≤ getD ws at 0 → form ≡ getD ws at 0 - 1 → SayRows ws (at + 1) form env area → SayExpr f ws at env k (Done k) area
+  say-literal {form} h l is g = go (eqb (getD ws at 0) 1) refl
+    where
+      go : (b : Bool) → eqb (getD ws at 0) 1 ≡ b → SayExpr f ws at env k (Done k) area
+      go true e =
+          let c = eqb-true (getD ws at 0) 1 e in
+          say-finite c (subst (λ n. SayRows ws (at + 1) n env area) (omega arith) g)
+      go false e =
+          let c : getD ws at 0 ≡ 2 = (let d = eqb-false (getD ws at 0) 1 e in omega arith) in
+          say-cofinite c (subst (λ n. SayRows ws (at + 1) n env area) (omega arith) g)
 
   pub say-definition : getD ws at 0 ≡ 3 → SayDefinition (f .known) (getD ws (at + 1) 0) (f .defs) area → SayExpr f ws at env k (Done k) area
   unfolding IfDone setAnswer read
@@ -141,7 +161,7 @@ module _ {f : From} {ws : List ℕ} {at : ℕ} {env : Env} {k : ℕ} {r : Read} 
     };
   }
 
-  pub say-union : getD ws at 0 ≡ 5 → SayTwo f ws (at + 1) false env k r area → SayExpr f ws at env k r area
+  say-union : getD ws at 0 ≡ 5 → SayTwo f ws (at + 1) false env k r area → SayExpr f ws at env k r area
   unfolding read combined
   say-union c g = record {
     filled = g .filled;
@@ -151,7 +171,7 @@ module _ {f : From} {ws : List ℕ} {at : ℕ} {env : Env} {k : ℕ} {r : Read} 
     };
   }
 
-  pub say-difference : getD ws at 0 ≡ 6 → SayTwo f ws (at + 1) true env k r area → SayExpr f ws at env k r area
+  say-difference : getD ws at 0 ≡ 6 → SayTwo f ws (at + 1) true env k r area → SayExpr f ws at env k r area
   unfolding read combined
   say-difference c g = record {
     filled = g .filled;
@@ -160,6 +180,13 @@ module _ {f : From} {ws : List ℕ} {at : ℕ} {env : Env} {k : ℕ} {r : Read} 
           on-difference (λ x. Stands (f .known) (env .count) ws at x → reading f x (valuesOf env) k ≡ setAnswer r area) s c (λ x y h. g .means .says x y (in-difference h)) s;
     };
   }
+
+  pub say-two : 4 < getD ws at 0 → getD ws at 0 ≤ 6 → SayTwo f ws (at + 1) (eqb (getD ws at 0) 6) env k r area → SayExpr f ws at env k r area
+  say-two l h g = go (eqb (getD ws at 0) 6) refl g
+    where
+      go : (b : Bool) → eqb (getD ws at 0) 6 ≡ b → SayTwo f ws (at + 1) b env k r area → SayExpr f ws at env k r area
+      go true e g = say-difference (eqb-true (getD ws at 0) 6 e) g
+      go false e g = say-union (let d = eqb-false (getD ws at 0) 6 e in omega arith) g
 
 -- the rows gathered are the set
 gathered-filled : (r : Read) (area : List ℕ) → IfDone Gathering r area → IfDone Filled r area

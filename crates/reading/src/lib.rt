@@ -43,12 +43,9 @@ fn read_expr(
 {
     let code = words[at];
     let body = at + 1;
-    if code == 1 {
-        read_rows(words, body, 0, env, area);
-        return Read::Done(draws);
-    }
-    if code == 2 {
-        read_rows(words, body, 1, env, area);
+    // a literal's code is one more than the form of its set
+    if code <= 2 {
+        read_rows(words, body, code - 1, env, area);
         return Read::Done(draws);
     }
     if code == 3 {
@@ -59,11 +56,8 @@ fn read_expr(
     if code == 4 {
         return read_name(words, body, env, store, draws, area);
     }
-    if code == 5 {
-        return read_two(words, body, false, env, store, defs, known, draws, area);
-    }
-    if code == 6 {
-        return read_two(words, body, true, env, store, defs, known, draws, area);
+    if code <= 6 {
+        return read_two(words, body, code == 6, env, store, defs, known, draws, area);
     }
     let count = words[body];
     clear(area, 0);
