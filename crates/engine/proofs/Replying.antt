@@ -18,10 +18,11 @@ use Rattle.judging.specs.declared.Judgement.the-variants as judgement
 use Rattle.policy.proofs.Judging.{judge-checked}
 use Rattle.demands.specs.Query.{Outcome, declined, readFrom, definitionRoom, scratchRoom, roomy, Call, outcomeFrom, queryCall, answerArea}
 use Rattle.demands.specs.Refusal.{judged, unsound, short}
-use Rattle.engine.specs.Reply.{replyTo, Replied}
-use Rattle.engine.specs.Steps.{namesIn, Ready, ReadAll}
-use Rattle.engine.specs.declared.Reply.{Reply}
-use Rattle.engine.specs.declared.Reply.the-variants.{Refused}
+use Rattle.answering.specs.Reply.{replyTo}
+use Rattle.answering.specs.Steps.{namesIn, Ready, ReadAll}
+use Rattle.answering.specs.declared.Reply.{Reply}
+use Rattle.answering.specs.declared.Reply.the-variants.{Refused}
+use Rattle.engine.specs.Reply.{Replied}
 use Rattle.demands.proofs.Outcome.{call-declined, call-reads}
 
 -- a call that was declined

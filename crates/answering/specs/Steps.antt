@@ -14,10 +14,10 @@ use Rattle.meaning.specs.Evidence.{Evidence, namesHeld}
 use Rattle.values.specs.Answers.{Filled}
 use Rattle.leaves.specs.Areas.{setsIn}
 use Rattle.demands.specs.Query.{Outcome, answered, declined, readFrom, definitionRoom, scratchRoom, answerArea}
-use Rattle.engine.specs.Reply.{replyTo}
-use Rattle.engine.specs.declared.Reply.{Reply}
-use Rattle.engine.specs.declared.Progress.{Progress}
-use Rattle.engine.specs.declared.Progress.the-variants.{Done, Stopped}
+use Rattle.answering.specs.Reply.{replyTo}
+use Rattle.answering.specs.declared.Reply.{Reply}
+use Rattle.answering.specs.declared.Progress.{Progress}
+use Rattle.answering.specs.declared.Progress.the-variants.{Done, Stopped}
 
 abbrev pub namesIn : List ℕ → Evidence
 namesIn store = namesHeld (certificates store)

@@ -18,7 +18,7 @@ use Rattle.sets.proofs.Front.{SameFront, set-same}
 use Rattle.sets.proofs.Standing.{Stands, set-fits, copied-stands}
 use Rattle.values.proofs.Answers.{lies}
 use Rattle.leaves.proofs.Areas.{filled-same}
-use Rattle.engine.specs.Steps.{Placed}
+use Rattle.answering.specs.Steps.{Placed}
 
 drop-split : (l k : ℕ) (ys : List ℕ) → l ≤ k → k ≤ length ys → drop l (take k ys) ++ drop k ys ≡ drop l ys
 drop-split l k ys h m = sym (drop-append-le l (take k ys) (drop k ys) (omega (arith, length-take-le k ys m))) ∙ ap (drop l) (take-append-drop k ys)

@@ -6,9 +6,9 @@ use borrow.Author.Needs.{needs}
 use denote.Ref.{now}
 use Rattle.rows.specs.Layout.{setIn}
 use Rattle.sets.proofs.Standing.{set-fits}
-use Rattle.engine.proofs.Placing.{part-put}
-use Rattle.engine.proofs.place_set.Statement.{statement}
-use Rattle.engine.proofs.place_set.Tie as tie
+use Rattle.answering.proofs.Placing.{part-put}
+use Rattle.answering.proofs.place_set.Statement.{statement}
+use Rattle.answering.proofs.place_set.Tie as tie
 
 mul-start : tie.Need-mul-start
 mul-start c = search needs

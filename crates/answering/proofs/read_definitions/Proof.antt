@@ -4,9 +4,9 @@ use native.Mathlib.Omega.{arith}
 use lib.ListN.{length}
 use borrow.Author.Needs.{needs}
 use denote.Ref.{now}
-use Rattle.engine.proofs.Driving.{Going, going-starts, asks, goes-on, stops, ends, checked-header, done-filled, has-place}
-use Rattle.engine.proofs.read_definitions.Statement.{statement}
-use Rattle.engine.proofs.read_definitions.Tie as tie
+use Rattle.answering.proofs.Driving.{Going, going-starts, asks, goes-on, stops, ends, checked-header, done-filled, has-place}
+use Rattle.answering.proofs.read_definitions.Statement.{statement}
+use Rattle.answering.proofs.read_definitions.Tie as tie
 
 abbrev Inv-loop : tie.InvT-loop
 Inv-loop policy query store count definitions₀ scratch₀ draws₀ d₀ definitions scratch draws d = Going store policy query count d draws definitions × ((length definitions ≡ length definitions₀) × (length scratch ≡ length scratch₀))

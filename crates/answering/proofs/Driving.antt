@@ -26,12 +26,12 @@ use Rattle.reading.specs.Readers.{From, AskWhole, SayWhole}
 use Rattle.values.specs.declared.Read.{Read}
 use Rattle.values.specs.declared.Read.the-variants as read
 use Rattle.demands.specs.Query.{Outcome, answered, declined, readFrom, answerArea}
-use Rattle.engine.specs.Reply.{replyTo}
-use Rattle.engine.specs.declared.Progress.{Progress}
-use Rattle.engine.specs.declared.Progress.the-variants.{Done, Stopped}
-use Rattle.engine.specs.declared.Reply.the-variants.{Answered, Refused}
-use Rattle.engine.specs.Steps.{namesIn, Ready, Placed, goesOn, PlacedIf, ReadDefinitions, ReadAll}
-use Rattle.engine.proofs.Placing.{sets-length, placed-more, sets-more}
+use Rattle.answering.specs.Reply.{replyTo}
+use Rattle.answering.specs.declared.Progress.{Progress}
+use Rattle.answering.specs.declared.Progress.the-variants.{Done, Stopped}
+use Rattle.answering.specs.declared.Reply.the-variants.{Answered, Refused}
+use Rattle.answering.specs.Steps.{namesIn, Ready, Placed, goesOn, PlacedIf, ReadDefinitions, ReadAll}
+use Rattle.answering.proofs.Placing.{sets-length, placed-more, sets-more}
 
 -- ---- what is left to read when d definitions are read
 

@@ -3,9 +3,9 @@ use native.Mathlib.Omega.{arith}
 use lib.ListN.{getD}
 use borrow.Author.Needs.{needs}
 use denote.Ref.{now}
-use Rattle.engine.proofs.Driving.{checked-header, done-filled, asks-query, says-stopped, says-refused, says-answered}
-use Rattle.engine.proofs.read_all.Statement.{statement}
-use Rattle.engine.proofs.read_all.Tie as tie
+use Rattle.answering.proofs.Driving.{checked-header, done-filled, asks-query, says-stopped, says-refused, says-answered}
+use Rattle.answering.proofs.read_all.Statement.{statement}
+use Rattle.answering.proofs.read_all.Tie as tie
 
 shared-slice-read-count : tie.Need-shared-slice-read-count
 shared-slice-read-count c = checked-header (now (c .before .before .before .before .before .before .before .args .policy)) (now (c .before .before .before .before .before .before .before .args .query)) (c .before .before .before .before .before .before .before .pre .0 .es) (c .before .before .before .before .before .before .before .pre .0 .q) (c .before .before .before .before .before .before .before .pre .0 .v) (c .before .before .before .before .before .before .before .pre .0 .passes) .0
