@@ -1,20 +1,21 @@
 #!/usr/bin/env bash
-# Each planted fault must be noticed: a run with it ends with status 1 and failures.
+# Each planted fault must be noticed: a run with it ends with status 1 and failures. As many runs at a time as there are cores.
 set -eu
 cd "$(dirname "$0")"
 cargo build --quiet --release --offline
-run=target/release/differential
+export run=target/release/differential
 count=$($run --faults | wc -l)
-passed=0 failed=0
-for ((k = 1; k <= count; k++)); do
-    status=0
-    out=$($run 40000 --worlds 0 --plant $k) || status=$?
-    if [ $status = 1 ]; then
-        passed=$((passed + 1))
-    else
-        failed=$((failed + 1))
-        echo "not noticed: $(grep '^planted' <<<"$out")"
-    fi
-done
-echo "$passed passed, $failed failed"
-[ $failed = 0 ]
+
+# Prints the fault's line if its run ends otherwise.
+try() {
+    local status=0 out
+    out=$($run 40000 --worlds 0 --plant "$1") || status=$?
+    [ $status = 1 ] || grep '^planted' <<<"$out" || echo "fault $1, status $status"
+}
+export -f try
+missed=$(seq "$count" | xargs -P "$(nproc)" -I{} bash -c 'try {}')
+
+failed=$(grep -c . <<<"$missed" || true)
+[ -z "$missed" ] || sed 's/^/not noticed: /' <<<"$missed"
+echo "$((count - failed)) passed, $failed failed"
+[ "$failed" = 0 ]
