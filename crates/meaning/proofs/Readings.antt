@@ -1,5 +1,5 @@
 -- Small readings, by computation: what document 01's section "Reading" says of draws, of guards and of refusal 13.
-use Prim.Native.Nat.{ℕ, zero, suc, _+_}
+use Prim.Native.Nat.{ℕ, zero, suc}
 use mathlib.Core.Path.{_≡_, refl}
 use mathlib.Core.List.{List, [], _∷_}
 use Rattle.refusals.specs.Table.{complementDrawn, tooManyRows}
@@ -22,7 +22,7 @@ Holds t = read (namesHeld []) [] (t .expr) [] 0 ≡ t .answer
 -- n rows of one atom, from `base` on
 oneAtom : ℕ → ℕ → List (List Term)
 oneAtom base zero = []
-oneAtom base (suc n) = (atom (base + n) ∷ []) ∷ oneAtom base n
+oneAtom base (suc n) = (atom base ∷ []) ∷ oneAtom (suc base) n
 
 k1 : ℕ
 k1 = 2147483649
