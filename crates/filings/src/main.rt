@@ -3,12 +3,10 @@
 //
 //     NAME|WORDS                   files the words, and prints the reply with the count that the store has then
 //     NAME|WORDS|LENGTH            the same with a store of so many words, not 16001
-//     file WORDS                   files certificates, eight words each, and prints nothing
-//     store WORDS                  writes the words over the first of the store; `store 0` makes it empty
 //     words FROM END               prints these words of the store, eight to a line
 //     part KEY NAME POLARITY       prints one name's part of the store, eight words to a line
 //
-// Any other line is printed.
+// `file` and `store` lines keep the store (crate `storing`). Any other line is printed.
 ghost use Prim.Native.Nat.{_≤_};
 ghost use lib.ListN.{length};
 use cases::after;
@@ -24,6 +22,7 @@ use cases::say_number;
 use store::Filing;
 use store::certificates_of;
 use store::file;
+use storing::keep;
 
 fn say_filing(filing: Filing) {
     match filing {
@@ -68,26 +67,6 @@ fn try_at(text: &[u8], at: usize, store: &mut [u32])
     try_filing(&mut store[0..end], &words[0..count]);
 }
 
-// Files the first words, eight a certificate.
-fn file_all(store: &mut [u32], words: &[u32], count: usize)
-    requires { ⌜ count ≤ length (now words) ⌝ }
-{
-    let mut at: usize = 0;
-    while 8 <= count - at {
-        let end = at + 8;
-        file(store, &words[at..end]);
-        at = end;
-    }
-}
-
-fn file_at(text: &[u8], at: usize, store: &mut [u32])
-    requires { ⌜ at ≤ length (now text) ⌝ }
-{
-    let mut words = [0u32; 16000];
-    let read = read_words(text, at, &mut words);
-    file_all(store, &words, read.count);
-}
-
 // What stands after so many words: eight fill a line.
 fn say_gap(count: usize) {
     if count % 8 == 0 {
@@ -129,11 +108,10 @@ fn part_at(text: &[u8], at: usize, store: &[u32])
 fn act(text: &[u8], at: usize, end: usize, store: &mut [u32])
     requires { ⌜ (at ≤ end) × (end ≤ length (now text)) ⌝ }
 {
-    if is_at(text, at, b'f') {
-        file_at(text, at, store);
-    } else if is_at(text, at, b's') {
-        read_words(text, at, store);
-    } else if is_at(text, at, b'w') {
+    if keep(text, at, store) {
+        return;
+    }
+    if is_at(text, at, b'w') {
         words_at(text, at, store);
     } else if is_at(text, at, b'p') {
         part_at(text, at, store);

@@ -3,105 +3,20 @@
 //
 //     NAME|POLICY|QUERY            asks the query under the policy, over the store as it is
 //     NAME|POLICY|QUERY|AREAS      the same with an answer, a definition and a scratch area of so many words, not 642 10272 16384
-//     file WORDS                   files certificates, eight words each
-//     store WORDS                  writes the words over the first of the store; `store 0` makes it empty
-//     -- HEADING                   is printed
+//
+// `file` and `store` lines keep the store (crate `storing`). Any other line is printed.
 ghost use Prim.Native.Nat.{_≤_};
 ghost use lib.ListN.{length};
 use cases::after;
 use cases::at_most;
 use cases::cell_end;
-use cases::is_at;
 use cases::is_bar;
 use cases::next_line;
 use cases::read_words;
 use cases::say;
-use cases::say_number;
-use cases::say_words;
-use engine::Reply;
 use engine::query;
-use store::file;
-
-// Are the words all this one?
-fn all_are(words: &[u32], word: u32) -> bool {
-    let mut i: usize = 0;
-    while i < words.len() {
-        if words[i] != word {
-            return false;
-        }
-        i += 1;
-    }
-    true
-}
-
-fn say_rest(words: &[u32]) {
-    if all_are(words, 5) {
-        say(b", the rest stays");
-    } else {
-        say(b", THE REST IS TOUCHED");
-    }
-}
-
-fn say_verdict(verdict: u32) {
-    if verdict == 0 {
-        say(b"exact, ");
-    } else if verdict == 1 {
-        say(b"lower, ");
-    } else {
-        say(b"upper, ");
-    }
-}
-
-fn say_form(form: u32) {
-    if form == 0 {
-        say(b"only ");
-    } else {
-        say(b"all but ");
-    }
-}
-
-// The rows of a set if they are few, and whether the rest of the area stays.
-fn say_rows(answer: &[u32], count: u32)
-    requires { ⌜ (642 ≤ length (now answer)) × (count ≤ 128) ⌝ }
-{
-    let end = 2 + 5 * count as usize;
-    if count <= 4 {
-        say(b":");
-        say_words(&answer[2..end]);
-    }
-    say_rest(&answer[end..]);
-}
-
-// The set at the front of an answer area that was full of fives: its form, its count and its rows.
-fn say_set(answer: &[u32]) {
-    if answer.len() < 642 {
-        return;
-    }
-    say_form(answer[0]);
-    let count = answer[1];
-    say_number(count);
-    if count <= 128 {
-        say_rows(answer, count);
-    }
-}
-
-fn say_reply(reply: Reply, answer: &[u32]) {
-    match reply {
-        Reply::Answered { verdict, draws } => {
-            say_verdict(verdict);
-            say_number(draws);
-            say(b" draws, ");
-            say_set(answer);
-        }
-        Reply::Refused { number, part } => {
-            say(b"refused ");
-            say_number(number);
-            say(b", part ");
-            say_number(part);
-            say_rest(answer);
-        }
-    }
-}
+use replies::say_reply;
+use storing::keep;
 
 // Asks, and prints the reply.
 fn ask_with<'a>(
@@ -163,35 +78,11 @@ fn ask_at(text: &[u8], at: usize, store: &[u32])
     );
 }
 
-// Files the first words, eight a certificate.
-fn file_all(store: &mut [u32], words: &[u32], count: usize)
-    requires { ⌜ count ≤ length (now words) ⌝ }
-{
-    let mut at: usize = 0;
-    while 8 <= count - at {
-        let end = at + 8;
-        file(store, &words[at..end]);
-        at = end;
-    }
-}
-
-fn file_at(text: &[u8], at: usize, store: &mut [u32])
-    requires { ⌜ at ≤ length (now text) ⌝ }
-{
-    let mut words = [0u32; 16000];
-    let found = read_words(text, at, &mut words);
-    file_all(store, &words, found.count);
-}
-
 // A line without bars.
 fn act(text: &[u8], at: usize, end: usize, store: &mut [u32])
     requires { ⌜ (at ≤ end) × (end ≤ length (now text)) ⌝ }
 {
-    if is_at(text, at, b'f') {
-        file_at(text, at, store);
-    } else if is_at(text, at, b's') {
-        read_words(text, at, store);
-    } else {
+    if !keep(text, at, store) {
         say(&text[at..end]);
         say(b"\n");
     }

@@ -2,8 +2,8 @@
 use borrow.Author.Needs.{needs}
 use Prim.Native.Nat.{_≤_, _-_}
 use lib.ListN.{length}
-use Rattle.portal.proofs.all_are.Statement.{statement}
-use Rattle.portal.proofs.all_are.Tie as tie
+use Rattle.replies.proofs.all_are.Statement.{statement}
+use Rattle.replies.proofs.all_are.Tie as tie
 
 abbrev Inv-loop : tie.InvT-loop
 Inv-loop words word i₀ i = i ≤ length words

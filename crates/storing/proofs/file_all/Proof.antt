@@ -3,8 +3,8 @@ use borrow.Author.Needs.{needs}
 use Prim.Native.Nat.{_≤_, _-_}
 use mathlib.Core.Path.{_≡_}
 use lib.ListN.{length}
-use Rattle.portal.proofs.file_all.Statement.{statement}
-use Rattle.portal.proofs.file_all.Tie as tie
+use Rattle.storing.proofs.file_all.Statement.{statement}
+use Rattle.storing.proofs.file_all.Tie as tie
 
 abbrev Inv-loop : tie.InvT-loop
 Inv-loop store₀ words count at₀ store at = (length store ≡ length store₀) × (at ≤ count)
