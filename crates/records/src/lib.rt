@@ -1,20 +1,18 @@
-// The store's words: a count, then the records in order.
+// The store's words, a count and then the records in order: tested and searched.
 pub mod record;
 
 ghost use Prim.Native.Nat.{_+_, _*_, _≤_, _<_};
 ghost use mathlib.Core.Path.{_≡_};
 ghost use mathlib.Core.Bool.{true};
 ghost use lib.ListN.{length};
-ghost use Rattle.rows.specs.Layout.{put};
 ghost use Rattle.certificates.specs.Certificate.{recordWords};
-ghost use Rattle.certificates.specs.Store.{capacity, countOf, records, soundStore};
-ghost use Rattle.certificates.specs.Steps.{recordAt, soundAt, placeIn, heldAt, putIn};
+ghost use Rattle.certificates.specs.Store.{countOf, records, soundStore};
+ghost use Rattle.certificates.specs.Steps.{recordAt, soundAt, placeIn, heldAt};
 use crate::record::sound_record;
 use crate::record::words_before;
 use certificates::CAPACITY;
 use certificates::RECORD_WORDS;
 use certificates::STORE_WORDS;
-use sets::words::copy_up;
 
 // The words of record `i`.
 fn record_at<'a>(store: &'a [u32], i: usize) -> &'a [u32]
@@ -90,31 +88,4 @@ pub fn is_held(store: &[u32], place: usize, certificate: &[u32]) -> bool
     } else {
         false
     }
-}
-
-// Writes words over those that stand at `at`.
-fn write(store: &mut [u32], at: usize, words: &[u32])
-    requires { ⌜ at + length (now words) ≤ length (now store) ⌝ }
-    ensures { λ _. ⌜ now (store .exit) ≡ put at (now (words .entry)) (now (store .entry)) ⌝ }
-{
-    let mut j: usize = 0;
-    while j < words.len() {
-        store[at + j] = words[j];
-        j += 1;
-    }
-}
-
-// Puts a record in at its place, moves the later ones up and raises the count.
-pub fn insert(store: &mut [u32], place: usize, certificate: &[u32])
-    requires { ⌜ length (now certificate) ≡ recordWords ⌝ }
-    requires { ⌜ (place ≤ countOf (now store)) × (countOf (now store) < capacity) ⌝ }
-    requires { ⌜ 1 + recordWords * (countOf (now store) + 1) ≤ length (now store) ⌝ }
-    ensures { λ _. ⌜ now (store .exit) ≡ putIn (now (store .entry)) place (now (certificate .entry)) ⌝ }
-{
-    let count = store[0];
-    let at = 1 + RECORD_WORDS * place;
-    let later = RECORD_WORDS * (count as usize - place);
-    copy_up(store, at, at + RECORD_WORDS, later);
-    write(store, at, certificate);
-    store[0] = count + 1;
 }

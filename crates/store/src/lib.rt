@@ -12,7 +12,7 @@ ghost use Rattle.certificates.specs.NamePart.{namePart};
 ghost use Rattle.certificates.specs.Spans.{Spans};
 use certificates::CAPACITY;
 use certificates::RECORD_WORDS;
-use records::insert;
+use insertion::insert;
 use records::is_held;
 use records::place_of;
 use records::record::sound_record;

@@ -5,8 +5,8 @@ use mathlib.Core.Path.{refl}
 use native.Mathlib.Omega.{arith}
 use lib.ListN.{length}
 use Rattle.rows.proofs.Put.{Writing, writing-start, writing-next, writing-end}
-use Rattle.records.proofs.write.Statement.{statement}
-use Rattle.records.proofs.write.Tie as tie
+use Rattle.insertion.proofs.write.Statement.{statement}
+use Rattle.insertion.proofs.write.Tie as tie
 
 abbrev Inv-loop : tie.InvT-loop
 Inv-loop store₀ at words j₀ store j = Writing words store₀ at store j

@@ -10,8 +10,8 @@ use Rattle.certificates.specs.Store.{countOf}
 use Rattle.certificates.specs.Steps.{putIn}
 use Rattle.rows.specs.Layout.{put}
 use Rattle.certificates.proofs.Stores.{put-is}
-use Rattle.records.proofs.insert.Statement.{statement}
-use Rattle.records.proofs.insert.Tie as tie
+use Rattle.insertion.proofs.insert.Statement.{statement}
+use Rattle.insertion.proofs.insert.Tie as tie
 
 slice-read-count : tie.Need-slice-read-count
 slice-read-count c = search needs
