@@ -1,6 +1,6 @@
 -- The checker's cycle: an expression and the guards of a comprehension, way out by way out.
 use Prim.Native.Nat.{ℕ, zero, suc, _+_, _-_, _≤_, _<_}
-use mathlib.Core.Path.{_≡_, refl, sym, _∙_, ap, subst}
+use mathlib.Core.Path.{_≡_, refl, sym, _∙_, ap}
 use mathlib.Core.Logic.{_⊎_, inl, inr}
 use mathlib.Core.Bool.{true, false}
 use mathlib.Core.List.{List, [], _∷_}
@@ -10,15 +10,16 @@ use lib.ListN.{length, drop}
 use denote.Enum.Declared.{tagOf}
 use borrow.Author.Tests.{lt-ltb, le-ltb, eq-eqb, ne-eqb}
 use Rattle.refusals.specs.Table.{badWord, tooDeep}
-use Rattle.policy.specs.Syntax.{Term, Expr, union, difference, comprehension, Body, draw, same, different}
+use Rattle.policy.specs.Syntax.{Expr, union, difference, comprehension, Body, draw, same, different}
 use Rattle.policy.specs.Decode.{Read, got, refused, Reader, after, give, wordWhere, countDraw, term, width, row, Pattern, slots, isDraw, isAbsent, guardOf, guardAs, body, codeOf, isCode, exprAs, expr}
 use Rattle.policy.specs.Polarity.{Known, hasPolarity, guardsHave, openExpr, drawsClosed, guardsClosed}
 use Rattle.terms.specs.Answers.{Answer, found, stopped, Onward, Answers, Follows, kept, keeping, nothing, between, wordIs, termOf, passedIs, pattern, scope, patternIs, Opening, drawOpens, absentOpens, sameOpens, differentOpens, openingFor, opening, openingOf, openingIs}
-use Rattle.polarity.specs.Facts.{factsOf, termFacts, unionOf, differenceOf, drawOf, absentOf}
+use Rattle.polarity.specs.Facts.{factsOf, unionOf, differenceOf, drawOf, absentOf}
 use Rattle.polarity.specs.declared.Facts.{Facts}
-use Rattle.checker.specs.Checks.{checkingIs, inside, noneInside, exprFacts, codeFacts, bodyFacts, guardFacts}
-use Rattle.checker.specs.declared.Checking.{Checking}
-use Rattle.checker.specs.declared.Checking.the-variants as checking
+use Rattle.operands.specs.Checks.{checkingIs, noneInside, codeFacts, bodyFacts}
+use Rattle.operands.specs.declared.Checking.{Checking}
+use Rattle.operands.specs.declared.Checking.the-variants as checking
+use Rattle.checker.specs.Expressions.{inside, exprFacts, guardFacts}
 use Rattle.terms.specs.declared.WordRead as WordRead
 use Rattle.terms.specs.declared.WordRead.the-variants as wordRead
 use Rattle.terms.specs.declared.Term as TermHeld
@@ -35,7 +36,7 @@ use Rattle.terms.proofs.Guard.{the-type}
 use Rattle.terms.proofs.Answering.{Got, Lost, got-of, lost-of, word-found, word-refused, tested-first}
 use Rattle.terms.proofs.TermAnswers.{guard-found, guard-refused}
 use Rattle.terms.proofs.RowAnswers.{after-after, passed-found, passed-lost}
-use Rattle.checker.proofs.CheckAnswers.{kept-then, kept-stops, read-then, read-stops, shows, refuses, checked, unchecked, at-most}
+use Rattle.operands.proofs.CheckAnswers.{kept-then, kept-stops, read-then, read-stops, shows, refuses, checked, unchecked, at-most, bodyFactsOf}
 
 -- an answer from a later word on is one from an earlier word on
 pub sooner : {A : Type 0} {ws : List ℕ} {at from : ℕ} {x : Answer A} {y : Read A} → Answers ws from x y → at ≤ from → Answers ws at x y
@@ -200,27 +201,12 @@ body-opening inner c n (suc (suc (suc zero)) ∷ us) k = sym (two-after (term n 
 body-opening inner c n (suc (suc (suc (suc zero))) ∷ us) k = refl
 body-opening inner c n (suc (suc (suc (suc (suc w)))) ∷ us) k = refl
 
--- what a body has is what its comprehension has
-abbrev bodyFactsOf : List Known → Body → Facts
-bodyFactsOf ks b = factsOf ks (comprehension b)
-
+-- no guards are left, and the head comes
 module _ (ws : List ℕ) (at n k : ℕ) (ks : List Known) where
   pub head-answers : (inner : ℕ → Reader Expr) (left : ℕ) → left ≡ 0 → {x : Answer Facts} → Answers ws at x (bodyFacts ks noneInside 0 n (drop at ws) k) → Answers ws at x (bodyFacts ks inner left n (drop at ws) k)
   unfolding bodyFacts keeping body
   head-answers inner zero e a = a
   head-answers inner (suc l) e a = absurd (omega arith)
-
-  module _ {r : Passed.Passed} (f : Follows ws at (passedIs r) (keeping nothing (row n))) where
-    pub head-refused : {m : ℕ} → r ≡ passed.Refused m → Answers ws at (checkingIs (checking.Refused m)) (bodyFacts ks noneInside 0 n (drop at ws) k)
-    unfolding bodyFacts keeping body
-    head-refused e = refuses (kept-stops nothing (bodyFactsOf ks) (row n (drop at ws) k) _ (passed-lost f e .reads k))
-
-    pub head-found : {next : ℕ} {x : Facts} → r ≡ passed.To next → x ≡ termFacts false → Answers ws at (checkingIs (checking.Found x next k)) (bodyFacts ks noneInside 0 n (drop at ws) k)
-    unfolding bodyFacts keeping kept body factsOf hasPolarity guardsHave openExpr drawsClosed guardsClosed
-    head-found {next} e facts =
-        let g = passed-found f e in
-        subst (λ (x : Facts). Answers ws at (checkingIs (checking.Found x next k)) (bodyFacts ks noneInside 0 n (drop at ws) k)) (sym facts)
-        (shows (kept-then nothing (bodyFactsOf ks) (row n (drop at ws) k) _ (g .reads k) (λ r p. refl)) (g .onward) (g .within))
 
 -- so many guards are left, and the first opens
 module _ (ws : List ℕ) (at n k : ℕ) (ks : List Known) (inner : ℕ → Reader Expr) (left : ℕ) (some : left ≡ 0 → ⊥) where

@@ -20,10 +20,11 @@ use Rattle.polarity.specs.Facts.{factsOf, admitOf, declaredOf}
 use Rattle.polarity.specs.declared.Facts.{Facts}
 use Rattle.polarity.specs.declared.Whole.{Whole}
 use Rattle.polarity.specs.declared.Whole.the-variants as whole
-use Rattle.checker.specs.Checks.{checkingIs, exprFacts}
-use Rattle.checker.specs.declared.Checking.{Checking}
-use Rattle.checker.specs.declared.Checking.the-variants as checking
-use Rattle.checker.proofs.CheckAnswers as check-answers
+use Rattle.operands.specs.Checks.{checkingIs}
+use Rattle.operands.specs.declared.Checking.{Checking}
+use Rattle.operands.specs.declared.Checking.the-variants as checking
+use Rattle.operands.proofs.CheckAnswers as check-answers
+use Rattle.checker.specs.Expressions.{exprFacts}
 use Rattle.judging.specs.Whole.{wholeOf, definitionParsed}
 
 -- a whole expression

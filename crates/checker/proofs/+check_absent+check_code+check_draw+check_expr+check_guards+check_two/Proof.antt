@@ -3,11 +3,11 @@
 use native.Mathlib.Omega.{arith}
 use Rattle.refusals.specs.Table.{badWord}
 use Rattle.polarity.specs.Earlier.{knownIn}
-use Rattle.checker.specs.Checks.{inside}
+use Rattle.checker.specs.Expressions.{inside}
 use Rattle.terms.proofs.Answering.{word-found, word-bounds}
 use Rattle.terms.proofs.TermAnswers.{guard-found}
 use Rattle.terms.proofs.RowAnswers.{passed-found}
-use Rattle.checker.proofs.CheckAnswers.{checked}
+use Rattle.operands.proofs.CheckAnswers.{checked}
 use Rattle.checker.proofs.CycleAnswers.{expr-uncoded, expr-deep, expr-coded, leaf-answers, leaf-answers-of, comprehension-uncounted, comprehension-counted, two-first, two-second, union-found, difference-found, head-answers, guards-unopened, guards-draw, guards-compared, guards-absent, pattern-found, draw-ninth, draw-unread, draw-unmatched, draw-rest, draw-found, absent-unread, absent-set, absent-rest, absent-found}
 use borrow.Author.Needs.{needs}
 use Prim.Native.Nat.{ℕ, _<_, _+_, _*_, _-_}
@@ -33,10 +33,10 @@ use Rattle.checker.proofs.check_two.Reads as check-two
 use Rattle.checker.proofs.check_two.Kinds as check-two-kinds
 use Rattle.checker.proofs.+check_absent+check_code+check_draw+check_expr+check_guards+check_two.Lts-check_two as check-two-lts
 use Rattle.polarity.proofs.absent_of.Reads as absent-of-reads
-use Rattle.checker.proofs.check_definition.Reads as check-definition-reads
-use Rattle.checker.proofs.check_head.Reads as check-head-reads
-use Rattle.checker.proofs.check_literal.Reads as check-literal-reads
-use Rattle.checker.proofs.check_name.Reads as check-name-reads
+use Rattle.operands.proofs.check_definition.Reads as check-definition-reads
+use Rattle.operands.proofs.check_head.Reads as check-head-reads
+use Rattle.operands.proofs.check_literal.Reads as check-literal-reads
+use Rattle.operands.proofs.check_name.Reads as check-name-reads
 use Rattle.polarity.proofs.difference_of.Reads as difference-of-reads
 use Rattle.polarity.proofs.draw_of.Reads as draw-of-reads
 use Rattle.polarity.proofs.union_of.Reads as union-of-reads

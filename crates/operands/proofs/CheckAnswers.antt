@@ -1,4 +1,4 @@
--- The checker of expressions, way out by way out.
+-- The checks of what holds no other expression, way out by way out, and what a caller has from an answer.
 use Prim.Native.Nat.{ℕ, zero, suc, _+_, _≤_, _<_}
 use mathlib.Core.Path.{_≡_, refl, sym, _∙_, ap, subst}
 use mathlib.Core.Bool.{Bool, true, false, not}
@@ -9,17 +9,17 @@ use lib.ListN.{length, getD, drop}
 use borrow.Author.Tests.{lt-ltb, le-ltb, le-leb}
 use Rattle.refusals.specs.Table.{badWord, notInScope}
 use Rattle.rows.specs.Name.{plus, minus, polarityOf, samePolarity}
-use Rattle.policy.specs.Syntax.{Term, Expr, finite, cofinite, definition, listed}
-use Rattle.policy.specs.Decode.{Read, got, refused, Reader, after, give, wordWhere, polarity, issuer, rows, codeOf, exprAs}
-use Rattle.policy.specs.Polarity.{Known, hasPolarity, openExpr, drawsClosed}
+use Rattle.policy.specs.Syntax.{Term, Expr, finite, cofinite, definition, listed, comprehension, Body}
+use Rattle.policy.specs.Decode.{Read, got, refused, Reader, after, give, wordWhere, polarity, issuer, row, rows, body, codeOf, exprAs}
+use Rattle.policy.specs.Polarity.{Known, hasPolarity, guardsHave, openExpr, drawsClosed, guardsClosed}
 use Rattle.terms.specs.Answers.{found, stopped, outcome, Onward, Answers, Follows, kept, keeping, nothing, between, wordIs, passedIs}
 use Rattle.polarity.specs.Facts.{factsOf, termFacts}
 use Rattle.polarity.specs.Earlier.{declaredBy, knownAt, knownIn}
 use Rattle.polarity.specs.declared.Facts.{Facts}
 use Rattle.polarity.specs.declared.Earlier.{Earlier}
-use Rattle.checker.specs.Checks.{checkingIs, noneInside, codeFacts}
-use Rattle.checker.specs.declared.Checking.{Checking}
-use Rattle.checker.specs.declared.Checking.the-variants as checking
+use Rattle.operands.specs.Checks.{checkingIs, noneInside, codeFacts, bodyFacts}
+use Rattle.operands.specs.declared.Checking.{Checking}
+use Rattle.operands.specs.declared.Checking.the-variants as checking
 use Rattle.terms.specs.declared.WordRead as WordRead
 use Rattle.terms.specs.declared.WordRead.the-variants as wordRead
 use Rattle.terms.specs.declared.Passed as Passed
@@ -203,3 +203,20 @@ module _ (ws : List ℕ) (at n k : ℕ) (ks : List Known) {r : Passed.Passed} (f
           (read-then (factsOf ks) _ (ap (λ x. after x (λ w. give (polarityOf w))) (at-most 1 (drop (mid + 1) ws) k ∙ b .reads k))
           (rw q (ap (λ f. got f (drop (mid + 2) ws) k) (name-facts ks t w p (word-bounds badWord 0 1 h i .1)))))))
           (omega (arith, passed-found f e .onward)) (omega (arith, b .within))
+
+-- what a body has is what its comprehension has
+abbrev pub bodyFactsOf : List Known → Body → Facts
+bodyFactsOf ks b = factsOf ks (comprehension b)
+
+-- the head of a comprehension
+module _ (ws : List ℕ) (at n k : ℕ) (ks : List Known) {r : Passed.Passed} (f : Follows ws at (passedIs r) (keeping nothing (row n))) where
+  pub head-refused : {m : ℕ} → r ≡ passed.Refused m → Answers ws at (checkingIs (checking.Refused m)) (bodyFacts ks noneInside 0 n (drop at ws) k)
+  unfolding bodyFacts keeping body
+  head-refused e = refuses (kept-stops nothing (bodyFactsOf ks) (row n (drop at ws) k) _ (passed-lost f e .reads k))
+
+  pub head-found : {next : ℕ} {x : Facts} → r ≡ passed.To next → x ≡ termFacts false → Answers ws at (checkingIs (checking.Found x next k)) (bodyFacts ks noneInside 0 n (drop at ws) k)
+  unfolding bodyFacts keeping kept body factsOf hasPolarity guardsHave openExpr drawsClosed guardsClosed
+  head-found {next} e facts =
+      let g = passed-found f e in
+      subst (λ (x : Facts). Answers ws at (checkingIs (checking.Found x next k)) (bodyFacts ks noneInside 0 n (drop at ws) k)) (sym facts)
+      (shows (kept-then nothing (bodyFactsOf ks) (row n (drop at ws) k) _ (g .reads k) (λ r p. refl)) (g .onward) (g .within))

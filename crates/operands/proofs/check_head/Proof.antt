@@ -1,9 +1,9 @@
--- Each way out is a law of `CycleAnswers`.
+-- Each way out is a law of `CheckAnswers`.
 use Rattle.polarity.specs.Earlier.{knownIn}
-use Rattle.checker.proofs.CycleAnswers.{head-refused, head-found}
+use Rattle.operands.proofs.CheckAnswers.{head-refused, head-found}
 use borrow.Author.Needs.{needs}
-use Rattle.checker.proofs.check_head.Statement.{statement}
-use Rattle.checker.proofs.check_head.Tie as tie
+use Rattle.operands.proofs.check_head.Statement.{statement}
+use Rattle.operands.proofs.check_head.Tie as tie
 
 read-row-requires : tie.Need-read-row-requires
 read-row-requires c κs = search needs

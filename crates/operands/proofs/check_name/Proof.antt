@@ -2,10 +2,10 @@
 use native.Mathlib.Omega.{arith}
 use Rattle.polarity.specs.Earlier.{knownIn}
 use Rattle.terms.proofs.Answering.{word-found}
-use Rattle.checker.proofs.CheckAnswers.{name-unissued, name-over, name-unpolarized, name-found}
+use Rattle.operands.proofs.CheckAnswers.{name-unissued, name-over, name-unpolarized, name-found}
 use borrow.Author.Needs.{needs}
-use Rattle.checker.proofs.check_name.Statement.{statement}
-use Rattle.checker.proofs.check_name.Tie as tie
+use Rattle.operands.proofs.check_name.Statement.{statement}
+use Rattle.operands.proofs.check_name.Tie as tie
 
 read-issuer-requires : tie.Need-read-issuer-requires
 read-issuer-requires c κs = search needs

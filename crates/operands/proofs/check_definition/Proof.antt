@@ -1,8 +1,8 @@
 -- Each way out is a law of `CheckAnswers`.
-use Rattle.checker.proofs.CheckAnswers.{definition-none, definition-later, definition-found}
+use Rattle.operands.proofs.CheckAnswers.{definition-none, definition-later, definition-found}
 use borrow.Author.Needs.{needs}
-use Rattle.checker.proofs.check_definition.Statement.{statement}
-use Rattle.checker.proofs.check_definition.Tie as tie
+use Rattle.operands.proofs.check_definition.Statement.{statement}
+use Rattle.operands.proofs.check_definition.Tie as tie
 
 returns : tie.Need-returns
 returns c = let a = c .before .args in definition-none (a .words .now) (a .at) (a .variables) (a .draws) (a .t5) (c .if1 .taken)

@@ -1,9 +1,9 @@
 -- Each way out is a law of `CheckAnswers`.
 use Rattle.polarity.specs.Earlier.{knownIn}
-use Rattle.checker.proofs.CheckAnswers.{literal-found, literal-refused}
+use Rattle.operands.proofs.CheckAnswers.{literal-found, literal-refused}
 use borrow.Author.Needs.{needs}
-use Rattle.checker.proofs.check_literal.Statement.{statement}
-use Rattle.checker.proofs.check_literal.Tie as tie
+use Rattle.operands.proofs.check_literal.Statement.{statement}
+use Rattle.operands.proofs.check_literal.Tie as tie
 
 read-rows-requires : tie.Need-read-rows-requires
 read-rows-requires c κs = search needs
