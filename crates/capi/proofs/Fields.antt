@@ -3,7 +3,8 @@ use Prim.Native.Nat.{ℕ, _+_, _*_, _%_, _^_, _≤_, _<_}
 use mathlib.Core.Path.{_∙_, ap}
 use native.Mathlib.Omega.{arith}
 use Rattle.policy.specs.Polarity.{Verdict, exact, lower, upper, verdictWord}
-use Rattle.capi.specs.Replies.{replyWord, judgementWord, outcomeWord}
+use Rattle.packing.specs.Words.{replyWord}
+use Rattle.capi.specs.Replies.{judgementWord, outcomeWord}
 use Rattle.capi.specs.Fields.{Fields, Theorem}
 use Rattle.capi.proofs.Digits.{high, low}
 use Rattle.capi.proofs.Refusals.{judge-low, call-low}

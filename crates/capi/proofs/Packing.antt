@@ -1,5 +1,5 @@
 -- What each call packs is what its definition says, one law for each way that it returns.
-use Prim.Native.Nat.{ℕ, _+_, _*_, _≤_}
+use Prim.Native.Nat.{ℕ, _≤_}
 use mathlib.Core.Path.{_≡_, sym, _∙_, ap}
 use mathlib.Core.List.{List}
 use native.Mathlib.Omega.{arith}
@@ -19,8 +19,9 @@ use Rattle.answering.specs.declared.Reply.{Reply}
 use Rattle.answering.specs.declared.Reply.the-variants as reply
 use Rattle.engine.specs.Reply.{Replied}
 use Rattle.engine.proofs.Replying.{verdict-in, refusal-in}
-use Rattle.capi.specs.Replies.{filingWord, replyWord, judgementWord, outcomeWord, Asked}
-use Rattle.capi.proofs.Refusals.{Small, judge-low}
+use Rattle.packing.specs.Words.{replyWord}
+use Rattle.capi.specs.Replies.{filingWord, judgementWord, outcomeWord, Asked}
+use Rattle.capi.proofs.Refusals.{Small, judge-low, call-low}
 use Rattle.capi.proofs.Fields.{verdict-low}
 
 -- filing
@@ -45,48 +46,49 @@ module _ (policy query : List ℕ) (r : Judgement) (is : r ≡ judgementOf (judg
       let w = t .2 in
       omega (arith, verdict-low (t .0))
 
-  pub verdict-word : (v : ℕ) → r ≡ judgement.Verdict v → v * 65536 ≡ judgementWord (judge policy query)
-  unfolding judgementWord replyWord
+  pub verdict-word : (v : ℕ) → r ≡ judgement.Verdict v → replyWord 0 0 v 0 ≡ judgementWord (judge policy query)
+  unfolding judgementWord
   verdict-word v e =
       let t = verdict-in (judge policy query) v (sym e ∙ is) in
-      let w = t .2 in
-      rw (t .1) (omega arith)
+      rw (t .1) (ap (λ (w : ℕ). replyWord 0 0 w 0) (sym (t .2)))
 
   pub refusal-small : (n part : ℕ) → r ≡ judgement.Refused n part → Small 7 n part
   refusal-small n part e = judge-low policy query n part (refusal-in (judge policy query) n part (sym e ∙ is))
 
-  pub refusal-word : (n part : ℕ) → r ≡ judgement.Refused n part → n + part * 256 ≡ judgementWord (judge policy query)
-  unfolding judgementWord replyWord
-  refusal-word n part e = rw (refusal-in (judge policy query) n part (sym e ∙ is)) (omega arith)
+  pub refusal-word : (n part : ℕ) → r ≡ judgement.Refused n part → replyWord n part 0 0 ≡ judgementWord (judge policy query)
+  unfolding judgementWord
+  refusal-word n part e = rw (refusal-in (judge policy query) n part (sym e ∙ is))
 
 -- asking
-answered-word : (o : Outcome) (v k : ℕ) → reply.Answered v k ≡ replyTo o → (v ≤ 2) × (v * 65536 + k * 4294967296 ≡ outcomeWord o)
-unfolding replyTo outcomeWord replyWord
-answered-word (answered w j s) v k e =
+answered-in : (o : Outcome) (v k : ℕ) → reply.Answered v k ≡ replyTo o → (v ≤ 2) × (replyWord 0 0 v k ≡ outcomeWord o)
+unfolding replyTo outcomeWord
+answered-in (answered w j s) v k e =
     let x : v ≡ verdictWord w = cc in
     let y : k ≡ j = cc in
-    (omega (arith, verdict-low w), omega arith)
-answered-word (declined n part) v k e = impossible cc
+    (omega (arith, verdict-low w), cc)
+answered-in (declined n part) v k e = impossible cc
 
-declined-word : (o : Outcome) (n part : ℕ) → reply.Refused n part ≡ replyTo o → n + part * 256 ≡ outcomeWord o
-unfolding replyTo outcomeWord replyWord
-declined-word (answered w j s) n part e = impossible cc
-declined-word (declined m p) n part e =
+declined-in : (o : Outcome) (n part : ℕ) → reply.Refused n part ≡ replyTo o → o ≡ declined n part
+unfolding replyTo
+declined-in (answered w j s) n part e = impossible cc
+declined-in (declined m p) n part e =
     let x : n ≡ m = cc in
     let y : part ≡ p = cc in
-    omega arith
+    cc
 
 module _ (store : List ℕ) (c : Call) (r : Reply) (answer : List ℕ) (said : Replied store c r answer) where
   pub answered-small : (v k : ℕ) → r ≡ reply.Answered v k → v ≤ 2
-  answered-small v k e = answered-word (queryCall store c) v k (sym e ∙ said .reply) .0
+  answered-small v k e = answered-in (queryCall store c) v k (sym e ∙ said .reply) .0
 
-  -- a and b are the fields, widened
-  pub asked-answered : (v k a b : ℕ) → r ≡ reply.Answered v k → a ≡ v → b ≡ k → Asked store c (a * 65536 + b * 4294967296) answer
-  asked-answered v k a b e x y =
-      let w = answered-word (queryCall store c) v k (sym e ∙ said .reply) .1 in
-      record { reply = omega arith; area = said .area }
+  pub asked-answered : (v k word : ℕ) → r ≡ reply.Answered v k → word ≡ replyWord 0 0 v k → Asked store c word answer
+  asked-answered v k word e w = record { reply = w ∙ answered-in (queryCall store c) v k (sym e ∙ said .reply) .1; area = said .area }
 
-  pub asked-declined : (n part a b : ℕ) → r ≡ reply.Refused n part → a ≡ n → b ≡ part → Asked store c (a + b * 256) answer
-  asked-declined n part a b e x y =
-      let w = declined-word (queryCall store c) n part (sym e ∙ said .reply) in
-      record { reply = omega arith; area = said .area }
+  declines : (n part : ℕ) → r ≡ reply.Refused n part → queryCall store c ≡ declined n part
+  declines n part e = declined-in (queryCall store c) n part (sym e ∙ said .reply)
+
+  pub declined-small : (n part : ℕ) → r ≡ reply.Refused n part → Small 14 n part
+  declined-small n part e = call-low store c n part (declines n part e)
+
+  pub asked-declined : (n part word : ℕ) → r ≡ reply.Refused n part → word ≡ replyWord n part 0 0 → Asked store c word answer
+  unfolding outcomeWord
+  asked-declined n part word e w = record { reply = w ∙ ap outcomeWord (sym (declines n part e)); area = said .area }

@@ -1,5 +1,5 @@
 -- The place of a part or of a name's certificates, packed, and the words that it points to.
-use Prim.Native.Nat.{ℕ, _+_, _-_, _*_, _/_, _%_, _^_, _≤_, _<_}
+use Prim.Native.Nat.{ℕ, _+_, _-_, _/_, _%_, _^_, _≤_, _<_}
 use mathlib.Core.Path.{_≡_, refl, sym, _∙_, ap}
 use mathlib.Core.List.{List}
 use native.Mathlib.Omega.{arith}
@@ -18,29 +18,28 @@ use Rattle.table.specs.declared.parts.Place as Held
 use Rattle.table.specs.declared.parts.Place.the-variants as place
 use Rattle.policy.proofs.Basics.{impossible}
 use Rattle.table.proofs.PartAnswers.{place-inside, place-held, query-held, query-part, policy-part}
-use Rattle.capi.specs.Places.{spanWord, spanWords, CertificatesAt, ofQuery, placeWord, placeWords, PartAt}
+use Rattle.packing.specs.Words.{spanWord}
+use Rattle.capi.specs.Places.{spanWords, CertificatesAt, ofQuery, placeWord, placeWords, PartAt}
 use Rattle.capi.proofs.Digits.{high, low}
 
 -- a length and a start in one number, taken apart
-span-words : (words : List ℕ) (start size : ℕ) → size < 2 ^ 32 → spanWords words (size + start * 2 ^ 32) ≡ take size (drop start words)
-unfolding spanWords
-span-words words start size h =
-    let l : (size + start * 2 ^ 32) % 2 ^ 32 ≡ size = low _ start (2 ^ 32) size (omega arith) h in
-    let s : (size + start * 2 ^ 32) / 2 ^ 32 ≡ start = high _ start (2 ^ 32) size (omega arith) h in
-    ap (λ (n : ℕ). take n (drop ((size + start * 2 ^ 32) / 2 ^ 32) words)) l ∙ ap (λ (n : ℕ). take size (drop n words)) s
+span-words : (words : List ℕ) (start size word : ℕ) → size < 2 ^ 32 → word ≡ spanWord start size → spanWords words word ≡ take size (drop start words)
+unfolding spanWord spanWords
+span-words words start size word h e =
+    let l : word % 2 ^ 32 ≡ size = low word start (2 ^ 32) size (omega arith) h in
+    let s : word / 2 ^ 32 ≡ start = high word start (2 ^ 32) size (omega arith) h in
+    ap (λ (n : ℕ). take n (drop (word / 2 ^ 32) words)) l ∙ ap (λ (n : ℕ). take size (drop n words)) s
 
 -- one name's certificates
-pub certificates-at : (store : List ℕ) (key name polarity from to : ℕ) → Spans store key name polarity from to →
-    CertificatesAt store key name polarity (to - from + from * 4294967296)
-unfolding spanWord
-certificates-at store key name polarity from to s =
+pub certificates-at : (store : List ℕ) (key name polarity from to word : ℕ) → Spans store key name polarity from to → word ≡ spanWord from (to - from) →
+    CertificatesAt store key name polarity word
+certificates-at store key name polarity from to word s e =
     let order = s .order in
     let inside = s .inside in
     let near = s .near in
-    let start = s .start in
     let size : length (namePart store key name polarity) ≡ to - from =
     ap length (sym (s .words)) ∙ length-take-le (to - from) (drop from store) (omega (arith, length-drop from store)) in
-    record { number = omega arith; words = span-words store from (to - from) (omega arith) ∙ s .words }
+    record { number = cc; words = span-words store from (to - from) word (omega arith) e ∙ s .words }
 
 -- a policy whose table is read is short
 policy-short : (policy : List ℕ) (xs : List Entry) → readTable policy ≡ table xs → length policy ≤ 8192
@@ -68,17 +67,17 @@ module _ (policy : List ℕ) (number : ℕ) (r : Held.Place) (is : placeIs r ≡
   pub place-small : (start size : ℕ) → r ≡ place.InPolicy start size → start + size ≤ 8192
   place-small start size e = place-near policy number start size (place-held (placeOf policy number) r start size is e)
 
-  pub in-policy : (query : List ℕ) (start size : ℕ) → r ≡ place.InPolicy start size → PartAt policy query number (size + start * 4294967296)
+  pub in-policy : (query : List ℕ) (start size word : ℕ) → r ≡ place.InPolicy start size → word ≡ spanWord start size → PartAt policy query number word
   unfolding placeWord placeWords spanWord
-  in-policy query start size e =
+  in-policy query start size word e w =
       let p = place-held (placeOf policy number) r start size is e in
       let near = place-near policy number start size p in
-      let below = lt-leb ofQuery (size + start * 4294967296) (omega arith) in
+      let below = lt-leb ofQuery word (omega arith) in
       let whole : start + size - start ≡ size = omega arith in
       record {
-        place = ap (placeWord query) p;
+        place = w ∙ ap (placeWord query) p;
         words =
-            rw (below, placeWords) (span-words policy start size (omega arith))
+            rw (below, placeWords) (span-words policy start size word (omega arith) w)
             ∙ ap (λ (n : ℕ). take n (drop start policy)) (sym whole)
             ∙ policy-part policy query number start size p;
       }

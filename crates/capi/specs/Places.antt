@@ -1,5 +1,5 @@
--- Where words stand, as one number: the length in the lower half, the start in the upper one.
-use Prim.Native.Nat.{ℕ, _+_, _-_, _*_, _/_, _%_, _^_}
+-- Where words stand, as one number, and the words that it points to.
+use Prim.Native.Nat.{ℕ, _+_, _-_, _/_, _%_, _^_}
 use mathlib.Core.Path.{_≡_}
 use mathlib.Core.Bool.{true, false}
 use mathlib.Core.List.{List}
@@ -7,12 +7,9 @@ use lib.Dec.{leb}
 use lib.ListN.{length, take, drop}
 use Rattle.certificates.specs.NamePart.{namePart, nameStart}
 use Rattle.policy.specs.Part.{Place, inPolicy, wholeQuery, placeOf, partWords}
+use Rattle.packing.specs.Words.{spanWord}
 
--- so many words from a word on
-unfoldable pub spanWord : ℕ → ℕ → ℕ
-spanWord start size = size + start * 2 ^ 32
-
--- the words that such a number points to
+-- the words that a span's number points to
 unfoldable pub spanWords : List ℕ → ℕ → List ℕ
 spanWords words w = take (w % 2 ^ 32) (drop (w / 2 ^ 32) words)
 
@@ -27,13 +24,11 @@ ofQuery = 2 ^ 63
 
 -- a part's place: some words of the policy, or the query
 unfoldable pub placeWord : List ℕ → Place → ℕ
-unfolding spanWord
 placeWord query (inPolicy start size) = spanWord start size
 placeWord query wholeQuery = length query + ofQuery
 
 -- the words that it points to: with the mark so many of the query's from its first on, else those of the policy
 unfoldable pub placeWords : List ℕ → List ℕ → ℕ → List ℕ
-unfolding spanWords
 placeWords policy query w = elim (leb ofQuery w) [ true ↦ take (w - ofQuery) query | false ↦ spanWords policy w ]
 
 -- a part: the number, and the words that it points to, which are those that `part` hands back

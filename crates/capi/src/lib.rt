@@ -8,24 +8,16 @@ use engine::Reply;
 use engine::query as ask;
 use judging::Judgement;
 use judging::judge;
+use packing::reply_word;
+use packing::span_word;
 use store::Filing;
 use store::file;
 use store::span_of;
 use table::parts::Place;
 use table::parts::place_of;
 
-// 2^32: where the upper half of a reply begins.
-const UPPER: u64 = 4294967296;
-
 // 2^63: marks the query.
 const OF_QUERY: u64 = 9223372036854775808;
-
-// x as a number of 64 bits.
-fn wide(x: u32) -> u64
-    ensures { λ r. ⌜ r ≡ x ⌝ }
-{
-    x as u64
-}
 
 // Files a certificate: 0 Filed, 1 Held, else the refusal's number.
 #[no_mangle]
@@ -55,8 +47,8 @@ pub extern "C" fn txb_query<'a>(
         r (now (answer .exit)) ⌝ }
 {
     match ask(policy, query, store, answer, definitions, scratch) {
-        Reply::Answered { verdict, draws } => wide(verdict) * 65536 + wide(draws) * UPPER,
-        Reply::Refused { number, part } => wide(number) + wide(part) * 256,
+        Reply::Answered { verdict, draws } => reply_word(0, 0, verdict, draws),
+        Reply::Refused { number, part } => reply_word(number, part, 0, 0),
     }
 }
 
@@ -66,8 +58,8 @@ pub extern "C" fn txb_judge(policy: &[u32], query: &[u32]) -> u32
     ensures { λ r. ⌜ r ≡ judgementWord (judge (now (policy .entry)) (now (query .entry))) ⌝ }
 {
     match judge(policy, query) {
-        Judgement::Verdict(verdict) => verdict * 65536,
-        Judgement::Refused { number, part } => number + part * 256,
+        Judgement::Verdict(verdict) => reply_word(0, 0, verdict, 0) as u32,
+        Judgement::Refused { number, part } => reply_word(number, part, 0, 0) as u32,
     }
 }
 
@@ -78,7 +70,7 @@ pub extern "C" fn txb_part(policy: &[u32], query: &[u32], number: u32) -> u64
 {
     match place_of(policy, number) {
         Place::WholeQuery => query.len() as u64 + OF_QUERY,
-        Place::InPolicy { start, size } => size as u64 + start as u64 * UPPER,
+        Place::InPolicy { start, size } => span_word(start, size),
     }
 }
 
@@ -88,6 +80,5 @@ pub extern "C" fn txb_certificates_of(store: &[u32], key: u32, name: u32, polari
     ensures { λ r. ⌜ CertificatesAt (now (store .entry)) key name polarity r ⌝ }
 {
     let span = span_of(store, key, name, polarity);
-    let size = span.to - span.from;
-    size as u64 + span.from as u64 * UPPER
+    span_word(span.from, span.to - span.from)
 }

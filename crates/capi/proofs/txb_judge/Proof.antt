@@ -1,6 +1,8 @@
--- A verdict is 2 at most, and a refusal's number and part are small, so nothing wraps.
+-- A verdict is 2 at most, and a refusal's number and part are small, so each has its place, and all of them fit 32 bits.
+use mathlib.Core.Path.{_∙_}
 use borrow.Author.Needs.{needs}
 use native.Mathlib.Omega.{arith}
+use Rattle.packing.specs.Words.{replyWord}
 use Rattle.capi.proofs.Packing.{verdict-small, verdict-word, refusal-small, refusal-word}
 use Rattle.capi.proofs.txb_judge.Statement.{statement}
 use Rattle.capi.proofs.txb_judge.Tie as tie
@@ -11,23 +13,36 @@ judge-requires c κs = search needs
 enum-known-verdict : tie.Need-enum-known-verdict
 enum-known-verdict c = search needs
 
-mul-result : tie.Need-mul-result
-mul-result c = omega (arith, verdict-small _ _ _ (c .before .before .before .judge .ensures) _ (c .before .verdict .given .1))
+reply-word-requires : tie.Need-reply-word-requires
+reply-word-requires c κs =
+    let s = verdict-small _ _ _ (c .before .before .before .judge .ensures) _ (c .before .verdict .given .1) in
+    (omega arith, omega arith, omega arith)
+
+cast-result : tie.Need-cast-result
+unfolding replyWord
+cast-result c =
+    let s = verdict-small _ _ _ (c .before .before .before .before .judge .ensures) _ (c .before .before .verdict .given .1) in
+    omega (arith, c .reply-word .ensures)
 
 enum-known-number : tie.Need-enum-known-number
 enum-known-number c = search needs
 
-mul-result-2 : tie.Need-mul-result-2
-mul-result-2 c = let s = refusal-small _ _ _ (c .before .before .before .judge .ensures) _ _ (c .before .number .given .1) in omega (arith, s .place)
+reply-word-requires-2 : tie.Need-reply-word-requires-2
+reply-word-requires-2 c κs =
+    let s = refusal-small _ _ _ (c .before .before .before .judge .ensures) _ _ (c .before .number .given .1) in
+    (omega (arith, s .number), omega (arith, s .place), omega arith)
 
-add-result : tie.Need-add-result
-add-result c = let s = refusal-small _ _ _ (c .before .before .before .judge .ensures) _ _ (c .before .number .given .1) in omega (arith, s .number, s .place)
+cast-result-2 : tie.Need-cast-result-2
+unfolding replyWord
+cast-result-2 c =
+    let s = refusal-small _ _ _ (c .before .before .before .before .judge .ensures) _ _ (c .before .before .number .given .1) in
+    omega (arith, s .number, s .place, c .reply-word2 .ensures)
 
 returns : tie.Need-returns
-returns c = verdict-word _ _ _ (c .before .before .before .judge .ensures) _ (c .before .verdict .given .1)
+returns c = c .reply-word .ensures ∙ verdict-word _ _ _ (c .before .before .before .before .judge .ensures) _ (c .before .before .verdict .given .1)
 
 returns-2 : tie.Need-returns-2
-returns-2 c = refusal-word _ _ _ (c .before .before .before .judge .ensures) _ _ (c .before .number .given .1)
+returns-2 c = c .reply-word2 .ensures ∙ refusal-word _ _ _ (c .before .before .before .before .judge .ensures) _ _ (c .before .before .number .given .1)
 
 pub txb-judge-spec : {M : Type 1} → statement M
 txb-judge-spec =
@@ -35,9 +50,10 @@ txb-judge-spec =
     (tie.spec
     judge-requires
     enum-known-verdict
-    mul-result
+    reply-word-requires
+    cast-result
     enum-known-number
-    mul-result-2
-    add-result
+    reply-word-requires-2
+    cast-result-2
     returns
     returns-2)

@@ -17,17 +17,16 @@ add-result c = search needs
 enum-known-start : tie.Need-enum-known-start
 enum-known-start c = search needs
 
-mul-result : tie.Need-mul-result
-mul-result c = omega (arith, place-small _ _ _ (c .before .before .before .place-of .ensures) _ _ (c .before .start .given .1))
-
-add-result-2 : tie.Need-add-result-2
-add-result-2 c = omega (arith, place-small _ _ _ (c .before .before .before .place-of .ensures) _ _ (c .before .start .given .1))
+span-word-requires : tie.Need-span-word-requires
+span-word-requires c κs =
+    let s = place-small _ _ _ (c .before .before .before .place-of .ensures) _ _ (c .before .start .given .1) in
+    (omega arith, omega arith)
 
 returns : tie.Need-returns
 returns c = in-query _ _ _ (c .before .before .place-of .ensures) _ (c .enum-told .given .1)
 
 returns-2 : tie.Need-returns-2
-returns-2 c = in-policy _ _ _ (c .before .before .before .place-of .ensures) _ _ _ (c .before .start .given .1)
+returns-2 c = in-policy _ _ _ (c .before .before .before .before .place-of .ensures) _ _ _ _ (c .before .before .start .given .1) (c .span-word .ensures)
 
 pub txb-part-spec : {M : Type 1} → statement M
 txb-part-spec =
@@ -37,7 +36,6 @@ txb-part-spec =
     enum-told
     add-result
     enum-known-start
-    mul-result
-    add-result-2
+    span-word-requires
     returns
     returns-2)

@@ -1,7 +1,7 @@
--- A verdict is 2 at most, so nothing wraps; the answer area is left as `query` leaves it.
+-- A verdict is 2 at most, and a refusal's number and part are small, so each has its place; the answer area is left as `query` leaves it.
 use borrow.Author.Needs.{needs}
 use native.Mathlib.Omega.{arith}
-use Rattle.capi.proofs.Packing.{answered-small, asked-answered, asked-declined}
+use Rattle.capi.proofs.Packing.{answered-small, asked-answered, declined-small, asked-declined}
 use Rattle.capi.proofs.txb_query.Statement.{statement}
 use Rattle.capi.proofs.txb_query.Tie as tie
 
@@ -11,37 +11,20 @@ query-requires c κs = search needs
 enum-known-verdict : tie.Need-enum-known-verdict
 enum-known-verdict c = search needs
 
-wide-requires : tie.Need-wide-requires
-wide-requires c κs = search needs
-
-mul-result : tie.Need-mul-result
-mul-result c = search needs
-
-wide-requires-2 : tie.Need-wide-requires-2
-wide-requires-2 c κs = search needs
-
-mul-result-2 : tie.Need-mul-result-2
-mul-result-2 c = search needs
-
-add-result : tie.Need-add-result
-add-result c =
-    let said = c .before .before .before .before .before .before .before .before .before .before .before .query .ensures in
-    omega (arith, answered-small _ _ _ _ said _ _ (c .before .before .before .verdict .given .1))
+reply-word-requires : tie.Need-reply-word-requires
+reply-word-requires c κs =
+    let said = c .before .before .before .before .before .before .before .before .before .query .ensures in
+    let s = answered-small _ _ _ _ said _ _ (c .before .verdict .given .1) in
+    (omega arith, omega arith, omega arith)
 
 enum-known-number : tie.Need-enum-known-number
 enum-known-number c = search needs
 
-wide-requires-3 : tie.Need-wide-requires-3
-wide-requires-3 c κs = search needs
-
-wide-requires-4 : tie.Need-wide-requires-4
-wide-requires-4 c κs = search needs
-
-mul-result-3 : tie.Need-mul-result-3
-mul-result-3 c = search needs
-
-add-result-2 : tie.Need-add-result-2
-add-result-2 c = search needs
+reply-word-requires-2 : tie.Need-reply-word-requires-2
+reply-word-requires-2 c κs =
+    let said = c .before .before .before .before .before .before .before .before .before .query .ensures in
+    let s = declined-small _ _ _ _ said _ _ (c .before .number .given .1) in
+    (omega (arith, s .number), omega (arith, s .place), omega arith)
 
 same-length : tie.Need-same-length
 same-length c = search needs
@@ -54,8 +37,8 @@ same-length-3 c = search needs
 
 returns : tie.Need-returns
 returns c =
-    let said = c .before .before .before .before .before .before .before .before .before .before .before .query .ensures in
-    asked-answered _ _ _ _ said _ _ _ _ (c .before .before .before .verdict .given .1) (c .before .wide .ensures) (c .wide2 .ensures)
+    let said = c .before .before .before .before .before .before .before .before .before .before .query .ensures in
+    asked-answered _ _ _ _ said _ _ _ (c .before .before .verdict .given .1) (c .reply-word .ensures)
 
 same-length-4 : tie.Need-same-length-4
 same-length-4 c = search needs
@@ -68,8 +51,8 @@ same-length-6 c = search needs
 
 returns-2 : tie.Need-returns-2
 returns-2 c =
-    let said = c .before .before .before .before .before .before .before .before .before .before .before .query .ensures in
-    asked-declined _ _ _ _ said _ _ _ _ (c .before .before .before .number .given .1) (c .before .wide3 .ensures) (c .wide4 .ensures)
+    let said = c .before .before .before .before .before .before .before .before .before .before .query .ensures in
+    asked-declined _ _ _ _ said _ _ _ (c .before .before .number .given .1) (c .reply-word2 .ensures)
 
 pub txb-query-spec : {M : Type 1} → statement M
 txb-query-spec =
@@ -77,16 +60,9 @@ txb-query-spec =
     (tie.spec
     query-requires
     enum-known-verdict
-    wide-requires
-    mul-result
-    wide-requires-2
-    mul-result-2
-    add-result
+    reply-word-requires
     enum-known-number
-    wide-requires-3
-    wide-requires-4
-    mul-result-3
-    add-result-2
+    reply-word-requires-2
     same-length
     same-length-2
     same-length-3
