@@ -11,9 +11,9 @@ use Rattle.rows.specs.Ordered.{lists, keep, common, without}
 use Rattle.rows.specs.Row.{Row, rowBefore}
 use Rattle.rows.specs.Sets.{RowSet, listing}
 use Rattle.rows.specs.Layout.{rowWords, rowIn, fiveAt, flat, laid, setWords, put, rowsIn, formed, soundSet}
-use Rattle.sets.specs.Values.{wordsOf, rowOf}
+use Rattle.layout.specs.Values.{wordsOf, rowOf}
 use Rattle.algebra.specs.Private.{roomAt, Apart, Rooms, Passed, Sought, keeps, picked}
-use Rattle.sets.specs.declared.row.Row as Held
+use Rattle.layout.specs.declared.row.Row as Held
 use Rattle.algebra.specs.declared.Place as Place
 use Rattle.rows.proofs.Case.{Case, isTrue, isFalse, split}
 use Rattle.rows.proofs.Order.{row-order}
@@ -22,7 +22,7 @@ use Rattle.rows.proofs.Sets.{keep-all}
 use Rattle.rows.proofs.Place.{ascending-at}
 use Rattle.rows.proofs.Put.{part-after, part-before, put-then-after, put-none}
 use Rattle.rows.proofs.LayoutLaws.{row-reads, row-length, formed-listing, formed-word}
-use Rattle.sets.proofs.RowLaws.{loaded-row, loaded-width, five-width}
+use Rattle.layout.proofs.RowLaws.{loaded-row, loaded-width, five-width}
 use Rattle.sets.proofs.SetWords.{size, sound-ascending}
 use Rattle.sets.proofs.Laid.{Narrow, laid-length, laid-append, narrow-in, row-words-at, inner, count-put}
 

@@ -9,17 +9,17 @@ use lib.Seq.{take-all, length-take-le}
 use Rattle.rows.specs.Ordered.{join}
 use Rattle.rows.specs.Row.{Row, rowBefore}
 use Rattle.rows.specs.Layout.{rowWords, rowIn, fiveAt, flat, laid, put, rowsIn}
-use Rattle.sets.specs.Values.{orderOf}
+use Rattle.layout.specs.Values.{orderOf}
 use Rattle.algebra.specs.Private.{lastOrder, roomAt, Rooms}
-use Rattle.sets.specs.declared.row.Order as Order
-use Rattle.sets.specs.declared.row.Order.the-variants.{Before, Same, After}
+use Rattle.layout.specs.declared.row.Order as Order
+use Rattle.layout.specs.declared.row.Order.the-variants.{Before, Same, After}
 use Rattle.rows.proofs.Order.{row-order}
 use Rattle.rows.proofs.Lists.{all-in, all-of, all-at, all-drop}
 use Rattle.rows.proofs.Ordered.{Ascending, join-∈}
 use Rattle.rows.proofs.Joining.{join-shorter, last-place, last-front, last-rest, firsts-right, firsts-left, firsts-both, firsts-longer, firsts-none}
 use Rattle.rows.proofs.Put.{part-after, part-before, put-then-after, put-then-before, put-none, put-itself}
 use Rattle.rows.proofs.LayoutLaws.{row-reads, row-length}
-use Rattle.sets.proofs.RowLaws.{five-width, before-order, same-order, after-order}
+use Rattle.layout.proofs.RowLaws.{five-width, before-order, same-order, after-order}
 use Rattle.sets.proofs.SetWords.{sound-ascending}
 use Rattle.sets.proofs.Laid.{Narrow, laid-length, laid-append, narrow-in, laid-front, inner, front-length}
 use Rattle.algebra.proofs.Filtering.{room-few, room-count, room-row}

@@ -8,9 +8,9 @@ use lib.ListN.{length, getD, take, drop}
 use Rattle.rows.specs.Ordered.{lists, common, without}
 use Rattle.rows.specs.Row.{Row, rowBefore}
 use Rattle.rows.specs.Layout.{soundSet}
-use Rattle.sets.specs.Values.{orderOf}
-use Rattle.sets.specs.declared.row.Order as Order
-use Rattle.sets.specs.declared.row.Order.the-variants.{Before}
+use Rattle.layout.specs.Values.{orderOf}
+use Rattle.layout.specs.declared.row.Order as Order
+use Rattle.layout.specs.declared.row.Order.the-variants.{Before}
 use Rattle.algebra.specs.declared.Place as Place
 
 -- the same of the last of `n` rows, which comes before all if there is none

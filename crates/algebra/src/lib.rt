@@ -8,18 +8,18 @@ ghost use Rattle.rows.specs.Row.{rowBefore};
 ghost use Rattle.rows.specs.Sets.{only, mostRows, unite, subtract};
 ghost use lib.Dec.{leb};
 ghost use Rattle.rows.specs.Layout.{rowIn, fiveAt, laid, rowsIn, formed, setIn, setWords, soundSet, written, put};
-ghost use Rattle.sets.specs.Values.{rowOf};
+ghost use Rattle.layout.specs.Values.{rowOf};
 ghost use Rattle.algebra.specs.Combined.{leftBy, Combined};
 ghost use Rattle.algebra.specs.Private.{lastOrder, roomAt, Rooms, Passed, Sought, keeps, picked};
+use layout::copy_down;
+use layout::copy_up;
+use layout::row::Order;
+use layout::row::Row;
+use layout::row::compare;
+use layout::row::load;
+use layout::row::wide;
 use rows::MOST_LISTED;
 use rows::SET_ROOM;
-use sets::row::Order;
-use sets::row::Row;
-use sets::row::compare;
-use sets::row::load;
-use sets::row::wide;
-use sets::words::copy_down;
-use sets::words::copy_up;
 
 // the right set lies behind the left one, its count after its form
 const RIGHT_COUNT: usize = SET_ROOM + 1;

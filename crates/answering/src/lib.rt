@@ -9,7 +9,7 @@ use reading::Read;
 use reading::read_whole;
 use refusals::QUERY_PART;
 use rows::SET_ROOM;
-use sets::set::copy;
+use sets::copy;
 use table::parts::part;
 
 pub enum Reply {

@@ -7,7 +7,7 @@ ghost use Rattle.certificates.specs.Certificate.{recordWords};
 ghost use Rattle.certificates.specs.Store.{capacity, countOf};
 ghost use Rattle.certificates.specs.Steps.{putIn};
 use certificates::RECORD_WORDS;
-use sets::words::copy_up;
+use layout::copy_up;
 
 // Writes words over those that stand at `at`.
 fn write(store: &mut [u32], at: usize, words: &[u32])

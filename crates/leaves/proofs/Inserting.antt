@@ -10,15 +10,15 @@ use Rattle.rows.specs.Ordered.{insert}
 use Rattle.rows.specs.Row.{Row, rowBefore}
 use Rattle.rows.specs.Sets.{has}
 use Rattle.rows.specs.Layout.{rowsIn, setIn}
-use Rattle.sets.specs.Values as held
+use Rattle.layout.specs.Values as held
 use Rattle.sets.specs.Values.{insertion, afterInsert}
-use Rattle.sets.specs.declared.row.Row as Held-row
-use Rattle.sets.specs.declared.set.Inserted as Inserted
-use Rattle.sets.specs.declared.set.Inserted.the-variants.{New, Known, Full}
+use Rattle.layout.specs.declared.row.Row as Held-row
+use Rattle.sets.specs.declared.Inserted as Inserted
+use Rattle.sets.specs.declared.Inserted.the-variants.{New, Known, Full}
 use Rattle.rows.proofs.Order.{row-order}
 use Rattle.rows.proofs.Joining.{insert-shorter}
 use Rattle.rows.proofs.LayoutLaws.{Width, formed-word, formed-listing, true-sound}
-use Rattle.sets.proofs.RowLaws.{held-length}
+use Rattle.layout.proofs.RowLaws.{held-length}
 use Rattle.sets.proofs.Standing.{stands-rows, stands-form, formed-few, fit-size, written-stands, inserted-fit, inserted-few, inserted-words, full-many}
 use Rattle.meaning.specs.Reading.{done, refused, within}
 use Rattle.values.specs.Rows.{SayRow}

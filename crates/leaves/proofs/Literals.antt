@@ -9,8 +9,8 @@ use lib.ListN.{length, take, drop, getD}
 use Rattle.rows.specs.Ordered.{_∈_, insert, join}
 use Rattle.rows.specs.Row.{Row, rowBefore}
 use Rattle.rows.specs.Layout.{rowsIn, formed, setIn, soundSet, written}
-use Rattle.sets.specs.Values as held
-use Rattle.sets.specs.declared.row.Row as Held-row
+use Rattle.layout.specs.Values as held
+use Rattle.layout.specs.declared.row.Row as Held-row
 use Rattle.rows.proofs.Case.{_then_, iff-refl, iff-sym, both-or}
 use Rattle.rows.proofs.Order.{row-order}
 use Rattle.rows.proofs.Ordered.{Ascending, insert-∈, insert-ascending, join-ascending, ascending-unique}

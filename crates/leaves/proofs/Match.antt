@@ -11,9 +11,9 @@ use lib.ListN.{length, drop, getD, length-drop}
 use lib.Seq.{drop-cons}
 use borrow.Author.Tests.{eq-eqb, ne-eqb}
 use Rattle.rows.specs.Row.{Row}
-use Rattle.sets.specs.Values.{rowOf}
-use Rattle.sets.specs.declared.row.Row as Held
-use Rattle.sets.proofs.RowLaws.{held-length, held-atom}
+use Rattle.layout.specs.Values.{rowOf}
+use Rattle.layout.specs.declared.row.Row as Held
+use Rattle.layout.proofs.RowLaws.{held-length, held-atom}
 use Rattle.policy.specs.Syntax.{Term, Slot, old, new}
 use Rattle.policy.specs.Words.{termWords, slotWords, fresh}
 use Rattle.meaning.specs.Values.{Values, value}

@@ -15,15 +15,15 @@ use Rattle.rows.specs.Row.{Row, isKey, firstKey, rowBefore}
 use Rattle.rows.specs.Name.{Polarity, plus, minus, polarityOf, polarityWord, samePolarity}
 use Rattle.rows.specs.Sets.{RowSet, listing, has}
 use Rattle.rows.specs.Layout.{laid, rowWords, rowIn, fiveAt, soundRow, flat, pieces, rowsIn, formed, setIn, written, put}
-use Rattle.sets.specs.Values.{wordsOf, rowOf}
-use Rattle.sets.specs.declared.row.Row as Held-row
+use Rattle.layout.specs.Values.{wordsOf, rowOf}
+use Rattle.layout.specs.declared.row.Row as Held-row
 use Rattle.rows.proofs.Case.{Case, isTrue, isFalse, split}
 use Rattle.rows.proofs.Order.{row-order}
 use Rattle.rows.proofs.Lists.{all-in, all-of, at-all, all-take}
 use Rattle.rows.proofs.Ordered.{Ascending}
 use Rattle.rows.proofs.Joining.{join-none}
 use Rattle.rows.proofs.LayoutLaws.{Width, piece-at, length-pieces, row-length, row-width, sound-width, formed-listing, formed-word}
-use Rattle.sets.proofs.RowLaws.{five-length, five-width, loaded-row, loaded-width}
+use Rattle.layout.proofs.RowLaws.{five-length, five-width, loaded-row, loaded-width}
 use Rattle.rows.proofs.Put.{put-length, put-none, put-then-after}
 use Rattle.sets.proofs.Laid.{drop-take, Narrow, laid-length, laid-append, written-count}
 use Rattle.sets.proofs.Standing.{formed-fit, formed-few, written-stands}

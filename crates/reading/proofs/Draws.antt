@@ -13,11 +13,11 @@ use borrow.Author.Tests.{lt-ltb, le-ltb}
 use Rattle.rows.specs.Row.{Row}
 use Rattle.rows.specs.Sets.{RowSet, only, allBut}
 use Rattle.rows.specs.Layout.{fiveAt, rowsIn, formed, setIn}
-use Rattle.sets.specs.Values.{wordsOf, rowOf}
-use Rattle.sets.specs.declared.row.Row as Held
+use Rattle.layout.specs.Values.{wordsOf, rowOf}
+use Rattle.layout.specs.declared.row.Row as Held
 use Rattle.rows.proofs.Case.{never}
 use Rattle.rows.proofs.LayoutLaws.{true-sound, rows-count, row-at}
-use Rattle.sets.proofs.RowLaws.{loaded-row, loaded-width}
+use Rattle.layout.proofs.RowLaws.{loaded-row, loaded-width}
 use Rattle.sets.proofs.SetWords.{width-at}
 use Rattle.policy.specs.Syntax.{Slot, Body}
 use Rattle.policy.specs.Words.{fresh}

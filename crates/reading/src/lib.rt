@@ -1,6 +1,8 @@
 // The readers of expressions and of guards, which call each other. An expression's set is left at the area's front; what lies behind it is free.
 // A comprehension gathers its rows at the front, and from `free` on the area is free: below it lie the sets that are drawn from.
 ghost use Rattle.reading.specs.Readers.{AskExpr, AskTwo, AskBody, AskDraw, AskEach, AskAbsent, AskNamed, SayExpr, SayTwo, SayBody, SayDraw, SayEach, SayAbsent, AskWhole, SayWhole};
+use layout::row::load;
+use layout::row::wide;
 use leaves::combine;
 use leaves::has_row;
 use leaves::insert_head;
@@ -12,9 +14,7 @@ use names::read_name;
 use refusals::COMPLEMENT_DRAWN;
 use refusals::TOO_MANY_DRAWS;
 use rows::SET_ROOM;
-use sets::row::load;
-use sets::row::wide;
-use sets::set::clear;
+use sets::clear;
 use values::Belongs;
 use values::Env;
 use values::Guard;

@@ -4,9 +4,9 @@ ghost use Rattle.rows.specs.Ordered.{wordsBefore};
 ghost use Rattle.certificates.specs.Certificate.{soundRecord};
 use certificates::RECORD_WORDS;
 use certificates::ROW_IN_RECORD;
+use layout::row;
 use rows::FIRST_KEY;
 use rows::LAST_NAME;
-use sets::row;
 
 // Does `a` come before `b`, word by word?
 pub fn words_before(a: &[u32], b: &[u32]) -> bool

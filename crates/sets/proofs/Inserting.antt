@@ -11,9 +11,9 @@ use Rattle.rows.specs.Sets.{listing, mostRows}
 use Rattle.rows.specs.Layout.{rowsIn, formed, setIn, soundSet, written}
 use Rattle.sets.specs.Values.{insertion, afterInsert}
 use Rattle.sets.specs.Private.{Finds}
-use Rattle.sets.specs.declared.set.Found as Found
-use Rattle.sets.specs.declared.set.Found.the-variants.{At, Missing}
-use Rattle.sets.specs.declared.set.Inserted.the-variants.{New, Known, Full}
+use Rattle.sets.specs.declared.Found as Found
+use Rattle.sets.specs.declared.Found.the-variants.{At, Missing}
+use Rattle.sets.specs.declared.Inserted.the-variants.{New, Known, Full}
 use Rattle.rows.proofs.Case.{T-true}
 use Rattle.rows.proofs.Order.{row-order}
 use Rattle.rows.proofs.Ordered.{lists-iff}

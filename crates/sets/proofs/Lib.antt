@@ -1,4 +1,3 @@
-pub mod RowLaws
 pub mod SetWords
 pub mod Laid
 pub mod Inserting

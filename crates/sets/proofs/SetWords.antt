@@ -10,18 +10,18 @@ use Rattle.rows.specs.Ordered.{lists}
 use Rattle.rows.specs.Sets.{has}
 use Rattle.rows.specs.Row.{Row, rowBefore}
 use Rattle.rows.specs.Layout.{rowIn, fiveAt, soundRow, pieces, every, rowsIn, formed, setIn, soundSet}
-use Rattle.sets.specs.Values.{wordsOf, rowOf, orderOf}
+use Rattle.layout.specs.Values.{wordsOf, rowOf, orderOf}
 use Rattle.sets.specs.Private.{Finds}
-use Rattle.sets.specs.declared.row.Row as Held
-use Rattle.sets.specs.declared.row.Order as Order
-use Rattle.sets.specs.declared.row.Order.the-variants.{Before, Same, After}
-use Rattle.sets.specs.declared.set.Found as Found
-use Rattle.sets.specs.declared.set.Found.the-variants.{At, Missing}
+use Rattle.layout.specs.declared.row.Row as Held
+use Rattle.layout.specs.declared.row.Order as Order
+use Rattle.layout.specs.declared.row.Order.the-variants.{Before, Same, After}
+use Rattle.sets.specs.declared.Found as Found
+use Rattle.sets.specs.declared.Found.the-variants.{At, Missing}
 use Rattle.rows.proofs.Order.{row-order}
 use Rattle.rows.proofs.Ordered.{Ascending, ascending-true}
 use Rattle.rows.proofs.Place.{Between, gap-insert, gap-lists, found-lists}
 use Rattle.rows.proofs.LayoutLaws.{sound-width, piece-sound, row-at, rows-count, true-sound}
-use Rattle.sets.proofs.RowLaws.{five-width, loaded-row, before-order, after-order, same-order}
+use Rattle.layout.proofs.RowLaws.{five-width, loaded-row, before-order, after-order, same-order}
 
 pub width-at : (n : ℕ) (ws : List ℕ) (i : ℕ) → every soundRow (pieces 5 n (drop 2 ws)) ≡ true → i < n → getD ws (2 + 5 * i) 0 ≤ 4
 width-at n ws i e h = let s = sound-width (fiveAt ws (2 + 5 * i)) (piece-sound n ws i e h) .few in omega (arith, five-width ws (2 + 5 * i))

@@ -13,8 +13,8 @@ use Rattle.rows.specs.Row.{Row, rowBefore}
 use Rattle.rows.specs.Sets.{RowSet, listing, mostRows}
 use Rattle.rows.specs.Layout.{formWord, setWords, written, rowsIn, formed, setIn, soundSet}
 use Rattle.sets.specs.Values.{insertion, afterInsert}
-use Rattle.sets.specs.declared.set.Inserted as Inserted
-use Rattle.sets.specs.declared.set.Inserted.the-variants.{New, Known, Full}
+use Rattle.sets.specs.declared.Inserted as Inserted
+use Rattle.sets.specs.declared.Inserted.the-variants.{New, Known, Full}
 use Rattle.rows.proofs.Case.{Case, isTrue, isFalse, split, never, T-true, true-T}
 use Rattle.rows.proofs.Order.{row-order}
 use Rattle.rows.proofs.Ordered.{Ascending, lists-iff, insert-ascending, insert-length}

@@ -6,8 +6,8 @@ use mathlib.Core.List.{List, [], _∷_, _++_}
 use lib.ListN.{length, getD, take, drop}
 use Rattle.rows.specs.Ordered.{lists, insert}
 use Rattle.rows.specs.Row.{Row, rowBefore}
-use Rattle.sets.specs.declared.set.Found as Found
-use Rattle.sets.specs.declared.set.Found.the-variants.{At, Missing}
+use Rattle.sets.specs.declared.Found as Found
+use Rattle.sets.specs.declared.Found.the-variants.{At, Missing}
 
 -- where a row stands in an ascending list, or would stand
 unfoldable pub Finds : List Row → Row → Found.Found → Type 0

@@ -7,8 +7,8 @@ use native.Mathlib.Omega.{arith}
 use lib.ListN.{length, take, getD, set, length-map, length-set, List·getD-map}
 use lib.Seq.{take-suc, take-suc-set, take-all}
 use Rattle.rows.specs.Layout.{rowIn}
-use Rattle.sets.specs.Values as held
-use Rattle.sets.specs.Values.{wordsOf}
+use Rattle.layout.specs.Values as held
+use Rattle.layout.specs.Values.{wordsOf}
 use Rattle.policy.specs.Syntax.{Term, atom}
 use Rattle.policy.specs.Words.{termWords, each, termRowWords}
 use Rattle.meaning.specs.Values.{Values, value, rowOf}

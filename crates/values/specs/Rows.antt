@@ -2,8 +2,8 @@
 use Prim.Native.Nat.{ℕ, _≤_}
 use mathlib.Core.Path.{_≡_}
 use mathlib.Core.List.{List}
-use Rattle.sets.specs.Values as held
-use Rattle.sets.specs.declared.row.Row as Held-row
+use Rattle.layout.specs.Values as held
+use Rattle.layout.specs.declared.row.Row as Held-row
 use Rattle.policy.specs.Syntax.{Term}
 use Rattle.meaning.specs.Values.{rowOf}
 use Rattle.values.specs.Values.{valuesOf}

@@ -9,8 +9,8 @@ ghost use Rattle.meaning.specs.Values.{value};
 ghost use Rattle.values.specs.Values.{valuesOf, termOf, passing};
 ghost use Rattle.values.specs.Places.{IsTerm, IsSlot, IsGuard, SomeRow, SomeGuard};
 ghost use Rattle.values.specs.Rows.{SayRow};
-use sets::row::Row;
-use sets::row::wide;
+use layout::row::Row;
+use layout::row::wide;
 
 // The values of the variables in scope, variable 0 first.
 pub struct Env {

@@ -4,8 +4,8 @@ use mathlib.Core.Path.{_∙_, ap}
 use native.Mathlib.Omega.{arith}
 use Rattle.rows.specs.Row.{Row}
 use Rattle.rows.specs.Layout.{rowIn, fiveAt}
-use Rattle.sets.specs.Values.{orderOf}
-use Rattle.sets.proofs.RowLaws.{loaded-row, loaded-width}
+use Rattle.layout.specs.Values.{orderOf}
+use Rattle.layout.proofs.RowLaws.{loaded-row, loaded-width}
 use Rattle.algebra.proofs.Merging.{last-zero, last-some}
 use borrow.Author.Needs.{needs}
 use Rattle.algebra.proofs.last.Statement.{statement}

@@ -4,7 +4,7 @@ use mathlib.Core.List.{[]}
 use native.Mathlib.Omega.{arith}
 use Rattle.rows.specs.Row.{rowBefore}
 use Rattle.rows.specs.Layout.{rowsIn}
-use Rattle.sets.specs.Values.{rowOf}
+use Rattle.layout.specs.Values.{rowOf}
 use Rattle.rows.proofs.Order.{row-order}
 use Rattle.rows.proofs.Place.{between-up}
 use Rattle.sets.proofs.SetWords.{size, width-in, row-before, row-same, row-after, sound-ascending}

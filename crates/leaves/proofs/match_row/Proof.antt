@@ -4,7 +4,7 @@ use mathlib.Core.Path.{_≡_, sym, _∙_}
 use native.Mathlib.Omega.{arith}
 use lib.ListN.{length, getD}
 use borrow.Author.Needs.{needs}
-use Rattle.sets.specs.Values.{rowOf}
+use Rattle.layout.specs.Values.{rowOf}
 use Rattle.values.proofs.Places.{pattern-width}
 use Rattle.values.proofs.Held.{slot-told}
 use Rattle.leaves.proofs.Match.{Matching, other-width, matching-start, slot-inside, new-scope, same-width, matching-new, matching-old, matched, mismatched}

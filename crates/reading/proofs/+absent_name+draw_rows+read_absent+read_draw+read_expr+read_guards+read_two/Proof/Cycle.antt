@@ -38,9 +38,9 @@ use Rattle.values.proofs.skip.skip_pattern.Reads as skip-pattern-reads
 use Rattle.values.proofs.skip.skip_row.Reads as skip-row-reads
 use Rattle.values.proofs.guard_at.Reads as guard-at-reads
 use Rattle.values.proofs.passes.Reads as passes-reads
-use Rattle.sets.proofs.row.load.Reads as load-reads
-use Rattle.sets.proofs.row.wide.Reads as wide-reads
-use Rattle.sets.proofs.set.clear.Reads as clear-reads
+use Rattle.layout.proofs.row.load.Reads as load-reads
+use Rattle.layout.proofs.row.wide.Reads as wide-reads
+use Rattle.sets.proofs.clear.Reads as clear-reads
 
 -- the words left from the name on
 abbrev pub μ-absent-name : Measures 4 absent-name-kinds.ps ℕ

@@ -1,0 +1,31 @@
+// Words copied within one area; rows in words.
+pub mod row;
+
+ghost use mathlib.Core.Path.{_≡_};
+ghost use Prim.Native.Nat.{_+_, _≤_};
+ghost use lib.ListN.{length, take, drop};
+ghost use Rattle.rows.specs.Layout.{put};
+
+// Copies `count` words to lower places, the first of them first.
+pub fn copy_down(area: &mut [u32], from: usize, to: usize, count: usize)
+    requires { ⌜ (to ≤ from) × (from + count ≤ length (now area)) ⌝ }
+    ensures { λ _. ⌜ now (area .exit) ≡ put to (take count (drop from (now (area .entry)))) (now (area .entry)) ⌝ }
+{
+    let mut j: usize = 0;
+    while j < count {
+        area[to + j] = area[from + j];
+        j += 1;
+    }
+}
+
+// Copies `count` words to higher places, the last of them first.
+pub fn copy_up(area: &mut [u32], from: usize, to: usize, count: usize)
+    requires { ⌜ (from ≤ to) × (to + count ≤ length (now area)) ⌝ }
+    ensures { λ _. ⌜ now (area .exit) ≡ put to (take count (drop from (now (area .entry)))) (now (area .entry)) ⌝ }
+{
+    let mut j = count;
+    while 0 < j {
+        j -= 1;
+        area[to + j] = area[from + j];
+    }
+}

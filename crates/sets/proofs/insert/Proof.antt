@@ -1,0 +1,53 @@
+-- The search decides.
+use native.Mathlib.Omega.{arith}
+use Rattle.layout.specs.Values.{rowOf}
+use Rattle.sets.proofs.SetWords.{size}
+use Rattle.sets.proofs.Inserting.{known-answer, known-words, missing-place, full-answer, full-words, new-answer, new-words}
+use borrow.Author.Needs.{needs}
+use Rattle.sets.proofs.insert.Statement.{statement}
+use Rattle.sets.proofs.insert.Tie as tie
+
+slice-read-if1 : tie.Need-slice-read-if1
+slice-read-if1 c =
+    let s = size (c .before .before .before .before .before .before .before .args .set .now) (c .before .before .before .before .before .before .before .pre .0) in omega arith
+
+returns : tie.Need-returns
+returns c =
+    let a = c .before .before .before .before .before .before .before .before .args in
+    let s = size (a .set .now) (c .before .before .before .before .before .before .before .before .pre .0) in
+    (full-answer (a .set .now) (rowOf (a .row)) _ _ (c .before .before .before .before .before .find .ensures) (c .before .before .before .i .given .1) (omega arith), full-words (a .set .now) (rowOf (a .row)) _ _ (c .before .before .before .before .before .find .ensures) (c .before .before .before .i .given .1))
+
+insert-at-requires : tie.Need-insert-at-requires
+insert-at-requires c κs =
+    let a = c .before .before .before .before .before .before .before .before .before .args in
+    let s = size (a .set .now) (c .before .before .before .before .before .before .before .before .before .pre .0) in
+    let n = c .before .if1 .left in
+    (c .before .before .before .before .before .before .before .before .before .pre .0, c .before .before .before .before .before .before .before .before .before .pre .1, missing-place (a .set .now) (rowOf (a .row)) _ _ (c .before .before .before .before .before .before .find .ensures) (c .before .before .before .before .i .given .1), omega arith, c .before .before .before .before .before .before .before .before .before .pre .3)
+
+returns-2 : tie.Need-returns-2
+returns-2 c =
+    let a = c .before .before .before .before .before .args in
+    (known-answer (a .set .now) (rowOf (a .row)) _ _ (c .before .before .find .ensures) (c .enum-told .given .1), known-words (a .set .now) (rowOf (a .row)) _ _ (c .before .before .find .ensures) (c .before .before .before .before .before .pre .0) (c .enum-told .given .1))
+
+returns-3 : tie.Need-returns-3
+returns-3 c =
+    let a = c .before .before .before .before .before .before .before .before .before .before .before .before .args in
+    let s = size (a .set .now) (c .before .before .before .before .before .before .before .before .before .before .before .before .pre .0) in
+    let n = c .before .before .before .before .if1 .left in
+    (new-answer (a .set .now) (rowOf (a .row)) _ _ (c .before .before .before .before .before .before .before .before .before .find .ensures) (c .before .before .before .before .before .before .before .i .given .1) (omega arith), new-words (a .set .now) (rowOf (a .row)) _ _ (c .before .before .before .before .before .before .before .before .before .find .ensures) (c .before .before .before .before .before .before .before .i .given .1) _ (c .before .before .insert-at .ensures))
+
+pub insert-spec : {M : Type 1} → statement M
+insert-spec =
+    tie.close
+    (tie.spec
+    (λ c κs. search needs)
+    (λ c. search needs)
+    (λ c. search needs)
+    slice-read-if1
+    (λ c. search needs)
+    returns
+    insert-at-requires
+    (λ c. search needs)
+    returns-2
+    (λ c. search needs)
+    returns-3)
