@@ -1,21 +1,18 @@
 -- The reader of a draw, and the loop over the rows of the drawn set.
 use Prim.Native.Nat.{ℕ, zero, suc, _+_, _-_, _*_, _≤_, _<_}
 use mathlib.Core.Path.{_≡_, refl, sym, ap, subst, _∙_}
-use mathlib.Core.Bool.{Bool, true, false}
+use mathlib.Core.Bool.{true, false}
 use mathlib.Core.List.{List, []}
 use mathlib.Core.Option.{Option, none, some}
 use native.Mathlib.Numerals.{add-one}
 use native.Mathlib.Omega.{arith}
-use lib.Dec.{ltb}
 use lib.ListN.{length, take, drop, getD, length-drop, drop-of-length-le}
 use lib.Seq.{drop-cons, drop-drop, getD-drop}
-use borrow.Author.Tests.{lt-ltb, le-ltb}
 use Rattle.rows.specs.Row.{Row}
 use Rattle.rows.specs.Sets.{RowSet, only, allBut}
 use Rattle.rows.specs.Layout.{fiveAt, rowsIn, formed, setIn}
 use Rattle.layout.specs.Values.{wordsOf, rowOf}
 use Rattle.layout.specs.declared.row.Row as Held
-use Rattle.rows.proofs.Case.{never}
 use Rattle.rows.proofs.LayoutLaws.{true-sound, rows-count, row-at}
 use Rattle.layout.proofs.RowLaws.{loaded-row, loaded-width}
 use Rattle.sets.proofs.SetWords.{width-at}
@@ -42,36 +39,21 @@ use Rattle.values.specs.declared.Read.the-variants.{Done, Refused}
 
 -- ---- one draw
 
-either-first : (b : Bool) (x y : Answer (Unit {0})) → b ≡ true → (elim b as (λ c. Answer (Unit {0})) [ true ↦ x | false ↦ y ]) ≡ x
-either-first true x y e = refl
-either-first false x y e = never e refl
-
-either-second : (b : Bool) (x y : Answer (Unit {0})) → b ≡ false → (elim b as (λ c. Answer (Unit {0})) [ true ↦ x | false ↦ y ]) ≡ y
-either-second true x y e = never refl e
-either-second false x y e = refl
-
-tick-on : (k : ℕ) → k < 1000000 → tick k ≡ done tt (k + 1)
-unfolding tick
-tick-on k h = either-first (ltb k 1000000) (done tt (k + 1)) (refused 14) (lt-ltb _ _ h)
-
-tick-off : (k : ℕ) → 1000000 ≤ k → tick k ≡ refused 14
-unfolding tick
-tick-off k h = either-second (ltb k 1000000) (done tt (k + 1)) (refused 14) (le-ltb _ _ h)
-
 module _ (rest : Values → List Row → Reading (List Row)) (p : List Slot) (vs : Values) (xs found : List Row) (k i : ℕ) (inside : i < length xs) where
-  draw-limit : 1000000 ≤ k → drawEach rest p vs (drop i xs) found k ≡ refused 14
+  draw-limit : {n : ℕ} → tick k ≡ refused n → drawEach rest p vs (drop i xs) found k ≡ refused n
   unfolding drawEach
-  draw-limit h = rw (drop-cons xs i [] inside) (after-refused _ (tick-off k h))
+  draw-limit h = rw (drop-cons xs i [] inside) (after-refused _ h)
 
-  draw-stops : (n : ℕ) → k < 1000000 → onMatch rest found (match p vs (getD xs i [])) (k + 1) ≡ refused n → drawEach rest p vs (drop i xs) found k ≡ refused n
-  unfolding drawEach
-  draw-stops n h g = rw (drop-cons xs i [] inside) (after-done _ (tick-on k h) (after-refused _ g))
+  module _ {one : ℕ} (drawn : tick k ≡ done tt one) where
+    draw-stops : {n : ℕ} → onMatch rest found (match p vs (getD xs i [])) one ≡ refused n → drawEach rest p vs (drop i xs) found k ≡ refused n
+    unfolding drawEach
+    draw-stops g = rw (drop-cons xs i [] inside) (after-done _ drawn (after-refused _ g))
 
-  draw-goes : (more : List Row) (j : ℕ) (a : Answer (List Row)) → k < 1000000 → onMatch rest found (match p vs (getD xs i [])) (k + 1) ≡ done more j →
-      drawEach rest p vs (drop (i + 1) xs) more j ≡ a → drawEach rest p vs (drop i xs) found k ≡ a
-  unfolding drawEach
-  draw-goes more j a h g next =
-      rw (drop-cons xs i [] inside) (after-done _ (tick-on k h) (after-done _ g (subst (λ (n : ℕ). drawEach rest p vs (drop n xs) more j ≡ a) (add-one i) next)))
+    draw-goes : (more : List Row) (j : ℕ) (a : Answer (List Row)) → onMatch rest found (match p vs (getD xs i [])) one ≡ done more j →
+        drawEach rest p vs (drop (i + 1) xs) more j ≡ a → drawEach rest p vs (drop i xs) found k ≡ a
+    unfolding drawEach
+    draw-goes more j a g next =
+        rw (drop-cons xs i [] inside) (after-done _ drawn (after-done _ g (subst (λ (n : ℕ). drawEach rest p vs (drop n xs) more j ≡ a) (add-one i) next)))
 
 -- ---- the rows of the drawn set in turn
 
@@ -80,7 +62,7 @@ module _ (xs : List Row) (i : ℕ) {f : From} {ws : List ℕ} {pattern rest left
   unfolding drawEach
   each-end h = record { says = λ p b s w. rw (drop-of-length-le xs h) }
 
-  each-limit : i < length xs → 1000000 ≤ k → MeansEach f ws pattern rest left env (drop i xs) k found (refused 14)
+  each-limit : {n : ℕ} → i < length xs → tick k ≡ refused n → MeansEach f ws pattern rest left env (drop i xs) k found (refused n)
   each-limit h q = record { says = λ p b s w. draw-limit (gathering f b) p (valuesOf env) xs found k i h q }
 
 module _ {ws : List ℕ} {pattern : ℕ} {env : Env} {x : Row} {m : Matched} (said : SayMatch ws pattern env x m) {p : List Slot} (s : StandsPattern (env .count) ws pattern p) where
@@ -96,30 +78,30 @@ module _ {ws : List ℕ} {pattern : ℕ} {env : Env} {x : Row} {m : Matched} (sa
   after-hit ok {known} {rest} {left} {b} w = subst (λ (n : ℕ). StandsBody known n ws rest left b) (sym (said .count p s ok)) w
 
 module _ (f : From) {ws : List ℕ} {pattern rest left : ℕ} {env : Env} (xs : List Row) (i : ℕ) {m : Matched} (said : SayMatch ws pattern env (getD xs i []) m) {found : List Row} {k : ℕ}
-    (inside : i < length xs) (few : k < 1000000) where
-  each-miss : (a : Answer (List Row)) → m .ok ≡ false → MeansEach f ws pattern rest left env (drop (i + 1) xs) (k + 1) found a → MeansEach f ws pattern rest left env (drop i xs) k found a
+    (inside : i < length xs) {one : ℕ} (drawn : tick k ≡ done tt one) where
+  each-miss : (a : Answer (List Row)) → m .ok ≡ false → MeansEach f ws pattern rest left env (drop (i + 1) xs) one found a → MeansEach f ws pattern rest left env (drop i xs) k found a
   unfolding onMatch
   each-miss a ko g = record {
     says = λ p b s w.
-        draw-goes (gathering f b) p (valuesOf env) xs found k i inside found (k + 1) a few
-        (ap (λ (o : Option Values). onMatch (gathering f b) found o (k + 1)) (missed said s ko)) (g .says p b s w);
+        draw-goes (gathering f b) p (valuesOf env) xs found k i inside drawn found one a
+        (ap (λ (o : Option Values). onMatch (gathering f b) found o one) (missed said s ko)) (g .says p b s w);
   }
 
-  each-stops : (n : ℕ) → m .ok ≡ true → MeansBody f ws rest left (m .env) (k + 1) found (refused n) → MeansEach f ws pattern rest left env (drop i xs) k found (refused n)
+  each-stops : (n : ℕ) → m .ok ≡ true → MeansBody f ws rest left (m .env) one found (refused n) → MeansEach f ws pattern rest left env (drop i xs) k found (refused n)
   unfolding onMatch
   each-stops n ok g = record {
     says = λ p b s w.
-        draw-stops (gathering f b) p (valuesOf env) xs found k i inside n few
-        (ap (λ (o : Option Values). onMatch (gathering f b) found o (k + 1)) (hit said s ok) ∙ g .says b (after-hit said s ok w));
+        draw-stops (gathering f b) p (valuesOf env) xs found k i inside drawn
+        (ap (λ (o : Option Values). onMatch (gathering f b) found o one) (hit said s ok) ∙ g .says b (after-hit said s ok w));
   }
 
-  each-hit : (more : List Row) (j : ℕ) (a : Answer (List Row)) → m .ok ≡ true → MeansBody f ws rest left (m .env) (k + 1) found (done more j) →
+  each-hit : (more : List Row) (j : ℕ) (a : Answer (List Row)) → m .ok ≡ true → MeansBody f ws rest left (m .env) one found (done more j) →
       MeansEach f ws pattern rest left env (drop (i + 1) xs) j more a → MeansEach f ws pattern rest left env (drop i xs) k found a
   unfolding onMatch
   each-hit more j a ok g h = record {
     says = λ p b s w.
-        draw-goes (gathering f b) p (valuesOf env) xs found k i inside more j a few
-        (ap (λ (o : Option Values). onMatch (gathering f b) found o (k + 1)) (hit said s ok) ∙ g .says b (after-hit said s ok w)) (h .says p b s w);
+        draw-goes (gathering f b) p (valuesOf env) xs found k i inside drawn more j a
+        (ap (λ (o : Option Values). onMatch (gathering f b) found o one) (hit said s ok) ∙ g .says b (after-hit said s ok w)) (h .says p b s w);
   }
 
 -- ---- the loop: whatever the rows left lead to from here, all lead to from the start
@@ -178,9 +160,9 @@ module _ {f : From} {ws : List ℕ} {pattern rest left : ℕ} {env : Env} {k fre
     pub row-inside : free + 2 + 5 * i + 5 ≤ length now
     row-inside = let s = d .size in let n = each-count (d .asked) in let l = inside-rows in omega (arith, each-room (d .asked))
 
-    pub each-limited : 1000000 ≤ used → SayEach f ws pattern rest left env k free entry (Refused 14) now
+    pub each-limited : {n : ℕ} → tick used ≡ refused n → SayEach f ws pattern rest left env k free entry (Refused n) now
     unfolding IfDone rowsAnswer
-    each-limited many = record { gathering = tt; kept = kept-less (omega arith) (d .kept); means = d .means (refused 14) (each-limit (rowsIn (drop free entry)) i inside-rows many) }
+    each-limited {n} many = record { gathering = tt; kept = kept-less (omega arith) (d .kept); means = d .means (refused n) (each-limit (rowsIn (drop free entry)) i inside-rows many) }
 
     module _ (row : Held.Row) (loaded : wordsOf row ≡ fiveAt now (free + 2 + 5 * i)) where
       fives : wordsOf row ≡ fiveAt (drop free now) (2 + 5 * i)
@@ -201,11 +183,11 @@ module _ {f : From} {ws : List ℕ} {pattern rest left : ℕ} {env : Env} {k fre
           loaded-row row (drop free now) (2 + 5 * i) fives ∙ sym (row-at (drop free now) i count-here)
           ∙ ap (λ (xs : List Row). getD xs i []) (rows-same drawn-front (d .asked .drawn .sound))
 
-      module _ {m : Matched} (said : SayMatch ws pattern env (rowOf row) m) (few : used < 1000000) where
+      module _ {m : Matched} (said : SayMatch ws pattern env (rowOf row) m) {one : ℕ} (drawn : tick used ≡ done tt one) where
         said-row : SayMatch ws pattern env (getD (rowsIn (drop free entry)) i []) m
         said-row = subst (λ (x : Row). SayMatch ws pattern env x m) row-is said
 
-        pub drawing-miss : m .ok ≡ false → Drawing f ws pattern rest left env k free entry count now (used + 1) (i + 1)
+        pub drawing-miss : m .ok ≡ false → Drawing f ws pattern rest left env k free entry count now one (i + 1)
         drawing-miss ko = record {
           asked = d .asked;
           all = d .all;
@@ -213,14 +195,14 @@ module _ {f : From} {ws : List ℕ} {pattern rest left : ℕ} {env : Env} {k fre
           size = d .size;
           gathering = d .gathering;
           kept = d .kept;
-          means = λ a g. d .means a (each-miss f (rowsIn (drop free entry)) i said-row inside-rows few a ko g);
+          means = λ a g. d .means a (each-miss f (rowsIn (drop free entry)) i said-row inside-rows drawn a ko g);
         }
 
-        module _ (ok : m .ok ≡ true) {r : Read} {after : List ℕ} (s : SayBody f ws rest left (m .env) (used + 1) (free + 642) now r after) where
+        module _ (ok : m .ok ≡ true) {r : Read} {after : List ℕ} (s : SayBody f ws rest left (m .env) one (free + 642) now r after) where
           pub drawing-hit : {j : ℕ} → length after ≡ length now → r ≡ Done j → Drawing f ws pattern rest left env k free entry count after j (i + 1)
           unfolding IfDone rowsAnswer
           drawing-hit {j} l e =
-              let g : MeansBody f ws rest left (m .env) (used + 1) (rowsIn now) (done (rowsIn after) j) = subst (λ (x : Read). MeansBody f ws rest left (m .env) (used + 1) (rowsIn now) (rowsAnswer x after)) e (s .means) in
+              let g : MeansBody f ws rest left (m .env) one (rowsIn now) (done (rowsIn after) j) = subst (λ (x : Read). MeansBody f ws rest left (m .env) one (rowsIn now) (rowsAnswer x after)) e (s .means) in
               record {
                 asked = d .asked;
                 all = d .all;
@@ -228,17 +210,17 @@ module _ {f : From} {ws : List ℕ} {pattern rest left : ℕ} {env : Env} {k fre
                 size = l ∙ d .size;
                 gathering = subst (λ (x : Read). IfDone Gathering x after) e (s .gathering);
                 kept = kept-then (d .kept) (s .kept);
-                means = λ a h. d .means a (each-hit f (rowsIn (drop free entry)) i said-row inside-rows few (rowsIn after) j a ok g h);
+                means = λ a h. d .means a (each-hit f (rowsIn (drop free entry)) i said-row inside-rows drawn (rowsIn after) j a ok g h);
               }
 
           pub each-stopped : {n : ℕ} → r ≡ Refused n → SayEach f ws pattern rest left env k free entry (Refused n) after
           unfolding IfDone rowsAnswer
           each-stopped {n} e =
-              let g : MeansBody f ws rest left (m .env) (used + 1) (rowsIn now) (refused n) = subst (λ (x : Read). MeansBody f ws rest left (m .env) (used + 1) (rowsIn now) (rowsAnswer x after)) e (s .means) in
+              let g : MeansBody f ws rest left (m .env) one (rowsIn now) (refused n) = subst (λ (x : Read). MeansBody f ws rest left (m .env) one (rowsIn now) (rowsAnswer x after)) e (s .means) in
               record {
                 gathering = tt;
                 kept = kept-less (omega arith) (kept-then (d .kept) (s .kept));
-                means = d .means (refused n) (each-stops f (rowsIn (drop free entry)) i said-row inside-rows few n ok g);
+                means = d .means (refused n) (each-stops f (rowsIn (drop free entry)) i said-row inside-rows drawn n ok g);
               }
 
 -- ---- a draw: its operand, then its rows

@@ -12,7 +12,6 @@ use leaves::read_rows;
 use names::name_has;
 use names::read_name;
 use refusals::COMPLEMENT_DRAWN;
-use refusals::TOO_MANY_DRAWS;
 use rows::SET_ROOM;
 use sets::clear;
 use values::Belongs;
@@ -24,8 +23,7 @@ use values::passes;
 use values::skip::skip_expr;
 use values::skip::skip_pattern;
 use values::skip::skip_row;
-
-const MOST_DRAWS: u32 = 1000000;
+use values::tick;
 
 // An expression, by its code.
 fn read_expr(
@@ -239,10 +237,14 @@ fn draw_rows(
     let mut used = draws;
     let mut i: usize = 0;
     while i < count {
-        if MOST_DRAWS <= used {
-            return Read::Refused(TOO_MANY_DRAWS);
+        match tick(used) {
+            Read::Refused(n) => {
+                return Read::Refused(n);
+            }
+            Read::Done(d) => {
+                used = d;
+            }
         }
-        used += 1;
         let row = load(area, free + 2 + 5 * i);
         i += 1;
         let got = match_row(words, pattern, env, row);

@@ -25,6 +25,11 @@ unfoldable pub setAnswer : Read → List ℕ → Answer RowSet
 setAnswer (Done k) area = done (setIn area) k
 setAnswer (Refused n) area = refused n
 
+-- whether one draw more is made
+unfoldable pub ticked : Read → Answer (Unit {0})
+ticked (Done k) = done tt k
+ticked (Refused n) = refused n
+
 -- what holds of the area if the reading is done
 unfoldable pub IfDone : (List ℕ → Type 0) → Read → List ℕ → Type 0
 IfDone P (Done k) area = P area

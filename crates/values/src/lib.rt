@@ -5,12 +5,15 @@ ghost use mathlib.Core.Path.{_≡_};
 ghost use mathlib.Core.List.{[], _∷_, _++_};
 ghost use Prim.Native.Nat.{_+_, _≤_, _<_};
 ghost use lib.ListN.{length};
+ghost use Rattle.meaning.specs.Reading.{tick};
 ghost use Rattle.meaning.specs.Values.{value};
 ghost use Rattle.values.specs.Values.{valuesOf, termOf, passing};
 ghost use Rattle.values.specs.Places.{IsTerm, IsSlot, IsGuard, SomeRow, SomeGuard};
 ghost use Rattle.values.specs.Rows.{SayRow};
+ghost use Rattle.values.specs.Answers.{ticked};
 use layout::row::Row;
 use layout::row::wide;
+use refusals::TOO_MANY_DRAWS;
 
 // The values of the variables in scope, variable 0 first.
 pub struct Env {
@@ -55,6 +58,8 @@ pub enum Guard {
     Absent,
 }
 
+const MOST_DRAWS: u32 = 1000000;
+
 const TAG_ATOM: u32 = 0;
 
 const TAG_NEW: u32 = 2;
@@ -64,6 +69,16 @@ pub const GUARD_DRAW: u32 = 1;
 const GUARD_SAME: u32 = 2;
 
 pub const GUARD_ABSENT: u32 = 4;
+
+// One draw more, unless as many were made as may be.
+pub fn tick(draws: u32) -> Read
+    ensures { λ r. ⌜ ticked r ≡ tick draws ⌝ }
+{
+    if MOST_DRAWS <= draws {
+        return Read::Refused(TOO_MANY_DRAWS);
+    }
+    Read::Done(draws + 1)
+}
 
 pub fn term_at(words: &[u32], at: usize) -> Term
     requires { ⌜ at + 2 ≤ length (now words) ⌝ }

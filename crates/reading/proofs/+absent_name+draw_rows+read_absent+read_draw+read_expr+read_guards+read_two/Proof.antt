@@ -66,6 +66,8 @@ pub +absent-name+draw-rows+read-absent+read-draw+read-expr+read-guards+read-two-
     (rows.slice-read-wide t)
     (λ c κs. search needs)
     (rows.loop-holds t)
+    (λ c κs. search needs)
+    (λ c. search needs)
     (λ c. search needs)
     (rows.returns t)
     (λ c. search needs)

@@ -38,6 +38,7 @@ use Rattle.values.proofs.skip.skip_pattern.Reads as skip-pattern-reads
 use Rattle.values.proofs.skip.skip_row.Reads as skip-row-reads
 use Rattle.values.proofs.guard_at.Reads as guard-at-reads
 use Rattle.values.proofs.passes.Reads as passes-reads
+use Rattle.values.proofs.tick.Reads as tick-reads
 use Rattle.layout.proofs.row.load.Reads as load-reads
 use Rattle.layout.proofs.row.wide.Reads as wide-reads
 use Rattle.sets.proofs.clear.Reads as clear-reads
@@ -130,7 +131,7 @@ absent-name-claims t = (name-has-reads.Asked, name-has-reads.Learnt, read-guards
 
 -- what `draw_rows` knows of the functions that it calls
 abbrev pub draw-rows-claims : ℕ → draw-rows-lts.Claims
-draw-rows-claims t = (wide-reads.Asked, wide-reads.Learnt, load-reads.Asked, load-reads.Learnt, match-row-reads.Asked, match-row-reads.Learnt, read-guards-below t, read-guards.Post)
+draw-rows-claims t = (wide-reads.Asked, wide-reads.Learnt, tick-reads.Asked, tick-reads.Learnt, load-reads.Asked, load-reads.Learnt, match-row-reads.Asked, match-row-reads.Learnt, read-guards-below t, read-guards.Post)
 
 -- what `read_absent` knows of the functions that it calls
 abbrev pub read-absent-claims : ℕ → read-absent-lts.Claims
