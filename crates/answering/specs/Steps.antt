@@ -3,8 +3,7 @@ use Prim.Native.Nat.{ℕ, _≤_, _<_, _*_}
 use mathlib.Core.Path.{_≡_}
 use mathlib.Core.Bool.{true}
 use mathlib.Core.List.{List, []}
-use lib.ListN.{length, getD, drop}
-use Rattle.rows.specs.Sets.{RowSet}
+use lib.ListN.{length, drop}
 use Rattle.rows.specs.Layout.{setRoom}
 use Rattle.certificates.specs.Store.{soundStore, certificates}
 use Rattle.policy.specs.Syntax.{Expr}
@@ -13,7 +12,7 @@ use Rattle.policy.specs.Judgement.{checked, check}
 use Rattle.meaning.specs.Evidence.{Evidence, namesHeld}
 use Rattle.values.specs.Answers.{Filled}
 use Rattle.leaves.specs.Areas.{setsIn}
-use Rattle.demands.specs.Query.{Outcome, answered, declined, readFrom, definitionRoom, scratchRoom, answerArea}
+use Rattle.demands.specs.Query.{Outcome, declined, readFrom, definitionRoom, scratchRoom, answerArea}
 use Rattle.answering.specs.Reply.{replyTo}
 use Rattle.answering.specs.declared.Reply.{Reply}
 use Rattle.answering.specs.declared.Progress.{Progress}

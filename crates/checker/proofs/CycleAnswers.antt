@@ -221,9 +221,6 @@ module _ (ws : List ℕ) (at n k : ℕ) (ks : List Known) (inner : ℕ → Reade
     guards-unopened e = refuses (opened ∙ read-stops (bodyFactsOf ks) _ (guard-refused f e .reads k))
 
     module _ {g : GuardHeld.Guard} {next : ℕ} (e : r ≡ guardRead.Found g next) where
-      pub guard-onward : (at < next) × (next ≤ length ws)
-      guard-onward = (guard-found f e .onward, guard-found f e .within)
-
       followed : {o : Opening} → openingOf g ≡ o → bodyFacts ks inner left n (drop at ws) k ≡ kept (bodyFactsOf ks) (bodyFrom inner (left - 1) n o (drop next ws) k)
       followed d = opened ∙ (read-then (bodyFactsOf ks) _ (guard-found f e .reads k) refl ∙ ap (λ o. kept (bodyFactsOf ks) (bodyFrom inner (left - 1) n o (drop next ws) k)) d)
 

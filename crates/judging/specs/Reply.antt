@@ -4,7 +4,6 @@ use Rattle.policy.specs.Judgement.{JudgementReply, verdict, refused}
 use Rattle.judging.specs.declared.Judgement.{Judgement}
 use Rattle.judging.specs.declared.Judgement.the-variants as judgement
 
--- what the code answers with each reply
 unfoldable pub judgementOf : JudgementReply → Judgement
 unfolding verdictWord
 judgementOf (verdict v) = judgement.Verdict (verdictWord v)

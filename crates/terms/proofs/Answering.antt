@@ -173,9 +173,6 @@ module _ {A B : Type 0} {ws : List ℕ} {at : ℕ} {m : Reader A} (f : A → Rea
   pub then-gives : {a : A} {b : B} {next : ℕ} → Got ws at m a next → ((us : List ℕ) (k : ℕ) → f a us k ≡ got b us k) → Got ws at (λ us k. after (m us k) f) b next
   then-gives {next} g e = record { reads = λ k. ap (λ r. after r f) (g .reads k) ∙ e (drop next ws) k; onward = g .onward; within = g .within }
 
-  pub then-refuses : {a : A} {mid n : ℕ} → Got ws at m a mid → ((us : List ℕ) (k : ℕ) → f a us k ≡ refused n) → Lost ws at (λ us k. after (m us k) f) n
-  then-refuses {mid} g e = record { reads = λ k. ap (λ r. after r f) (g .reads k) ∙ e (drop mid ws) k }
-
 -- of whose value something is kept
 pub keeps-got : {A B : Type 0} {ws : List ℕ} {at next : ℕ} {m : Reader A} {a : A} (f : A → B) → Got ws at m a next → Got ws at (keeping f m) (f a) next
 unfolding keeping kept

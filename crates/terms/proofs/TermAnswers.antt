@@ -319,9 +319,6 @@ module _ (ws : List ℕ) (at n : ℕ) {r : WordRead.WordRead} (f : Follows ws at
     unfolding openingIs openingOf openingFor guardOf
     guard-absent t = shows-got (got-as (guard-tested n) (then-gives _ (word-found f e) (coded 4 t)))
 
-    pub code-inside : at + 1 ≤ length ws
-    code-inside = word-found f e .within
-
     -- a comparison
     module _ (no-draw : w ≡ 1 → ⊥) (no-absent : w ≡ 4 → ⊥) where
       terms : (us : List ℕ) (k : ℕ) → openingFor n (guardOf w) us k ≡ after (term n us k) (λ x us i. after (term n us i) (λ y. give (compared w x y)))
