@@ -1,22 +1,22 @@
 -- The records of one name: their words are cut back into them, their rows lie there as five sound words each, and in the order of rows.
 use Prim.Native.Nat.{ℕ, _+_, _-_, _*_, _<_}
-use mathlib.Core.Path.{_≡_, refl, sym, _∙_, ap, subst}
-use mathlib.Core.Bool.{Bool, true, false, _&&_, _||_}
+use mathlib.Core.Path.{_≡_, refl, sym, _∙_, ap}
+use mathlib.Core.Bool.{Bool, true, _&&_, _||_}
 use mathlib.Core.List.{List, [], _∷_, _++_, map, append-nil}
 use native.Mathlib.Omega.{arith}
 use lib.Dec.{ltb, eqb}
 use lib.ListN.{length, getD, take, drop, replicate, length-drop}
 use lib.Seq.{take-add, drop-at, drop-drop, length-take-le}
-use borrow.Author.Tests.{ltb-true, eqb-true, eq-eqb}
+use borrow.Author.Tests.{ltb-true, eqb-true}
 use Rattle.rows.specs.Word.{All}
-use Rattle.rows.specs.Ordered.{_∈_, StrictTotal, lists, keep, wordsBefore}
+use Rattle.rows.specs.Ordered.{StrictTotal, keep, wordsBefore}
 use Rattle.rows.specs.Row.{Row, rowBefore}
 use Rattle.rows.specs.Layout.{flat, pieces, rowIn, rowWords, fiveAt, soundRow}
-use Rattle.rows.proofs.Case.{Case, isTrue, isFalse, split, never, and-true, T-true, true-T}
+use Rattle.rows.proofs.Case.{Case, isTrue, isFalse, split, never, and-true, true-T}
 use Rattle.rows.proofs.Order.{step-less, step-equal, words-order, row-order}
-use Rattle.rows.proofs.Lists.{all-in, all-of, map-∈}
-use Rattle.rows.proofs.Ordered.{Under, Ascending, lists-iff, keep-∈, keep-ascending}
-use Rattle.rows.proofs.LayoutLaws.{Sized, flat-length, pieces-flat, piece-at, row-reads, row-written}
+use Rattle.rows.proofs.Lists.{all-in, all-of}
+use Rattle.rows.proofs.Ordered.{Under, Ascending, keep-∈, keep-ascending}
+use Rattle.rows.proofs.LayoutLaws.{Sized, flat-length, pieces-flat, piece-at, row-written}
 use Rattle.certificates.specs.Certificate.{recordWords, soundRecord, recordBefore}
 use Rattle.certificates.specs.Store.{records, soundStore}
 use Rattle.certificates.specs.NamePart.{ofName, namePart}
@@ -141,39 +141,3 @@ module _ (key name polarity : ℕ) where
           let rs : List (List ℕ) = keep (ofName key name polarity) (records store) in
           let w : List ℕ = getD rs i [] in
           rw name-row (sound-record w (all-in OfName rs of-name w (element rs [] i below) .sound) .row)
-
-    -- a row is one of the name's exactly when the record that says so is held
-    pub name-held : (x : Row) →
-        lists recordBefore (records store) (nameFirst key name polarity ++ rowWords x) ≡ lists rowBefore (map (λ w. rowIn (drop 3 w)) (keep (ofName key name polarity) (records store))) x
-    unfolding rowWords
-    name-held x = go (split (lists recordBefore (records store) (nameFirst key name polarity ++ rowWords x)))
-      where
-        w : List ℕ
-        w = nameFirst key name polarity ++ rowWords x
-
-        rows : List Row
-        rows = map (λ v. rowIn (drop 3 v)) (keep (ofName key name polarity) (records store))
-
-        named : ofName key name polarity w ≡ true
-        named = rw (eq-eqb key key refl, eq-eqb name name refl, eq-eqb polarity polarity refl)
-
-        there : w ∈ records store → x ∈ rows
-        there i = map-∈ (λ v. rowIn (drop 3 v)) (keep (ofName key name polarity) (records store)) x .1 (w, keep-∈ (ofName key name polarity) (records store) w .1 (T-true named, i), sym (row-reads x))
-
-        back : x ∈ rows → w ∈ records store
-        back i =
-            let z = map-∈ (λ v. rowIn (drop 3 v)) (keep (ofName key name polarity) (records store)) x .0 i in
-            let v : List ℕ = z .0 in
-            let o = all-in OfName (keep (ofName key name polarity) (records store)) of-name v (z .1) in
-            let r = sound-record v (o .sound) in
-            let five : rowWords (rowIn (drop 3 v)) ≡ drop 3 v = row-written (drop 3 v) (omega (arith, length-drop 3 v, r .eight)) (r .row) in
-            let e : v ≡ w = begins v o ∙ ap (λ (t : List ℕ). nameFirst key name polarity ++ t) (sym five ∙ ap rowWords (sym (z .2))) in
-            subst (λ (t : List ℕ). t ∈ records store) e (keep-∈ (ofName key name polarity) (records store) v .0 (z .1) .1)
-
-        go : Case (lists recordBefore (records store) w) → lists recordBefore (records store) w ≡ lists rowBefore rows x
-        go (isTrue e) = e ∙ sym (true-T _ (lists-iff rowBefore row-order rows x .1 (there (lists-iff recordBefore words-order (records store) w .0 (T-true e)))))
-        go (isFalse e) = e ∙ sym (unlisted (split (lists rowBefore rows x)))
-          where
-            unlisted : Case (lists rowBefore rows x) → lists rowBefore rows x ≡ false
-            unlisted (isTrue h) = never (true-T _ (lists-iff recordBefore words-order (records store) w .1 (back (lists-iff rowBefore row-order rows x .0 (T-true h))))) e
-            unlisted (isFalse h) = h

@@ -1,13 +1,14 @@
 -- Tests that each passes, and lists cut into pieces of one size: what the layout's own laws leave out.
-use Prim.Native.Nat.{ℕ, zero, suc, _-_, _*_, _≤_}
+use Prim.Native.Nat.{ℕ, zero, suc, _-_, _*_, _≤_, _<_}
 use mathlib.Core.Path.{_≡_, refl, sym, ap}
 use mathlib.Core.Bool.{Bool, true}
 use mathlib.Core.List.{List, [], _∷_, _++_, append-assoc}
 use native.Mathlib.Nat.{mul-zero, mul-suc, add-comm, sub-zero}
 use native.Mathlib.Omega.{arith}
-use lib.ListN.{take, drop}
+use lib.ListN.{length, getD, take, drop}
 use lib.Seq.{drop-drop}
 use Rattle.rows.specs.Word.{All, IsWord, Words}
+use Rattle.rows.specs.Ordered.{beforeFirst, ascending}
 use Rattle.rows.specs.Layout.{flat, pieces, every}
 use Rattle.rows.proofs.Case.{and-true, true-and}
 use Rattle.rows.proofs.Lists.{all-take, all-drop}
@@ -22,6 +23,13 @@ pub true-every : {A : Type 0} (f : A → Bool) (xs : List A) → All (λ x. f x 
 unfolding every All
 true-every f [] a = refl
 true-every f (x ∷ xs) a = true-and (f x) (every f xs) (a .0) (true-every f xs (a .1))
+
+-- each comes before the next
+pub each-before-next : {A : Type 0} (before : A → A → Bool) (xs : List A) (d : A) → ((i : ℕ) → suc i < length xs → before (getD xs i d) (getD xs (suc i) d) ≡ true) → ascending before xs ≡ true
+unfolding ascending beforeFirst
+each-before-next before [] d f = refl
+each-before-next before (x ∷ []) d f = refl
+each-before-next before (x ∷ y ∷ ys) d f = true-and (before x y) (ascending before (y ∷ ys)) (f 0 (omega arith)) (each-before-next before (y ∷ ys) d (λ i h. f (suc i) (omega arith)))
 
 pub pieces-words : (size n : ℕ) (ws : List ℕ) → Words ws → All Words (pieces size n ws)
 unfolding All pieces

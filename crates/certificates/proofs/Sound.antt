@@ -6,7 +6,7 @@ use mathlib.Core.List.{List, [], _∷_}
 use native.Mathlib.Omega.{arith}
 use lib.Dec.{leb, eqb}
 use lib.ListN.{length, getD, drop, length-drop}
-use borrow.Author.Tests.{leb-true, eqb-true, le-leb}
+use borrow.Author.Tests.{leb-true, eqb-true, le-leb, eq-eqb}
 use Rattle.rows.specs.Word.{All, IsWord, Words}
 use Rattle.rows.specs.Ordered.{ascending}
 use Rattle.rows.specs.Row.{IsRow, isKey}
@@ -37,6 +37,10 @@ sound-record w e =
     let c = and-true (isName (getD w 1 0)) _ (b .1) in
     let d = and-true (isPolarity (getD w 2 0)) _ (c .1) in
     record { eight = eqb-true (length w) recordWords (a .0); key = b .0; name = c .0; polarity = d .0; row = d .1 }
+
+pub record-sound : (w : List ℕ) → SoundRecord w → soundRecord w ≡ true
+unfolding soundRecord
+record-sound w s = true-and _ _ (eq-eqb (length w) recordWords (s .eight)) (true-and _ _ (s .key) (true-and _ _ (s .name) (true-and _ _ (s .polarity) (s .row))))
 
 -- what a certificate speaks about is a row
 pub about-row : (w : List ℕ) → soundRecord w ≡ true → Words w → IsRow (certificateOf w .row)

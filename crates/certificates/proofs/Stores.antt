@@ -1,26 +1,28 @@
 -- What the code sees of a store, record by record.
-use Prim.Native.Nat.{ℕ, suc, _+_, _-_, _*_, _≤_, _<_}
+use Prim.Native.Nat.{ℕ, zero, suc, _+_, _-_, _*_, _≤_, _<_}
 use mathlib.Core.Path.{_≡_, refl, sym, _∙_, ap}
 use mathlib.Core.Bool.{Bool, true, false, not, _&&_}
 use mathlib.Core.List.{List, [], _∷_, _++_, append-assoc}
 use native.Mathlib.Numerals.{add-one}
 use native.Mathlib.Omega.{arith}
-use lib.Dec.{ltb, eqb}
-use lib.ListN.{length, getD, take, drop, set, drop-of-length-le, length-append, length-drop}
-use lib.Seq.{drop-cons, drop-drop, length-take-le}
-use borrow.Author.Tests.{lt-ltb, le-ltb, le-leb, lt-leb, eq-eqb, ne-eqb, ltb-true, eqb-true, eqb-false}
-use Rattle.rows.specs.Ordered.{_∈_, lists, insert, beforeFirst, ascending}
-use Rattle.rows.specs.Layout.{flat, every, put}
-use Rattle.rows.proofs.Case.{Case, isTrue, isFalse, split}
+use lib.Dec.{ltb}
+use lib.ListN.{length, getD, take, drop, set, length-append, length-drop}
+use lib.Seq.{drop-drop, length-take-le}
+use borrow.Author.Tests.{lt-ltb, le-ltb, le-leb, lt-leb, ltb-true}
+use Rattle.rows.specs.Ordered.{_∈_, lists, insert, ascending}
+use Rattle.rows.specs.Layout.{flat, put}
+use Rattle.rows.proofs.Case.{Case, isTrue, isFalse, split, never, and-true, true-and}
 use Rattle.rows.proofs.Order.{words-order}
-use Rattle.rows.proofs.Ordered.{insert-length}
+use Rattle.rows.proofs.Lists.{all-at, at-all}
+use Rattle.rows.proofs.Ordered.{ascending-true, insert-length}
+use Rattle.rows.proofs.Place.{ascending-at}
 use Rattle.rows.proofs.LayoutLaws.{flat-pieces, piece-at}
 use Rattle.rows.proofs.Put.{put-then-before}
 use Rattle.certificates.specs.Certificate.{recordWords, soundRecord, recordBefore}
 use Rattle.certificates.specs.Store.{capacity, storeWords, countOf, records, soundStore, withRecords}
-use Rattle.certificates.specs.Steps.{recordAt, soundAt, placeIn, heldAt, putIn}
-use Rattle.certificates.proofs.Pieces.{pieces-take, pieces-drop, flat-append}
-use Rattle.certificates.proofs.Sound.{sound-store, records-length}
+use Rattle.certificates.specs.Steps.{recordAt, behindAt, soundAt, placeIn, heldAt, putIn}
+use Rattle.certificates.proofs.Pieces.{each-before-next, pieces-take, pieces-drop, flat-append}
+use Rattle.certificates.proofs.Sound.{AllSound, sound-store, store-sound, records-length}
 use Rattle.certificates.proofs.Places.{leading-few, leading-stops, place-past, place-held, place-insert}
 
 -- record i of the store's words is the ith of its records
@@ -28,66 +30,24 @@ pub record-at : (store : List ℕ) (i : ℕ) → i < countOf store → getD (rec
 unfolding records recordAt
 record-at store i h = piece-at recordWords (countOf store) (drop 1 store) i h ∙ ap (take recordWords) (drop-drop (recordWords * i) 1 store)
 
-records-from : (store : List ℕ) (i : ℕ) → i < countOf store → drop i (records store) ≡ recordAt store i ∷ drop (suc i) (records store)
-records-from store i h =
-    drop-cons (records store) i [] (omega (arith, records-length store)) ∙ ap (λ (r : List ℕ). r ∷ drop (suc i) (records store)) (record-at store i h)
-
-records-ended : (store : List ℕ) (i : ℕ) → countOf store ≤ i → drop i (records store) ≡ []
-records-ended store i h = drop-of-length-le (records store) {i = i} (omega (arith, records-length store))
-
--- the records from i on are sound and in order
-unfoldable pub soundFrom : List ℕ → ℕ → Bool
-unfolding every soundRecord ascending records
-soundFrom store i = every soundRecord (drop i (records store)) && ascending recordBefore (drop i (records store))
-
-pub sound-ended : (store : List ℕ) (i : ℕ) → countOf store ≤ i → true ≡ soundFrom store i
-unfolding soundFrom
-sound-ended store i h = rw (records-ended store i h)
-
-sound-next : (store : List ℕ) (i : ℕ) → i < countOf store → soundAt store (countOf store) i ≡ (soundRecord (recordAt store i) && beforeFirst recordBefore (recordAt store i) (drop (suc i) (records store)))
-unfolding soundAt beforeFirst
-sound-next store i h = go (split (eqb (i + 1) (countOf store)))
-  where
-    go : Case (eqb (i + 1) (countOf store)) → soundAt store (countOf store) i ≡ (soundRecord (recordAt store i) && beforeFirst recordBefore (recordAt store i) (drop (suc i) (records store)))
-    go (isTrue e) = rw (e, records-ended store (suc i) (omega (arith, eqb-true (i + 1) (countOf store) e)))
-    go (isFalse e) =
-        let n = eqb-false (i + 1) (countOf store) e in
-        let l : i + 1 < countOf store = omega arith in
-        rw (e, ← add-one i, records-from store (i + 1) l)
-
-pair-up : (a b c d : Bool) → ((a && b) && (c && d)) ≡ ((a && c) && (b && d))
-pair-up true true c d = refl
-pair-up true false true d = refl
-pair-up true false false d = refl
-pair-up false b c d = refl
-
-sound-step : (store : List ℕ) (i : ℕ) → i < countOf store → soundFrom store i ≡ (soundAt store (countOf store) i && soundFrom store (i + 1))
-unfolding soundFrom every ascending
-sound-step store i h =
-    let r : List ℕ = recordAt store i in
-    let rest : List (List ℕ) = drop (suc i) (records store) in
-    rw (add-one, sound-next store i h, records-from store i h)
-    (pair-up (soundRecord r) (every soundRecord rest) (beforeFirst recordBefore r rest) (ascending recordBefore rest))
-
-pub sound-passed : (store : List ℕ) (i : ℕ) → i < countOf store → soundAt store (countOf store) i ≡ true → soundFrom store (i + 1) ≡ soundFrom store i
-sound-passed store i h e = sym (sound-step store i h ∙ ap (λ (b : Bool). b && soundFrom store (i + 1)) e)
-
-pub sound-failed : (store : List ℕ) (i : ℕ) → i < countOf store → soundAt store (countOf store) i ≡ false → false ≡ soundFrom store i
-sound-failed store i h e = sym (sound-step store i h ∙ ap (λ (b : Bool). b && soundFrom store (i + 1)) e)
+behind-next : (store : List ℕ) (i : ℕ) → (i ≡ 0 → ⊥) → behindAt store i ≡ recordBefore (recordAt store (i - 1)) (recordAt store i)
+unfolding behindAt
+behind-next store zero n = absurd (n refl)
+behind-next store (suc i) n = let e : suc i - 1 ≡ i = omega arith in rw e
 
 -- record i, test by test
-module _ (store : List ℕ) (count i : ℕ) (r : List ℕ) (at-i : r ≡ recordAt store i) where
-  pub at-unsound : false ≡ soundRecord r → false ≡ soundAt store count i
+module _ (store : List ℕ) (i : ℕ) (r : List ℕ) (at-i : r ≡ recordAt store i) where
+  pub at-unsound : false ≡ soundRecord r → false ≡ soundAt store i
   unfolding soundAt
   at-unsound e = rw (← at-i, ← e)
 
-  pub at-last : true ≡ soundRecord r → i + 1 ≡ count → true ≡ soundAt store count i
-  unfolding soundAt
-  at-last e l = rw (← at-i, ← e, eq-eqb (i + 1) count l)
+  pub at-first : true ≡ soundRecord r → i ≡ 0 → true ≡ soundAt store i
+  unfolding soundAt behindAt
+  at-first e f = rw (← at-i, ← e, f)
 
-  pub at-next : (b : Bool) (s : List ℕ) → true ≡ soundRecord r → (i + 1 ≡ count → ⊥) → s ≡ recordAt store (i + 1) → b ≡ recordBefore r s → b ≡ soundAt store count i
-  unfolding soundAt
-  at-next b s e n f g = g ∙ rw (ne-eqb (i + 1) count n, ← at-i, ← f, ← e)
+  pub at-next : (b : Bool) (s : List ℕ) → true ≡ soundRecord r → (i ≡ 0 → ⊥) → s ≡ recordAt store (i - 1) → b ≡ recordBefore s r → b ≡ soundAt store i
+  unfolding soundAt behindAt
+  at-next b s e n f g = g ∙ rw (behind-next store i n, ← at-i, ← f, ← e)
 
 module _ (store : List ℕ) where
   pub too-short : length store < storeWords → false ≡ soundStore store
@@ -98,9 +58,48 @@ module _ (store : List ℕ) where
   unfolding soundStore
   too-many h k = rw (le-leb storeWords (length store) h, lt-leb (countOf store) capacity k, soundStore)
 
-  pub sound-all : storeWords ≤ length store → countOf store ≤ capacity → soundFrom store 0 ≡ soundStore store
-  unfolding soundStore soundFrom
-  sound-all h k = rw (le-leb storeWords (length store) h, le-leb (countOf store) capacity k, soundStore)
+-- otherwise a store is sound just if each record is sound and comes behind the one before
+module _ (store : List ℕ) where
+  at-parts : (i : ℕ) → soundAt store i ≡ true → (soundRecord (recordAt store i) ≡ true) × (behindAt store i ≡ true)
+  unfolding soundAt
+  at-parts i e = and-true (soundRecord (recordAt store i)) (behindAt store i) e
+
+  pub at-sound : (i : ℕ) → soundAt store i ≡ true → soundRecord (recordAt store i) ≡ true
+  at-sound i e = at-parts i e .0
+
+  pub sound-each : storeWords ≤ length store → countOf store ≤ capacity → ((i : ℕ) → i < countOf store → soundAt store i ≡ true) → true ≡ soundStore store
+  unfolding behindAt
+  sound-each h k f = sym (store-sound store (record { long = h; few = k; each = each; order = ascending-true recordBefore words-order (records store) order }))
+    where
+      within : {i : ℕ} → i < length (records store) → i < countOf store
+      within h = omega (arith, records-length store)
+
+      each : AllSound (records store)
+      each = at-all (λ w. soundRecord w ≡ true) (records store) [] (λ i h. ap soundRecord (record-at store i (within h)) ∙ at-sound i (f i (within h)))
+
+      order : ascending recordBefore (records store) ≡ true
+      order = each-before-next recordBefore (records store) [] (λ i h. rw (record-at store i (within (omega arith)), record-at store (suc i) (within h)) (at-parts (suc i) (f (suc i) (within h)) .1))
+
+  each-sound : soundStore store ≡ true → (i : ℕ) → i < countOf store → soundAt store i ≡ true
+  unfolding soundAt behindAt
+  each-sound e i h = true-and _ _ (sound i h) (behind i h)
+    where
+      within : {i : ℕ} → i < countOf store → i < length (records store)
+      within h = omega (arith, records-length store)
+
+      sound : (i : ℕ) → i < countOf store → soundRecord (recordAt store i) ≡ true
+      sound i h = rw (← record-at store i h) (all-at (λ w. soundRecord w ≡ true) (records store) (sound-store store e .each) i [] (within h))
+
+      behind : (i : ℕ) → i < countOf store → behindAt store i ≡ true
+      behind zero h = refl
+      behind (suc i) h = rw (← record-at store i (omega arith), ← record-at store (suc i) h) (ascending-at recordBefore words-order [] (records store) (sound-store store e .order) i (suc i) (omega arith) (within h))
+
+  pub sound-fails : (i : ℕ) → i < countOf store → soundAt store i ≡ false → false ≡ soundStore store
+  sound-fails i h e = go (split (soundStore store))
+    where
+      go : Case (soundStore store) → false ≡ soundStore store
+      go (isTrue t) = never (each-sound t i h) e
+      go (isFalse t) = sym t
 
 -- the place of words among the records of a sound store
 module _ (store w : List ℕ) where

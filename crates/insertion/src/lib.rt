@@ -2,24 +2,12 @@
 ghost use Prim.Native.Nat.{_+_, _*_, _≤_, _<_};
 ghost use mathlib.Core.Path.{_≡_};
 ghost use lib.ListN.{length};
-ghost use Rattle.rows.specs.Layout.{put};
 ghost use Rattle.certificates.specs.Certificate.{recordWords};
 ghost use Rattle.certificates.specs.Store.{capacity, countOf};
 ghost use Rattle.certificates.specs.Steps.{putIn};
 use certificates::RECORD_WORDS;
 use layout::copy_up;
-
-// Writes words over those that stand at `at`.
-fn write(store: &mut [u32], at: usize, words: &[u32])
-    requires { ⌜ at + length (now words) ≤ length (now store) ⌝ }
-    ensures { λ _. ⌜ now (store .exit) ≡ put at (now (words .entry)) (now (store .entry)) ⌝ }
-{
-    let mut j: usize = 0;
-    while j < words.len() {
-        store[at + j] = words[j];
-        j += 1;
-    }
-}
+use layout::write;
 
 // Puts a record in at its place, moves the later ones up and raises the count.
 pub fn insert(store: &mut [u32], place: usize, certificate: &[u32])

@@ -3,9 +3,7 @@ ghost use Prim.Native.Nat.{_-_, _≤_};
 ghost use mathlib.Core.Path.{_≡_};
 ghost use mathlib.Core.Bool.{true};
 ghost use lib.ListN.{length, take, drop};
-ghost use Rattle.rows.specs.Ordered.{lists};
-ghost use Rattle.certificates.specs.Certificate.{recordBefore};
-ghost use Rattle.certificates.specs.Store.{records, soundStore};
+ghost use Rattle.certificates.specs.Store.{soundStore};
 ghost use Rattle.store.specs.Reply.{replyIs};
 ghost use Rattle.certificates.specs.Filing.{fileReply, storeAfter};
 ghost use Rattle.certificates.specs.NamePart.{namePart};
@@ -44,15 +42,6 @@ pub fn file(store: &mut [u32], certificate: &[u32]) -> Filing
     }
     insert(store, place, certificate);
     Filing::Filed
-}
-
-// Does a store that is known to be sound hold the certificate?
-pub fn holds(store: &[u32], certificate: &[u32]) -> bool
-    requires { ⌜ soundStore (now store) ≡ true ⌝ }
-    ensures { λ r. ⌜ r ≡ lists recordBefore (records (now (store .entry))) (now (certificate .entry)) ⌝ }
-{
-    let place = place_of(store, certificate);
-    is_held(store, place, certificate)
 }
 
 // A stretch of the store's words: from the word `from` up to the word `to`.

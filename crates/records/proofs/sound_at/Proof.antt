@@ -1,8 +1,8 @@
--- Test by test: `proofs/Stores.antt` says what each makes of `soundAt`.
+-- Test by test: `proofs/Stores.antt` of certificates says what each makes of `soundAt`.
 use borrow.Author.Needs.{needs}
 use mathlib.Core.Path.{sym, _∙_}
 use borrow.Author.Tests.{not-true, not-false}
-use Rattle.certificates.proofs.Stores.{at-unsound, at-last, at-next}
+use Rattle.certificates.proofs.Stores.{at-unsound, at-first, at-next}
 use Rattle.records.proofs.sound_at.Statement.{statement}
 use Rattle.records.proofs.sound_at.Tie as tie
 
@@ -13,16 +13,13 @@ sound-record-requires : tie.Need-sound-record-requires
 sound-record-requires c κs = search needs
 
 returns : tie.Need-returns
-returns c = at-unsound (c .before .before .before .before .args .store .now) (c .before .before .before .before .args .count) (c .before .before .before .before .args .i) _ (c .before .before .record-at .ensures) (sym (not-true _ (c .if1 .taken)) ∙ c .before .sound-record .ensures)
-
-add-if2 : tie.Need-add-if2
-add-if2 c = search needs
+returns c = at-unsound _ _ _ (c .before .before .record-at .ensures) (sym (not-true _ (c .if1 .taken)) ∙ c .before .sound-record .ensures)
 
 returns-2 : tie.Need-returns-2
-returns-2 c = at-last (c .before .before .before .before .before .args .store .now) (c .before .before .before .before .before .args .count) (c .before .before .before .before .before .args .i) _ (c .before .before .before .record-at .ensures) (sym (not-false _ (c .before .if1 .left)) ∙ c .before .before .sound-record .ensures) (c .if2 .taken)
+returns-2 c = at-first _ _ _ (c .before .before .before .record-at .ensures) (sym (not-false _ (c .before .if1 .left)) ∙ c .before .before .sound-record .ensures) (c .if2 .taken)
 
-add-record-at : tie.Need-add-record-at
-add-record-at c = search needs
+sub-record-at : tie.Need-sub-record-at
+sub-record-at c = search needs
 
 record-at-requires-2 : tie.Need-record-at-requires-2
 record-at-requires-2 c κs = search needs
@@ -31,7 +28,9 @@ words-before-requires : tie.Need-words-before-requires
 words-before-requires c κs = search needs
 
 returns-3 : tie.Need-returns-3
-returns-3 c = at-next (c .before .before .before .before .before .before .before .args .store .now) (c .before .before .before .before .before .before .before .args .count) (c .before .before .before .before .before .before .before .args .i) _ (c .before .before .before .before .before .record-at .ensures) _ _ (sym (not-false _ (c .before .before .before .if1 .left)) ∙ c .before .before .before .before .sound-record .ensures) (c .before .before .if2 .left) (c .before .record-at2 .ensures) (c .words-before .ensures)
+returns-3 c =
+    let tested = c .before .before .before .before in
+    at-next _ _ _ (tested .before .record-at .ensures) _ _ (sym (not-false _ (c .before .before .before .if1 .left)) ∙ tested .sound-record .ensures) (c .before .before .if2 .left) (c .before .record-at2 .ensures) (c .words-before .ensures)
 
 pub sound-at-spec : {M : Type 1} → statement M
 sound-at-spec =
@@ -40,9 +39,8 @@ sound-at-spec =
     record-at-requires
     sound-record-requires
     returns
-    add-if2
     returns-2
-    add-record-at
+    sub-record-at
     record-at-requires-2
     words-before-requires
     returns-3)
