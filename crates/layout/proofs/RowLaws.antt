@@ -14,7 +14,7 @@ use Rattle.layout.specs.Values.{wordsOf, rowOf, orderOf}
 use Rattle.layout.specs.declared.row.Row as Held
 use Rattle.layout.specs.declared.row.Order.the-variants.{Before, Same, After}
 use Rattle.rows.proofs.Case.{Case, isTrue, isFalse, split, never}
-use Rattle.rows.proofs.LayoutLaws.{row-length}
+use Rattle.rows.proofs.LayoutLaws.{row-length, sound-width}
 use Rattle.rows.proofs.Scan.{and-true-left, and-false-left, zeros-next, zeros-fails, zeros-end}
 use Rattle.rows.proofs.Order.{step-less, step-equal, row-order}
 
@@ -49,6 +49,9 @@ row-in-length ws l h = length-take-le (getD ws 0 0) (drop 1 ws) (omega (arith, l
 pub row-in-atom : (ws : List ℕ) (j : ℕ) → j < getD ws 0 0 → getD (rowIn ws) j 0 ≡ getD ws (1 + j) 0
 unfolding rowIn
 row-in-atom ws j h = getD-take (getD ws 0 0) (drop 1 ws) j 0 h ∙ getD-drop 1 ws j 0
+
+pub sound-narrow : (ws : List ℕ) (at : ℕ) → soundRow (fiveAt ws at) ≡ true → getD ws at 0 ≤ 4
+sound-narrow ws at e = let s = sound-width (fiveAt ws at) e .few in omega (arith, five-width ws at)
 
 -- is it a sound row? the words from `j` on are still to be looked at
 pub record Looked (ws : List ℕ) (at j : ℕ) : Type 0 where

@@ -1,10 +1,23 @@
-// Words copied within one area; rows in words.
+// Words written into an area or copied within it; rows in words, and a row's place among them.
 pub mod row;
+pub mod search;
 
 ghost use mathlib.Core.Path.{_≡_};
 ghost use Prim.Native.Nat.{_+_, _≤_};
 ghost use lib.ListN.{length, take, drop};
 ghost use Rattle.rows.specs.Layout.{put};
+
+// Writes words over those that stand at `at`.
+pub fn write(area: &mut [u32], at: usize, words: &[u32])
+    requires { ⌜ at + length (now words) ≤ length (now area) ⌝ }
+    ensures { λ _. ⌜ now (area .exit) ≡ put at (now (words .entry)) (now (area .entry)) ⌝ }
+{
+    let mut j: usize = 0;
+    while j < words.len() {
+        area[at + j] = words[j];
+        j += 1;
+    }
+}
 
 // Copies `count` words to lower places, the first of them first.
 pub fn copy_down(area: &mut [u32], from: usize, to: usize, count: usize)

@@ -1,30 +1,31 @@
 -- A set in words, as the code reads it: the rows where they stand.
-use Prim.Native.Nat.{ℕ, zero, suc, _+_, _*_, _≤_, _<_}
+use Prim.Native.Nat.{ℕ, zero, suc, _+_, _*_, _-_, _≤_, _<_}
 use mathlib.Core.Path.{_≡_, sym, _∙_, ap, subst}
 use mathlib.Core.Bool.{true, false, not}
 use mathlib.Core.List.{List, []}
 use native.Mathlib.Omega.{arith}
 use lib.Dec.{eqb, eqb·suc-zero}
 use lib.ListN.{length, getD, drop}
-use Rattle.rows.specs.Ordered.{lists}
+use lib.Seq.{ext-getD}
+use Rattle.rows.specs.Ordered.{ascending, lists}
 use Rattle.rows.specs.Sets.{has}
 use Rattle.rows.specs.Row.{Row, rowBefore}
 use Rattle.rows.specs.Layout.{rowIn, fiveAt, soundRow, pieces, every, rowsIn, formed, setIn, soundSet}
 use Rattle.layout.specs.Values.{wordsOf, rowOf, orderOf}
-use Rattle.sets.specs.Private.{Finds}
+use Rattle.layout.specs.Search.{rowsAt, Listed, Finds}
 use Rattle.layout.specs.declared.row.Row as Held
 use Rattle.layout.specs.declared.row.Order as Order
 use Rattle.layout.specs.declared.row.Order.the-variants.{Before, Same, After}
-use Rattle.sets.specs.declared.Found as Found
-use Rattle.sets.specs.declared.Found.the-variants.{At, Missing}
+use Rattle.layout.specs.declared.search.Found.the-variants.{Missing}
 use Rattle.rows.proofs.Order.{row-order}
 use Rattle.rows.proofs.Ordered.{Ascending, ascending-true}
-use Rattle.rows.proofs.Place.{Between, gap-insert, gap-lists, found-lists}
-use Rattle.rows.proofs.LayoutLaws.{sound-width, piece-sound, row-at, rows-count, true-sound}
-use Rattle.layout.proofs.RowLaws.{five-width, loaded-row, before-order, after-order, same-order}
+use Rattle.rows.proofs.Place.{Between, between-all, between-up}
+use Rattle.rows.proofs.LayoutLaws.{piece-sound, row-at, rows-count, true-sound}
+use Rattle.layout.proofs.RowLaws.{sound-narrow, loaded-row, before-order, after-order, same-order}
+use Rattle.layout.proofs.SearchLaws.{rows-at-length, rows-at-get, finds-missing}
 
 pub width-at : (n : ℕ) (ws : List ℕ) (i : ℕ) → every soundRow (pieces 5 n (drop 2 ws)) ≡ true → i < n → getD ws (2 + 5 * i) 0 ≤ 4
-width-at n ws i e h = let s = sound-width (fiveAt ws (2 + 5 * i)) (piece-sound n ws i e h) .few in omega (arith, five-width ws (2 + 5 * i))
+width-at n ws i e h = sound-narrow ws (2 + 5 * i) (piece-sound n ws i e h)
 
 -- row `i`, loaded, was compared with row `j`
 module _ (ws : List ℕ) (i j : ℕ) (h : i < getD ws 1 0) (k : j < getD ws 1 0) (r : Held.Row) (o : Order.Order)
@@ -62,17 +63,35 @@ module _ (ws : List ℕ) (m : ℕ) (h : m < getD ws 1 0) (r : Held.Row) (o : Ord
 pub sound-ascending : (ws : List ℕ) → soundSet ws ≡ true → Ascending rowBefore row-order (rowsIn ws)
 sound-ascending ws e = ascending-true rowBefore row-order (rowsIn ws) (true-sound ws e .order)
 
--- what the search answers
-pub finds-at : (xs : List Row) (r : Row) (i : ℕ) → i < length xs → getD xs i [] ≡ r → Finds xs r (At i)
-unfolding Finds
-finds-at xs r i h e = (found-lists rowBefore row-order [] xs r i h e, h, e)
+-- they stand five words apart, as the search asks
+module _ (ws : List ℕ) (n : ℕ) (e : n ≡ getD ws 1 0) where
+  pub set-rows : rowsAt ws 2 5 n ≡ rowsIn ws
+  set-rows =
+      let l = rows-at-length ws 2 5 n in
+      let c = rows-count ws in
+      ext-getD [] (rowsAt ws 2 5 n) (rowsIn ws) (omega arith) (λ i h. rows-at-get ws 2 5 n i (omega arith) ∙ sym (row-at ws i (omega arith)))
 
-pub finds-missing : (xs : List Row) (r : Row) (low high : ℕ) → Between rowBefore row-order [] xs r low high → high ≤ low → Finds xs r (Missing low)
-unfolding Finds
-finds-missing xs r low high b h =
-    let o = b .order in
-    let g : Between rowBefore row-order [] xs r low low = let e : high ≡ low = omega arith in subst (Between rowBefore row-order [] xs r low) e b in
-    (gap-lists rowBefore row-order [] xs r low g, g .end, gap-insert rowBefore row-order [] xs r low g)
+  pub set-listed : soundSet ws ≡ true → Listed ws 2 5 n
+  set-listed s =
+      let t = true-sound ws s in
+      let w = t .whole in
+      record {
+        inside = λ i h. omega arith;
+        narrow = λ i h. width-at (getD ws 1 0) ws i (t .pieces) (omega arith);
+        ascends = ap (ascending rowBefore) set-rows ∙ t .order;
+      }
+
+  -- the row comes after the last of them
+  pub finds-past : soundSet ws ≡ true → (r : Row) → 0 < n → rowBefore (getD (rowsIn ws) (n - 1) []) r ≡ true → Finds (rowsIn ws) r (Missing n)
+  finds-past s r h b =
+      let c = rows-count ws in
+      let f : n - 1 + 1 ≡ n = omega arith in
+      finds-missing (rowsIn ws) r n n (subst (λ (i : ℕ). Between rowBefore row-order [] (rowsIn ws) r i n) f
+      (between-up rowBefore row-order [] (rowsIn ws) (sound-ascending ws s) r 0 n (n - 1) (between-all rowBefore row-order [] (rowsIn ws) r n (omega arith)) (omega arith) (omega arith) b)) (omega arith)
+
+  -- there are none
+  pub finds-none : (r : Row) → n ≡ 0 → Finds (rowsIn ws) r (Missing 0)
+  finds-none r z = let c = rows-count ws in finds-missing (rowsIn ws) r 0 0 (between-all rowBefore row-order [] (rowsIn ws) r 0 (omega arith)) (omega arith)
 
 -- the numbers of a sound set
 pub record Size (ws : List ℕ) : Type 0 where
@@ -90,14 +109,6 @@ size ws e =
 
 pub width-in : (ws : List ℕ) (i : ℕ) → soundSet ws ≡ true → i < length (rowsIn ws) → getD ws (2 + 5 * i) 0 ≤ 4
 width-in ws i e h = width-at (getD ws 1 0) ws i (true-sound ws e .pieces) (omega (arith, rows-count ws))
-
-pub at-listed : (xs : List Row) (r : Row) (f : Found.Found) (i : ℕ) → f ≡ At i → Finds xs r f → lists rowBefore xs r ≡ true
-unfolding Finds
-at-listed xs r f i e s = (subst (Finds xs r) e s) .0
-
-pub missing-unlisted : (xs : List Row) (r : Row) (f : Found.Found) (i : ℕ) → f ≡ Missing i → Finds xs r f → lists rowBefore xs r ≡ false
-unfolding Finds
-missing-unlisted xs r f i e s = (subst (Finds xs r) e s) .0
 
 -- what the form makes of it
 formed-listed : (n : ℕ) (xs : List Row) (r : Row) → lists rowBefore xs r ≡ true → eqb n 0 ≡ has (formed n xs) r

@@ -9,8 +9,8 @@ ghost use Rattle.rows.specs.Ordered.{ascending};
 ghost use Rattle.rows.specs.Row.{rowBefore};
 ghost use Rattle.rows.specs.Layout.{pieces, every, soundRow, rowsIn, formed, setIn, soundSet, written};
 ghost use Rattle.layout.specs.Values.{rowOf};
+ghost use Rattle.layout.specs.Search.{Finds};
 ghost use Rattle.sets.specs.Values.{insertion, afterInsert};
-ghost use Rattle.sets.specs.Private.{Finds};
 use layout::copy_up;
 use layout::row;
 use layout::row::Order;
@@ -19,12 +19,9 @@ use layout::row::compare;
 use layout::row::load;
 use layout::row::store;
 use layout::row::wide;
+use layout::search;
+use layout::search::Found;
 use rows::MOST_ROWS;
-
-pub enum Found {
-    At(usize),
-    Missing(usize),
-}
 
 pub enum Inserted {
     New,
@@ -93,17 +90,24 @@ fn find(set: &[u32], row: Row) -> Found
     requires { ⌜ (soundSet (now set) ≡ true) × (row .width ≤ 4) ⌝ }
     ensures { λ r. ⌜ Finds (rowsIn (now (set .entry))) (rowOf row) r ⌝ }
 {
-    let mut low: usize = 0;
-    let mut high = wide(set[1]);
-    while low < high {
-        let middle = low + (high - low) / 2;
-        match compare(row, set, 2 + 5 * middle) {
-            Order::Before => high = middle,
-            Order::Same => return Found::At(middle),
-            Order::After => low = middle + 1,
-        }
+    search::find(set, 2, 5, wide(set[1]), row)
+}
+
+// The place of a row, looked for at the end first: rows mostly come in order.
+fn find_from_end(set: &[u32], row: Row) -> Found
+    requires { ⌜ (soundSet (now set) ≡ true) × (row .width ≤ 4) ⌝ }
+    ensures { λ r. ⌜ Finds (rowsIn (now (set .entry))) (rowOf row) r ⌝ }
+{
+    let count = wide(set[1]);
+    if count == 0 {
+        return Found::Missing(0);
     }
-    Found::Missing(low)
+    let last = count - 1;
+    match compare(row, set, 2 + 5 * last) {
+        Order::Before => find(set, row),
+        Order::Same => Found::At(last),
+        Order::After => Found::Missing(count),
+    }
 }
 
 // "A row is in a finite answer if it is listed, in a complement if it is not."
@@ -146,7 +150,7 @@ pub fn insert(set: &mut [u32], row: Row) -> Inserted
     ensures answer { λ r. ⌜ r ≡ insertion (setIn (now (set .entry))) (rowOf row) ⌝ }
     ensures words { λ r. ⌜ now (set .exit) ≡ afterInsert r (now (set .entry)) (rowOf row) ⌝ }
 {
-    match find(set, row) {
+    match find_from_end(set, row) {
         Found::At(_) => Inserted::Known,
         Found::Missing(i) => {
             if set[1] == MOST_ROWS {

@@ -2,7 +2,8 @@
 use native.Mathlib.Omega.{arith}
 use Rattle.rows.specs.Layout.{rowsIn}
 use Rattle.layout.specs.Values.{rowOf}
-use Rattle.sets.proofs.SetWords.{size, at-listed, missing-unlisted, has-listed, has-unlisted}
+use Rattle.layout.proofs.SearchLaws.{at-listed, missing-unlisted}
+use Rattle.sets.proofs.SetWords.{size, has-listed, has-unlisted}
 use borrow.Author.Needs.{needs}
 use Rattle.sets.proofs.has.Statement.{statement}
 use Rattle.sets.proofs.has.Tie as tie

@@ -15,26 +15,34 @@ returns : tie.Need-returns
 returns c =
     let a = c .before .before .before .before .before .before .before .before .args in
     let s = size (a .set .now) (c .before .before .before .before .before .before .before .before .pre .0) in
-    (full-answer (a .set .now) (rowOf (a .row)) _ _ (c .before .before .before .before .before .find .ensures) (c .before .before .before .i .given .1) (omega arith), full-words (a .set .now) (rowOf (a .row)) _ _ (c .before .before .before .before .before .find .ensures) (c .before .before .before .i .given .1))
+    let f = c .before .before .before .before .before .find-from-end .ensures in
+    let e = c .before .before .before .i .given .1 in
+    (full-answer (a .set .now) (rowOf (a .row)) _ _ f e (omega arith), full-words (a .set .now) (rowOf (a .row)) _ _ f e)
 
 insert-at-requires : tie.Need-insert-at-requires
 insert-at-requires c κs =
     let a = c .before .before .before .before .before .before .before .before .before .args in
-    let s = size (a .set .now) (c .before .before .before .before .before .before .before .before .before .pre .0) in
+    let p = c .before .before .before .before .before .before .before .before .before .pre in
+    let s = size (a .set .now) (p .0) in
     let n = c .before .if1 .left in
-    (c .before .before .before .before .before .before .before .before .before .pre .0, c .before .before .before .before .before .before .before .before .before .pre .1, missing-place (a .set .now) (rowOf (a .row)) _ _ (c .before .before .before .before .before .before .find .ensures) (c .before .before .before .before .i .given .1), omega arith, c .before .before .before .before .before .before .before .before .before .pre .3)
+    let f = c .before .before .before .before .before .before .find-from-end .ensures in
+    (p .0, p .1, missing-place (a .set .now) (rowOf (a .row)) _ _ f (c .before .before .before .before .i .given .1), omega arith, p .3)
 
 returns-2 : tie.Need-returns-2
 returns-2 c =
     let a = c .before .before .before .before .before .args in
-    (known-answer (a .set .now) (rowOf (a .row)) _ _ (c .before .before .find .ensures) (c .enum-told .given .1), known-words (a .set .now) (rowOf (a .row)) _ _ (c .before .before .find .ensures) (c .before .before .before .before .before .pre .0) (c .enum-told .given .1))
+    let f = c .before .before .find-from-end .ensures in
+    let e = c .enum-told .given .1 in
+    (known-answer (a .set .now) (rowOf (a .row)) _ _ f e, known-words (a .set .now) (rowOf (a .row)) _ _ f (c .before .before .before .before .before .pre .0) e)
 
 returns-3 : tie.Need-returns-3
 returns-3 c =
     let a = c .before .before .before .before .before .before .before .before .before .before .before .before .args in
     let s = size (a .set .now) (c .before .before .before .before .before .before .before .before .before .before .before .before .pre .0) in
     let n = c .before .before .before .before .if1 .left in
-    (new-answer (a .set .now) (rowOf (a .row)) _ _ (c .before .before .before .before .before .before .before .before .before .find .ensures) (c .before .before .before .before .before .before .before .i .given .1) (omega arith), new-words (a .set .now) (rowOf (a .row)) _ _ (c .before .before .before .before .before .before .before .before .before .find .ensures) (c .before .before .before .before .before .before .before .i .given .1) _ (c .before .before .insert-at .ensures))
+    let f = c .before .before .before .before .before .before .before .before .before .find-from-end .ensures in
+    let e = c .before .before .before .before .before .before .before .i .given .1 in
+    (new-answer (a .set .now) (rowOf (a .row)) _ _ f e (omega arith), new-words (a .set .now) (rowOf (a .row)) _ _ f e _ (c .before .before .insert-at .ensures))
 
 pub insert-spec : {M : Type 1} → statement M
 insert-spec =
