@@ -18,9 +18,10 @@ use Rattle.policy.proofs.Judging.{AcceptedPair, check-accepted}
 use Rattle.meaning.specs.Evidence.{namesHeld}
 use Rattle.meaning.specs.World.{World, AllTrue, Minimal, AboutRows}
 use Rattle.meaning.specs.Belonging.{meanings, BelongsTo}
-use Rattle.meaning.proofs.Proper.{Tidy, read-tidy}
+use Rattle.meaning.proofs.Claims.{Tidy, Below, Along, along-same}
+use Rattle.meaning.proofs.Proper.{read-tidy}
 use Rattle.meaning.proofs.Faithful.{read-rows}
-use Rattle.meaning.proofs.Monotone.{Below, Along, along-same, monotone}
+use Rattle.meaning.proofs.Monotone.{monotone}
 use Rattle.meaning.proofs.Minimal.{held-names-proper, minimal, minimal-is, minimal-true, minimal-below, held-shows}
 use Rattle.meaning.proofs.Exact.{read-same, read-steady}
 use Rattle.demands.specs.Query.{answered, readFrom, Call}

@@ -27,9 +27,10 @@ use Rattle.meaning.specs.Evidence.{Evidence}
 use Rattle.meaning.specs.Reading.{Answer, done, refused, read}
 use Rattle.meaning.specs.World.{World}
 use Rattle.meaning.specs.Belonging.{Meanings, Belongs, meanings}
-use Rattle.meaning.proofs.Proper.{Tidy, ProperNames, TidySets, read-tidy}
-use Rattle.meaning.proofs.Faithful.{Shows, Agree, read-rows}
-use Rattle.meaning.proofs.Monotone.{Below, Along, along-same, Ways, monotone}
+use Rattle.meaning.proofs.Claims.{Tidy, ProperNames, TidySets, Shows, Agree, Below, Along, along-same, Ways}
+use Rattle.meaning.proofs.Proper.{read-tidy}
+use Rattle.meaning.proofs.Faithful.{read-rows}
+use Rattle.meaning.proofs.Monotone.{monotone}
 use Rattle.demands.specs.Query.{Outcome, answered, declined, readFrom}
 
 -- a whole expression that was parsed from words keeps the rules, and its words are words

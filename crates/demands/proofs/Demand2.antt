@@ -16,7 +16,7 @@ use Rattle.policy.specs.Polarity.{Verdict}
 use Rattle.policy.proofs.Judging.{judge-checked}
 use Rattle.meaning.specs.Evidence.{namesHeld}
 use Rattle.meaning.specs.World.{AboutRows}
-use Rattle.meaning.proofs.Proper.{Tidy}
+use Rattle.meaning.proofs.Claims.{Tidy}
 use Rattle.meaning.proofs.Minimal.{minimal, minimal-is}
 use Rattle.demands.specs.Query.{answered, Call, answerArea}
 use Rattle.demands.specs.Demand2.{CallWords, LaidOut, Answer, Theorem}

@@ -7,28 +7,22 @@ use mathlib.Core.Option.{Option, none, some}
 use mathlib.Core.List.{List, [], _∷_}
 use native.Mathlib.Omega.{arith}
 use lib.Dec.{T, eqb, ltb, leb}
-use lib.ListN.{length, getD}
+use lib.ListN.{length}
 use Rattle.refusals.specs.Table.{complementDrawn}
 use Rattle.rows.specs.Ordered.{insert}
 use Rattle.rows.specs.Row.{Row, isKey, rowBefore}
-use Rattle.rows.specs.Name.{plus, minus}
-use Rattle.rows.specs.Sets.{RowSet, only, allBut, listing, mostRows, has, unite, subtract}
+use Rattle.rows.specs.Name.{plus}
+use Rattle.rows.specs.Sets.{RowSet, only, allBut, mostRows, has, unite, subtract}
 use Rattle.rows.proofs.Case.{T-left, T-right}
 use Rattle.certificates.specs.Certificate.{Certificate}
-use Rattle.policy.specs.Syntax.{Slot, Expr, finite, cofinite, definition, listed, union, difference, comprehension, Body, head, draw, same, different, absent}
-use Rattle.policy.specs.Polarity.{Known, unknown, openExpr, drawsClosed, guardsClosed}
+use Rattle.policy.specs.Syntax.{Slot, Expr, leaf, union, difference, comprehension, Body, head, draw, same, different, absent}
+use Rattle.policy.specs.Polarity.{Known, openExpr, drawsClosed, guardsClosed}
 use Rattle.meaning.specs.Values.{Values, value, rowOf}
 use Rattle.meaning.specs.Evidence.{Evidence, certified, namesHeld}
-use Rattle.meaning.specs.Reading.{Answer, done, refused, Reading, after, within, small, drawable, tick, rowsOf, match, onMatch, drawEach, read, gather}
-use Rattle.meaning.proofs.Steps.{done-value, refused-number, not-refused, after-done, after-refused, either, small-done}
-
-unfoldable pub IsFinite : RowSet → Type 0
-IsFinite (only xs) = Unit {0}
-IsFinite (allBut xs) = ⊥
-
--- + names are finite, in whatever evidence
-abbrev pub FiniteNames : Evidence → Type 0
-FiniteNames names = (k n : ℕ) → IsFinite (names k n plus)
+use Rattle.meaning.specs.Reading.{Answer, done, refused, Reading, after, within, drawable, tick, match, onMatch, drawEach, read, gather}
+use Rattle.meaning.proofs.Steps.{done-value, refused-number, not-refused, after-done, after-refused, small-done}
+use Rattle.meaning.proofs.Claims.{IsFinite, FiniteNames, FiniteSets, Not12, give-not, refuse-not, either-not, small-not}
+use Rattle.meaning.proofs.Leaf.{leaf-finite, leaf-not-12}
 
 pub held-finite : (cs : List Certificate) → FiniteNames (namesHeld cs)
 unfolding IsFinite namesHeld
@@ -58,27 +52,9 @@ neither-right : (a b : Bool) → T (not (a || b)) → T (not b)
 neither-right true b t = absurd t
 neither-right false b t = t
 
--- a reading that is never refused with 12
-abbrev Not12 : {A : Type 0} → Reading A → Type 0
-Not12 m = (k : ℕ) → m k ≡ refused complementDrawn → ⊥
-
-give-not : {A : Type 0} (a : A) → Not12 (λ k. done a k)
-give-not a k e = not-refused e
-
-refuse-not : {A : Type 0} (n : ℕ) → (n ≡ complementDrawn → ⊥) → Not12 {A = A} (λ k. refused n)
-refuse-not n f k e = f (refused-number e)
-
-either-not : {A : Type 0} (b : Bool) (m n : Reading A) → Not12 m → Not12 n → Not12 (either b m n)
-either-not true m n f g = f
-either-not false m n f g = g
-
 -- a first step that is never refused with 12, then one that is not, whatever value the first is done with
 after-not : {A B : Type 0} (m : Reading A) (f : A → Reading B) → Not12 m → ((k : ℕ) (a : A) (j : ℕ) → m k ≡ done a j → Not12 (f a)) → Not12 (λ k. after (m k) f)
 after-not m f g h k e = elim (after-refused (m k) f complementDrawn e) [ inl q ↦ g k q | inr p ↦ h k (p .value) (p .draws) (p .first) (p .draws) (p .rest) ]
-
-small-not : (s : RowSet) → Not12 (small s)
-unfolding small
-small-not s = either-not (leb (length (listing s)) mostRows) _ _ (give-not s) (refuse-not 13 (λ q. omega arith))
 
 within-not : (xs : List Row) → Not12 (within xs)
 unfolding within
@@ -110,14 +86,10 @@ module _ (rest : Values → List Row → Reading (List Row)) (fine : (vs : Value
       after-not tick _ tick-not (λ k u j q. after-not (onMatch rest acc (match p vs x)) _ (onMatch-not acc (match p vs x)) (λ k′ more j′ q′. drawEach-not p vs xs more))
 
 module _ (names : Evidence) (finiteNames : FiniteNames names) (sets : List RowSet) (ks : List Known)
-    (finiteSets : (d : ℕ) → T (not (getD ks d unknown .isOpen)) → IsFinite (getD sets d (only []))) where
+    (finiteSets : FiniteSets ks sets) where
   pub closed-finite : (e : Expr) → T (not (openExpr e ks)) → (vs : Values) (k : ℕ) (s : RowSet) (j : ℕ) → read names sets e vs k ≡ done s j → IsFinite s
   unfolding openExpr read IsFinite
-  closed-finite (finite rs) t vs k s j q = subst IsFinite (small-done (only (rowsOf vs rs)) s k j q .value) tt
-  closed-finite (cofinite rs) t vs k s j q = absurd t
-  closed-finite (definition d) t vs k s j q = subst IsFinite (done-value q) (finiteSets d t)
-  closed-finite (listed u n plus) t vs k s j q = subst IsFinite (small-done (names (value vs u) n plus) s k j q .value) (finiteNames (value vs u) n)
-  closed-finite (listed u n minus) t vs k s j q = absurd t
+  closed-finite (leaf x) t vs k s j q = leaf-finite names finiteNames sets ks finiteSets x t vs k s j q
   closed-finite (union a b) t vs k s j q =
       let x = after-done (read names sets a vs k) _ s j q in
       let y = after-done (read names sets b vs (x .draws)) _ s j (x .rest) in
@@ -137,10 +109,7 @@ module _ (names : Evidence) (finiteNames : FiniteNames names) (sets : List RowSe
     unfolding drawsClosed read
 
     pub never-12 : (e : Expr) → T (drawsClosed e ks) → (vs : Values) → Not12 (read names sets e vs)
-    never-12 (finite rs) t vs = small-not (only (rowsOf vs rs))
-    never-12 (cofinite rs) t vs = small-not (allBut (rowsOf vs rs))
-    never-12 (definition d) t vs = give-not _
-    never-12 (listed u n p) t vs = small-not (names (value vs u) n p)
+    never-12 (leaf x) t vs = leaf-not-12 names sets x vs
     never-12 (union a b) t vs =
         after-not (read names sets a vs) _ (never-12 a (T-left (drawsClosed a ks) (drawsClosed b ks) t) vs) (λ k x j q.
         after-not (read names sets b vs) _ (never-12 b (T-right (drawsClosed a ks) (drawsClosed b ks) t) vs) (λ k′ y j′ q′. small-not (unite x y)))

@@ -6,22 +6,19 @@ use mathlib.Core.Bool.{Bool, true, false}
 use mathlib.Core.Option.{Option, none, some}
 use mathlib.Core.List.{List, [], _∷_}
 use lib.Dec.{T, eqb}
-use lib.ListN.{getD}
 use Rattle.rows.specs.Ordered.{insert}
 use Rattle.rows.specs.Row.{Row, rowBefore}
-use Rattle.rows.specs.Name.{Polarity, plus, minus, samePolarity}
-use Rattle.rows.specs.Sets.{RowSet, only, allBut, has, unite, subtract}
+use Rattle.rows.specs.Name.{plus, minus}
+use Rattle.rows.specs.Sets.{RowSet, only, has, unite, subtract}
 use Rattle.rows.proofs.Case.{T-left, T-right}
-use Rattle.policy.specs.Syntax.{Slot, Expr, finite, cofinite, definition, listed, union, difference, comprehension, Body, head, draw, same, different, absent}
-use Rattle.policy.specs.Polarity.{Known, unknown, hasPolarity, guardsHave}
+use Rattle.policy.specs.Syntax.{Slot, Expr, leaf, union, difference, comprehension, Body, head, draw, same, different, absent}
+use Rattle.policy.specs.Polarity.{Known, hasPolarity, guardsHave}
 use Rattle.meaning.specs.Values.{Values, value, rowOf}
 use Rattle.meaning.specs.Evidence.{Evidence}
-use Rattle.meaning.specs.Reading.{done, Reading, after, within, small, drawable, tick, rowsOf, match, onMatch, drawEach, read, gather}
-use Rattle.meaning.proofs.Steps.{done-value, after-done, after-same, either, small-done, within-done, drawable-done}
-
-not-both : (q : Polarity) → T (samePolarity q plus) → T (samePolarity q minus) → ⊥
-not-both plus t u = u
-not-both minus t u = t
+use Rattle.meaning.specs.Reading.{done, Reading, after, within, drawable, tick, match, onMatch, drawEach, read, gather}
+use Rattle.meaning.proofs.Steps.{after-done, after-same, either, within-done, drawable-done}
+use Rattle.meaning.proofs.Claims.{Steady, give-steady, small-steady}
+use Rattle.meaning.proofs.Leaf.{leaf-same, leaf-steady}
 
 -- two ways to read the guards that follow, the same on every row
 module _ (f g : Values → List Row → Reading (List Row)) (h : (vs : Values) (acc : List Row) (k : ℕ) → f vs acc k ≡ g vs acc k) where
@@ -46,10 +43,7 @@ module _ (names names′ : Evidence) (sets sets′ : List RowSet) (ks : List Kno
     unfolding hasPolarity read
 
     pub read-same : (e : Expr) → T (hasPolarity e ks plus) → T (hasPolarity e ks minus) → (vs : Values) (k : ℕ) → read names sets e vs k ≡ read names′ sets′ e vs k
-    read-same (finite rs) t u vs k = refl
-    read-same (cofinite rs) t u vs k = refl
-    read-same (definition d) t u vs k = absurd (not-both (getD ks d unknown .declared) t u)
-    read-same (listed x n p) t u vs k = absurd (not-both p t u)
+    read-same (leaf x) t u vs k = leaf-same names names′ sets sets′ ks x t u vs k
     read-same (union a b) t u vs k =
         after-same (read names sets a vs k) (read names′ sets′ a vs k) _ _
         (read-same a (T-left (hasPolarity a ks plus) (hasPolarity b ks plus) t) (T-left (hasPolarity a ks minus) (hasPolarity b ks minus) u) vs k)
@@ -81,13 +75,6 @@ module _ (names names′ : Evidence) (sets sets′ : List RowSet) (ks : List Kno
         (λ s j. either-same (has s (rowOf vs h)) _ _ _ _ j refl
         (gather-same rest (T-right (hasPolarity e ks minus) (guardsHave rest ks plus) t) (T-right (hasPolarity e ks plus) (guardsHave rest ks minus) u) vs acc j))
 
--- the value does not depend on the draws made before: a reading that is done from two counts gives one value
-abbrev Steady : {A : Type 0} → Reading A → Type 0
-Steady m = (k k′ j j′ : ℕ) (a a′ : _) → m k ≡ done a j → m k′ ≡ done a′ j′ → a ≡ a′
-
-give-steady : {A : Type 0} (a : A) → Steady (λ k. done a k)
-give-steady a k k′ j j′ b b′ e e′ = sym (done-value e) ∙ done-value e′
-
 after-steady : {A B : Type 0} (m : Reading A) (f : A → Reading B) → Steady m → ((a : A) → Steady (f a)) → Steady (λ k. after (m k) f)
 after-steady m f s t k k′ j j′ b b′ e e′ =
     let x = after-done (m k) f b j e in
@@ -98,9 +85,6 @@ after-steady m f s t k k′ j j′ b b′ e e′ =
 either-steady : {A : Type 0} (b : Bool) (m n : Reading A) → Steady m → Steady n → Steady (either b m n)
 either-steady true m n s t = s
 either-steady false m n s t = t
-
-small-steady : (s : RowSet) → Steady (small s)
-small-steady s k k′ j j′ a a′ e e′ = sym (small-done s a k j e .value) ∙ small-done s a′ k′ j′ e′ .value
 
 within-steady : (xs : List Row) → Steady (within xs)
 within-steady xs k k′ j j′ a a′ e e′ = sym (within-done xs a k j e .value) ∙ within-done xs a′ k′ j′ e′ .value
@@ -130,10 +114,7 @@ module _ (names : Evidence) (sets : List RowSet) where
     unfolding read
 
     pub read-steady : (e : Expr) (vs : Values) → Steady (read names sets e vs)
-    read-steady (finite rs) vs = small-steady (only (rowsOf vs rs))
-    read-steady (cofinite rs) vs = small-steady (allBut (rowsOf vs rs))
-    read-steady (definition d) vs = give-steady _
-    read-steady (listed t n p) vs = small-steady (names (value vs t) n p)
+    read-steady (leaf x) vs = leaf-steady names sets x vs
     read-steady (union a b) vs = after-steady (read names sets a vs) _ (read-steady a vs) (λ x. after-steady (read names sets b vs) _ (read-steady b vs) (λ y. small-steady (unite x y)))
     read-steady (difference a b) vs = after-steady (read names sets a vs) _ (read-steady a vs) (λ x. after-steady (read names sets b vs) _ (read-steady b vs) (λ y. small-steady (subtract x y)))
     read-steady (comprehension b) vs = after-steady (gather names sets b vs []) _ (gather-steady b vs []) (λ xs. give-steady (only xs))

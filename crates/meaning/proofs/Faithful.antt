@@ -5,46 +5,33 @@ use mathlib.Core.Path.{_≡_, refl, sym, _∙_, ap, subst}
 use mathlib.Core.Logic.{_⊎_, inl, inr, _↔_}
 use mathlib.Core.Bool.{Bool, true, false}
 use mathlib.Core.Option.{Option, none, some}
-use mathlib.Core.List.{List, [], _∷_, _++_, map, append-assoc, append-nil}
+use mathlib.Core.List.{List, [], _∷_, _++_, append-assoc, append-nil}
 use native.Mathlib.Omega.{arith}
 use lib.Dec.{T, eqb}
-use lib.ListN.{length, getD}
+use lib.ListN.{length}
 use borrow.Author.Tests.{eqb-true, eq-eqb}
 use Rattle.rows.specs.Word.{All, IsWord, Words}
 use Rattle.rows.specs.Ordered.{_∈_}
 use Rattle.rows.specs.Row.{Row, IsRow, rowBefore}
-use Rattle.rows.specs.Name.{Polarity}
-use Rattle.rows.specs.Sets.{RowSet, only, allBut, has, unite, subtract}
-use Rattle.rows.proofs.Case.{Case, isTrue, isFalse, split, T-eqb, _then_, iff-refl, both-or, both-not, both-and-not, swap-or}
+use Rattle.rows.specs.Sets.{RowSet, only, has, unite, subtract}
+use Rattle.rows.proofs.Case.{Case, isTrue, isFalse, split, T-eqb, _then_, iff-refl, both-or, both-and-not, swap-or}
 use Rattle.rows.proofs.Order.{row-order}
 use Rattle.rows.proofs.Lists.{all-in, all-left, all-right}
 use Rattle.rows.proofs.Ordered.{insert-∈}
-use Rattle.rows.proofs.Sets.{only-iff, allBut-iff, unite-iff, subtract-iff}
-use Rattle.policy.specs.Syntax.{Term, Slot, old, new, Expr, finite, cofinite, definition, listed, union, difference, comprehension, Body, head, draw, same, different, absent}
+use Rattle.rows.proofs.Sets.{only-iff, unite-iff, subtract-iff}
+use Rattle.policy.specs.Syntax.{Slot, old, new, Expr, leaf, union, difference, comprehension, Body, head, draw, same, different, absent}
 use Rattle.policy.specs.Words.{termWords, termRowWords, slotWords, fresh, exprWords, bodyWords}
 use Rattle.policy.specs.WellFormed.{Fit, FitBody}
 use Rattle.meaning.specs.Values.{Values, value, rowOf}
 use Rattle.meaning.specs.Evidence.{Evidence}
-use Rattle.meaning.specs.Reading.{done, Reading, drawable, tick, rowsOf, match, onMatch, drawEach, read, gather}
+use Rattle.meaning.specs.Reading.{done, Reading, drawable, tick, match, onMatch, drawEach, read, gather}
 use Rattle.meaning.specs.World.{World}
-use Rattle.meaning.specs.Belonging.{InList, fill, Matches, Meanings, Belongs, Passes}
+use Rattle.meaning.specs.Belonging.{fill, Matches, Meanings, Belongs, Passes}
 use Rattle.meaning.proofs.Steps.{done-value, after-done, either, small-done, within-done, drawable-done}
 use Rattle.meaning.proofs.Rows.{row-of-terms, match-words}
-use Rattle.meaning.proofs.Proper.{Tidy, ProperNames, TidySets, read-tidy}
-
--- the evidence shows what the world's lists have
-abbrev pub Shows : Evidence → World → Type 0
-Shows names W = (k n : ℕ) (p : Polarity) (r : Row) → IsRow r → T (has (names k n p) r) ↔ InList W k n p r
-
--- the sets read for the earlier definitions have what those definitions mean
-abbrev pub Agree : List RowSet → Meanings → Type 0
-Agree sets D = (d : ℕ) (r : Row) → IsRow r → T (has (getD sets d (only [])) r) ↔ getD D d (λ x. ⊥) r
-
--- the rows written in a literal
-rowsOf-∈ : (vs : Values) (rs : List (List Term)) (r : Row) → (r ∈ rowsOf vs rs) ↔ (r ∈ map (rowOf vs) rs)
-unfolding rowsOf _∈_
-rowsOf-∈ vs [] r = iff-refl
-rowsOf-∈ vs (x ∷ rs) r = insert-∈ rowBefore row-order (rowOf vs x) (rowsOf vs rs) r then both-or iff-refl (rowsOf-∈ vs rs r)
+use Rattle.meaning.proofs.Claims.{Tidy, ProperNames, TidySets, Shows, Agree, has-by}
+use Rattle.meaning.proofs.Leaf.{leaf-rows}
+use Rattle.meaning.proofs.Proper.{read-tidy}
 
 -- a pattern matches a row by `match` just where it does by `Matches`
 record Bound (p : List Slot) (vs : Values) (x : Row) (ws : Values) : Type 0 where
@@ -138,10 +125,6 @@ module _ (rest : Values → List Row → Reading (List Row)) (R : Values → Row
           from (inl a) = inl (inl a)
           from (inr d) = pick (d .0) (d .1) (d .2) (d .3) (d .4)
 
--- a set has what P says, one equal to it too
-has-by : (s t : RowSet) (r : Row) (P : Type 0) → s ≡ t → T (has s r) ↔ P → T (has t r) ↔ P
-has-by s t r P e h = subst (λ (u : RowSet). T (has u r) ↔ P) e h
-
 -- a guard that is a test: the rest is read where it passes, or where it fails
 tested : (b : Bool) (P A : Type 0) (acc found : List Row) (k j : ℕ) (m : Reading (List Row)) (r : Row) → T b ↔ P → (m k ≡ done found j → (r ∈ found) ↔ ((r ∈ acc) ⊎ A)) →
     either b m (λ i. done acc i) k ≡ done found j → (r ∈ found) ↔ ((r ∈ acc) ⊎ (P × A))
@@ -184,10 +167,7 @@ module _ (names : Evidence) (W : World) (shows : Shows names W) (properNames : P
     unfolding read Belongs Fit exprWords bodyWords All
 
     pub read-rows : (e : Expr) (m n : ℕ) → Fit m n e → Words (exprWords e n) → (vs : Values) → Words vs → (k : ℕ) (s : RowSet) (j : ℕ) → read names sets e vs k ≡ done s j → Rows s e vs
-    read-rows (finite rs) m n f t vs w k s j q r i = has-by (only (rowsOf vs rs)) s r _ (small-done _ s k j q .value) (only-iff (rowsOf vs rs) r then rowsOf-∈ vs rs r)
-    read-rows (cofinite rs) m n f t vs w k s j q r i = has-by (allBut (rowsOf vs rs)) s r _ (small-done _ s k j q .value) (allBut-iff (rowsOf vs rs) r then both-not (rowsOf-∈ vs rs r))
-    read-rows (definition d) m n f t vs w k s j q r i = has-by (getD sets d (only [])) s r _ (done-value q) (agree d r i)
-    read-rows (listed u l p) m n f t vs w k s j q r i = has-by (names (value vs u) l p) s r _ (small-done _ s k j q .value) (shows (value vs u) l p r i)
+    read-rows (leaf x) m n f t vs w k s j q r i = leaf-rows names W shows sets D agree x vs k s j q r i
     read-rows (union a b) m n f t vs w k s j q r i =
         let x = after-done (read names sets a vs k) _ s j q in
         let y = after-done (read names sets b vs (x .draws)) _ s j (x .rest) in

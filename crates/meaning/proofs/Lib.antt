@@ -1,5 +1,7 @@
 pub mod Steps
 pub mod Rows
+pub mod Claims
+pub mod Leaf
 pub mod Proper
 pub mod Faithful
 pub mod Monotone

@@ -18,9 +18,7 @@ use Rattle.certificates.specs.Certificate.{Certificate}
 use Rattle.meaning.specs.Evidence.{isOf, certified, namesHeld}
 use Rattle.meaning.specs.World.{World, Says, AllTrue, Certified, Minimal, AboutRows}
 use Rattle.meaning.specs.Belonging.{InList}
-use Rattle.meaning.proofs.Monotone.{Below, same-polarity}
-use Rattle.meaning.proofs.Proper.{ProperNames}
-use Rattle.meaning.proofs.Faithful.{Shows}
+use Rattle.meaning.proofs.Claims.{ProperNames, Shows, same-polarity, Below}
 
 -- a certificate that is of a name, and about a row, is the one that says so
 is-of : (c : Certificate) (k n : ℕ) (p : Polarity) (r : Row) → (T (isOf c k n p) × (r ≡ c .row)) ↔ (record { key = k; name = n; polarity = p; row = r } ≡ c)

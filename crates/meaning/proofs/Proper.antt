@@ -6,45 +6,27 @@ use mathlib.Core.Option.{Option, none, some}
 use mathlib.Core.List.{List, [], _∷_}
 use native.Mathlib.Omega.{arith}
 use lib.Dec.{eqb}
-use lib.ListN.{length, getD}
+use lib.ListN.{length}
 use Rattle.rows.specs.Word.{All, IsWord, Words}
 use Rattle.rows.specs.Ordered.{insert}
 use Rattle.rows.specs.Row.{Row, IsRow, rowBefore}
-use Rattle.rows.specs.Sets.{RowSet, only, allBut, listing, mostRows, has, unite, subtract}
+use Rattle.rows.specs.Sets.{RowSet, only, listing, mostRows, has, unite, subtract}
 use Rattle.rows.proofs.Lists.{all-left, all-right}
 use Rattle.rows.proofs.Sets.{Proper, none-proper, insert-proper, unite-proper, subtract-proper}
-use Rattle.policy.specs.Syntax.{Term, Slot, Expr, finite, cofinite, definition, listed, union, difference, comprehension, Body, head, draw, same, different, absent}
-use Rattle.policy.specs.Words.{each, termWords, termRowWords, slotWords, fresh, exprWords, bodyWords}
-use Rattle.policy.specs.WellFormed.{FitRow, Fit, FitBody}
+use Rattle.policy.specs.Syntax.{Slot, Expr, leaf, union, difference, comprehension, Body, head, draw, same, different, absent}
+use Rattle.policy.specs.Words.{termWords, termRowWords, slotWords, fresh, exprWords, bodyWords}
+use Rattle.policy.specs.WellFormed.{Fit, FitBody}
 use Rattle.meaning.specs.Values.{Values, value, rowOf}
 use Rattle.meaning.specs.Evidence.{Evidence}
-use Rattle.meaning.specs.Reading.{done, Reading, small, drawable, tick, rowsOf, match, onMatch, drawEach, read, gather}
-use Rattle.meaning.proofs.Steps.{done-value, after-done, either, small-done, within-done, drawable-done}
+use Rattle.meaning.specs.Reading.{done, Reading, drawable, tick, match, onMatch, drawEach, read, gather}
+use Rattle.meaning.proofs.Steps.{done-value, after-done, either, within-done, drawable-done}
 use Rattle.meaning.proofs.Rows.{row-of-terms, match-words}
+use Rattle.meaning.proofs.Claims.{Tidy, ProperNames, TidySets, small-tidy}
+use Rattle.meaning.proofs.Leaf.{leaf-tidy}
 
 pub record TidyRows (xs : List Row) : Type 0 where
   pub proper : Proper xs
   pub few : length xs ≤ mostRows
-
-pub record Tidy (s : RowSet) : Type 0 where
-  pub proper : Proper (listing s)
-  pub few : length (listing s) ≤ mostRows
-
-abbrev pub ProperNames : Evidence → Type 0
-ProperNames names = (k n : ℕ) (p : _) → Proper (listing (names k n p))
-
-abbrev pub TidySets : List RowSet → Type 0
-TidySets sets = (d : ℕ) → Tidy (getD sets d (only []))
-
-pub rowsOf-proper : (n : ℕ) (vs : Values) → Words vs → (rs : List (List Term)) → All (FitRow n) rs → Words (each termRowWords rs) → Proper (rowsOf vs rs)
-unfolding rowsOf All each
-rowsOf-proper n vs w [] f t = none-proper
-rowsOf-proper n vs w (r ∷ rs) f t =
-    insert-proper (rowOf vs r) (rowsOf vs rs) (row-of-terms n vs w r (f .0) (all-left IsWord (termRowWords r) _ t))
-    (rowsOf-proper n vs w rs (f .1) (all-right IsWord (termRowWords r) _ t))
-
-small-tidy : (s t : RowSet) (k j : ℕ) → Proper (listing s) → small s k ≡ done t j → Tidy t
-small-tidy s t k j a e = let d = small-done s t k j e in record { proper = subst (λ (u : RowSet). Proper (listing u)) (d .value) a; few = d .few }
 
 -- what a step adds to the rows found so far keeps them tidy
 abbrev Keeps : (List Row → Reading (List Row)) → Type 0
@@ -78,10 +60,7 @@ module _ (names : Evidence) (sets : List RowSet) (properNames : ProperNames name
     unfolding read Fit exprWords bodyWords listing All
 
     pub read-tidy : (e : Expr) (m n : ℕ) → Fit m n e → Words (exprWords e n) → (vs : Values) → Words vs → (k : ℕ) (s : RowSet) (j : ℕ) → read names sets e vs k ≡ done s j → Tidy s
-    read-tidy (finite rs) m n f t vs w k s j q = small-tidy (only (rowsOf vs rs)) s k j (rowsOf-proper n vs w rs (f .rows) (t .1 .1)) q
-    read-tidy (cofinite rs) m n f t vs w k s j q = small-tidy (allBut (rowsOf vs rs)) s k j (rowsOf-proper n vs w rs (f .rows) (t .1 .1)) q
-    read-tidy (definition d) m n f t vs w k s j q = subst Tidy (done-value q) (tidySets d)
-    read-tidy (listed i l p) m n f t vs w k s j q = small-tidy (names (value vs i) l p) s k j (properNames (value vs i) l p) q
+    read-tidy (leaf x) m n f t vs w k s j q = leaf-tidy names sets properNames tidySets x m n f t vs w k s j q
     read-tidy (union a b) m n f t vs w k s j q =
         let x = after-done (read names sets a vs k) _ s j q in
         let y = after-done (read names sets b vs (x .draws)) _ s j (x .rest) in

@@ -6,7 +6,8 @@ use Rattle.refusals.specs.Table.{complementDrawn, tooManyRows}
 use Rattle.rows.specs.Word.{All}
 use Rattle.rows.specs.Name.{plus, minus}
 use Rattle.rows.specs.Sets.{RowSet, only, allBut}
-use Rattle.policy.specs.Syntax.{Term, atom, var, old, new, Expr, finite, cofinite, listed, union, difference, comprehension, head, draw, same, absent}
+use Rattle.policy.specs.Leaf.{finite, cofinite, listed}
+use Rattle.policy.specs.Syntax.{Term, atom, var, old, new, Expr, leaf, union, difference, comprehension, head, draw, same, absent}
 use Rattle.meaning.specs.Evidence.{namesHeld}
 use Rattle.meaning.specs.Reading.{Answer, done, refused, read}
 
@@ -31,25 +32,25 @@ unfoldable pub trials : List Trial
 unfolding oneAtom k1
 trials =
     -- "matching or not": a row of another width, and one that differs from the pattern's atom, are draws too
-    record { expr = comprehension (draw (finite ((atom 5 ∷ []) ∷ (atom 7 ∷ atom 8 ∷ []) ∷ [])) (new ∷ []) (head (var 0 ∷ []))); answer = done (only ((5 ∷ []) ∷ [])) 2 }
-    ∷ record { expr = comprehension (draw (finite ((atom 5 ∷ []) ∷ (atom 6 ∷ []) ∷ [])) (old (atom 6) ∷ []) (head (atom 1 ∷ []))); answer = done (only ((1 ∷ []) ∷ [])) 2 }
+    record { expr = comprehension (draw (leaf (finite ((atom 5 ∷ []) ∷ (atom 7 ∷ atom 8 ∷ []) ∷ []))) (new ∷ []) (head (var 0 ∷ []))); answer = done (only ((5 ∷ []) ∷ [])) 2 }
+    ∷ record { expr = comprehension (draw (leaf (finite ((atom 5 ∷ []) ∷ (atom 6 ∷ []) ∷ []))) (old (atom 6) ∷ []) (head (atom 1 ∷ []))); answer = done (only ((1 ∷ []) ∷ [])) 2 }
     -- "guards after a failed one are not read": the second draw is never reached
-    ∷ record { expr = comprehension (same (atom 1) (atom 2) (draw (finite ((atom 5 ∷ []) ∷ [])) (new ∷ []) (head (var 0 ∷ [])))); answer = done (only []) 0 }
+    ∷ record { expr = comprehension (same (atom 1) (atom 2) (draw (leaf (finite ((atom 5 ∷ []) ∷ []))) (new ∷ []) (head (var 0 ∷ [])))); answer = done (only []) 0 }
     -- "an operand is read each time its guard is reached": 2 draws, and 1 inside the operand for each of them
     ∷ record {
-      expr = comprehension (draw (finite ((atom 5 ∷ []) ∷ (atom 6 ∷ []) ∷ [])) (new ∷ [])
-          (absent (var 0 ∷ []) (comprehension (draw (finite ((atom 6 ∷ []) ∷ [])) (new ∷ []) (head (var 1 ∷ [])))) (head (var 0 ∷ []))));
+      expr = comprehension (draw (leaf (finite ((atom 5 ∷ []) ∷ (atom 6 ∷ []) ∷ []))) (new ∷ [])
+          (absent (var 0 ∷ []) (comprehension (draw (leaf (finite ((atom 6 ∷ []) ∷ []))) (new ∷ []) (head (var 1 ∷ [])))) (head (var 0 ∷ []))));
       answer = done (only ((5 ∷ []) ∷ [])) 4;
     }
     -- 12 and 13: "13 comes after both parts of a union or difference are read"
-    ∷ record { expr = comprehension (draw (cofinite []) (new ∷ []) (head (var 0 ∷ []))); answer = refused complementDrawn }
-    ∷ record { expr = union (finite (oneAtom 1 100)) (finite (oneAtom 1000 29)); answer = refused tooManyRows }
-    ∷ record { expr = difference (difference (cofinite (oneAtom 1 100)) (finite (oneAtom 1000 28))) (cofinite []); answer = done (only []) 0 }
-    ∷ record { expr = union (finite (oneAtom 1 100)) (comprehension (draw (cofinite []) (new ∷ []) (head (var 0 ∷ [])))); answer = refused complementDrawn }
+    ∷ record { expr = comprehension (draw (leaf (cofinite [])) (new ∷ []) (head (var 0 ∷ []))); answer = refused complementDrawn }
+    ∷ record { expr = union (leaf (finite (oneAtom 1 100))) (leaf (finite (oneAtom 1000 29))); answer = refused tooManyRows }
+    ∷ record { expr = difference (difference (leaf (cofinite (oneAtom 1 100))) (leaf (finite (oneAtom 1000 28)))) (leaf (cofinite [])); answer = done (only []) 0 }
+    ∷ record { expr = union (leaf (finite (oneAtom 1 100))) (comprehension (draw (leaf (cofinite [])) (new ∷ []) (head (var 0 ∷ [])))); answer = refused complementDrawn }
     -- a − name of which nothing is held has all rows, not none; a number's list has none with + and all with −
-    ∷ record { expr = comprehension (absent (atom 7 ∷ []) (listed (atom k1) 2 minus) (head (atom 7 ∷ []))); answer = done (only []) 0 }
-    ∷ record { expr = listed (atom 5) 2 plus; answer = done (only []) 0 }
-    ∷ record { expr = listed (atom 5) 2 minus; answer = done (allBut []) 0 }
+    ∷ record { expr = comprehension (absent (atom 7 ∷ []) (leaf (listed (atom k1) 2 minus)) (head (atom 7 ∷ []))); answer = done (only []) 0 }
+    ∷ record { expr = leaf (listed (atom 5) 2 plus); answer = done (only []) 0 }
+    ∷ record { expr = leaf (listed (atom 5) 2 minus); answer = done (allBut []) 0 }
     ∷ []
 
 pub readings : All Holds trials

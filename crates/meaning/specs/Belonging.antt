@@ -9,7 +9,8 @@ use lib.ListN.{length, getD}
 use Rattle.rows.specs.Ordered.{_∈_}
 use Rattle.rows.specs.Row.{Row, IsRow, isKey}
 use Rattle.rows.specs.Name.{Polarity, plus, minus}
-use Rattle.policy.specs.Syntax.{Term, Slot, old, new, Expr, finite, cofinite, definition, listed, union, difference, comprehension, Body, head, draw, same, different, absent}
+use Rattle.policy.specs.Leaf.{Leaf, finite, cofinite, definition, listed}
+use Rattle.policy.specs.Syntax.{Term, Slot, old, new, Expr, leaf, union, difference, comprehension, Body, head, draw, same, different, absent}
 use Rattle.policy.specs.Words.{fresh}
 use Rattle.meaning.specs.Values.{Values, value, rowOf}
 use Rattle.meaning.specs.World.{World}
@@ -37,14 +38,18 @@ abbrev pub Meanings : Type 1
 Meanings = List (Row → Type 0)
 
 module _ (W : World) (defs : Meanings) where
+  unfoldable pub BelongsLeaf : Leaf → Values → Row → Type 0
+  unfolding InList rowOf value
+  BelongsLeaf (finite rs) vs r = r ∈ map (rowOf vs) rs
+  BelongsLeaf (cofinite rs) vs r = ¬ (r ∈ map (rowOf vs) rs)
+  BelongsLeaf (definition d) vs r = getD defs d (λ x. ⊥) r
+  BelongsLeaf (listed t n p) vs r = InList W (value vs t) n p r
+
   unfoldable mutual
-    unfolding InList rowOf value
+    unfolding BelongsLeaf rowOf value
 
     pub Belongs : Expr → Values → Row → Type 0
-    Belongs (finite rs) vs r = r ∈ map (rowOf vs) rs
-    Belongs (cofinite rs) vs r = ¬ (r ∈ map (rowOf vs) rs)
-    Belongs (definition d) vs r = getD defs d (λ x. ⊥) r
-    Belongs (listed t n p) vs r = InList W (value vs t) n p r
+    Belongs (leaf x) vs r = BelongsLeaf x vs r
     Belongs (union a b) vs r = Belongs a vs r ⊎ Belongs b vs r
     Belongs (difference a b) vs r = Belongs a vs r × (¬ Belongs b vs r)
     Belongs (comprehension b) vs r = Passes b vs r

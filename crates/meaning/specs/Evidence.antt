@@ -8,6 +8,7 @@ use Rattle.rows.specs.Row.{Row, isKey, rowBefore}
 use Rattle.rows.specs.Name.{Polarity, plus, minus, samePolarity}
 use Rattle.rows.specs.Sets.{RowSet, only, allBut}
 use Rattle.certificates.specs.Certificate.{Certificate}
+use Rattle.certificates.specs.Store.{certificates}
 
 abbrev pub Evidence : Type 0
 Evidence = ℕ → ℕ → Polarity → RowSet
@@ -27,3 +28,7 @@ unfoldable pub namesHeld : List Certificate → Evidence
 unfolding certified
 namesHeld cs k n plus = elim (isKey k) [ true ↦ only (certified cs k n plus) | false ↦ only [] ]
 namesHeld cs k n minus = elim (isKey k) [ true ↦ allBut (certified cs k n minus) | false ↦ allBut [] ]
+
+-- what is held enters here: today the certificates of the store
+abbrev pub heldIn : List ℕ → Evidence
+heldIn store = namesHeld (certificates store)

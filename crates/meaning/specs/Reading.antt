@@ -9,7 +9,8 @@ use Rattle.refusals.specs.Table.{complementDrawn, tooManyRows, tooManyDraws}
 use Rattle.rows.specs.Ordered.{insert, wordsBefore}
 use Rattle.rows.specs.Row.{Row, rowBefore}
 use Rattle.rows.specs.Sets.{RowSet, only, allBut, listing, mostRows, has, unite, subtract}
-use Rattle.policy.specs.Syntax.{Term, Slot, old, new, Expr, finite, cofinite, definition, listed, union, difference, comprehension, Body, head, draw, same, different, absent}
+use Rattle.policy.specs.Leaf.{Leaf, finite, cofinite, definition, listed}
+use Rattle.policy.specs.Syntax.{Term, Slot, old, new, Expr, leaf, union, difference, comprehension, Body, head, draw, same, different, absent}
 use Rattle.meaning.specs.Values.{Values, value, rowOf}
 use Rattle.meaning.specs.Evidence.{Evidence}
 
@@ -87,14 +88,18 @@ drawEach rest p vs (x ∷ xs) found = do
 
 -- `names` is the evidence, `sets` are the sets read for the earlier definitions
 module _ (names : Evidence) (sets : List RowSet) where
+  unfoldable pub readLeaf : Leaf → Values → Reading RowSet
+  unfolding rowsOf value small
+  readLeaf (finite rs) vs = small (only (rowsOf vs rs))
+  readLeaf (cofinite rs) vs = small (allBut (rowsOf vs rs))
+  readLeaf (definition d) vs = give (getD sets d (only []))
+  readLeaf (listed t n p) vs = small (names (value vs t) n p)
+
   unfoldable mutual
-    unfolding rowsOf rowOf value small within drawable after drawEach has unite subtract insert rowBefore
+    unfolding readLeaf rowOf value small within drawable after drawEach has unite subtract insert rowBefore
 
     pub read : Expr → Values → Reading RowSet
-    read (finite rs) vs = small (only (rowsOf vs rs))
-    read (cofinite rs) vs = small (allBut (rowsOf vs rs))
-    read (definition d) vs = give (getD sets d (only []))
-    read (listed t n p) vs = small (names (value vs t) n p)
+    read (leaf x) vs = readLeaf x vs
     read (union a b) vs = do
       x ← read a vs
       y ← read b vs

@@ -1,23 +1,24 @@
 -- The decoder reads just the words of the well-formed expressions: what parses is the words of its syntax, and back.
-use Prim.Native.Nat.{ℕ, zero, suc, _+_, _≤_, _<_}
-use mathlib.Core.Path.{_≡_, refl, _∙_, ap}
+use Prim.Native.Nat.{ℕ, zero, suc, _+_, _≤_}
+use mathlib.Core.Path.{_≡_, refl, sym, _∙_, ap}
 use mathlib.Core.Logic.{_↔_}
 use mathlib.Core.Bool.{Bool, true, false}
 use mathlib.Core.List.{List, [], _∷_, _++_, append-nil}
 use native.Mathlib.Omega.{arith}
-use lib.Dec.{T, leb, ltb, leb→le, le→leb, ltb→lt, lt→ltb}
+use lib.Dec.{leb, ltb, leb→le, le→leb}
 use lib.ListN.{length}
 use borrow.Author.Tests.{ltb-true, lt-ltb}
-use Rattle.refusals.specs.Table.{badWord, notInScope, tooDeep}
-use Rattle.rows.specs.Name.{isName}
+use Rattle.refusals.specs.Table.{badWord, tooDeep}
 use Rattle.rows.proofs.Case.{iff-refl}
-use Rattle.policy.specs.Syntax.{Term, Expr, finite, cofinite, definition, listed, union, difference, comprehension, Body, head, draw, same, different, absent}
+use Rattle.policy.specs.Syntax.{Term, Expr, leaf, union, difference, comprehension, Body, head, draw, same, different, absent}
+use Rattle.policy.specs.Leaf.{leafCode, leafRest, leafOf, leafAs}
 use Rattle.policy.specs.Words.{termWords, fresh, guardCount, exprWords, bodyWords}
 use Rattle.policy.specs.WellFormed.{FitTerm, Fit, FitBody, depth, bodyDepth, drawCount, bodyDraws, WellFormed}
 use Rattle.policy.specs.Decode.{Read, got, refused, Reader, after, give, word, wordWhere, countDraw, term, slots, guardOf, guardAs, body, codeOf, isCode, exprAs, expr, parsed, noneLeft, parse}
 use Rattle.policy.proofs.Basics.{impossible}
 use Rattle.policy.proofs.Format.{Format, oneWord, Made, made, Taken, Takes, Returns, Reads, refuse-takes, then-takes, last-takes, then-returns, last-returns, word-takes, word-returns, returns-as}
-use Rattle.policy.proofs.Leaves.{where-reads, polarity-reads, term-reads, issuer-reads, width-reads, row-reads, rows-reads, slots-reads}
+use Rattle.policy.proofs.Leaves.{where-reads, term-reads, width-reads, row-reads, slots-reads}
+use Rattle.policy.proofs.LeafDecoding.{leafAs-reads, leaf-coded}
 
 -- an expression of so many levels at most
 pub record FitExpr (known levels n : ℕ) (e : Expr) : Type 0 where
@@ -137,13 +138,7 @@ module _ (known levels : ℕ) (inner : ℕ → Reader Expr) (inner-reads : (m : 
       let rest : (m : ℕ) → Reads (body inner c m) (guards known levels c m) = λ m. body-reads c m in
       record { takes = word-takes (guardAs-takes c n (λ m. body inner c m) rest); returns = guard-returns c n (λ m. body inner c m) rest }
 
-  -- the numbers of definitions, names and counts of guards
-  definition-reads : Reads (wordWhere notInScope (λ d. ltb d known)) (oneWord (λ d. d < known))
-  definition-reads = where-reads notInScope (λ d. ltb d known) (λ d. (ltb→lt d known, lt→ltb d known))
-
-  name-reads : Reads (wordWhere badWord isName) (oneWord (λ m. T (isName m)))
-  name-reads = where-reads badWord isName (λ m. iff-refl)
-
+  -- the count of guards
   guardCount-reads : Reads (wordWhere badWord (λ c. leb c 8)) (oneWord (λ c. c ≤ 8))
   guardCount-reads = where-reads badWord (λ c. leb c 8) (λ c. (leb→le c 8, le→leb c 8))
 
@@ -158,16 +153,19 @@ module _ (known levels : ℕ) (inner : ℕ → Reader Expr) (inner-reads : (m : 
         Returns (λ ws k. after (inner n ws k) (λ a us i. after (inner n us i) (λ b. give (make a b)))) (make a b) (exprWords a n ++ exprWords b n) (drawCount a + drawCount b)
     parts-return make a b f g = then-returns _ (inner-reads n) a f (last-returns (make a) (inner-reads n) b g)
 
+    -- a leaf, its code being w
+    leaf-takes : (w : ℕ) → Takes (λ ws k. after (leafAs known n (leafOf w) ws k) (λ x. give (leaf x))) (λ e u d. Made (expression known (suc levels) n) e (w ∷ u) d)
+    unfolding exprWords depth drawCount Fit
+    leaf-takes w =
+        last-takes leaf (leafAs-reads known n w) (λ x g. record { spelled = ap (λ c. c ∷ leafRest x) (sym (g .1)); met = refl; good = record { fit = g .0; shallow = omega arith } })
+
     exprAs-takes : (w : ℕ) → Takes (exprAs known inner n (codeOf w)) (λ e u d. Made (expression known (suc levels) n) e (w ∷ u) d)
     unfolding exprAs codeOf exprWords depth drawCount Fit
-    exprAs-takes zero = refuse-takes badWord
-    exprAs-takes (suc zero) = last-takes finite (rows-reads n) (λ rs g. made (record { fit = g; shallow = omega arith }))
-    exprAs-takes (suc (suc zero)) = last-takes cofinite (rows-reads n) (λ rs g. made (record { fit = g; shallow = omega arith }))
-    exprAs-takes (suc (suc (suc zero))) = last-takes definition definition-reads (λ d g. made (record { fit = g; shallow = omega arith }))
-    exprAs-takes (suc (suc (suc (suc zero)))) =
-        then-takes (issuer-reads n) (λ t f.
-        then-takes name-reads (λ m g.
-        last-takes (listed t m) polarity-reads (λ p h. made (record { fit = (f, g); shallow = omega arith }))))
+    exprAs-takes zero = leaf-takes 0
+    exprAs-takes (suc zero) = leaf-takes 1
+    exprAs-takes (suc (suc zero)) = leaf-takes 2
+    exprAs-takes (suc (suc (suc zero))) = leaf-takes 3
+    exprAs-takes (suc (suc (suc (suc zero)))) = leaf-takes 4
     exprAs-takes (suc (suc (suc (suc (suc zero))))) =
         parts-take union _ (λ a b f g. made (record { fit = (f .fit, g .fit); shallow = omega (arith, f .shallow, g .shallow) }))
     exprAs-takes (suc (suc (suc (suc (suc (suc zero)))))) =
@@ -179,15 +177,11 @@ module _ (known levels : ℕ) (inner : ℕ → Reader Expr) (inner-reads : (m : 
           met = omega arith;
           good = record { fit = (omega (arith, g .guards), g .fit); shallow = omega (arith, g .shallow) };
         }))
-    exprAs-takes (suc (suc (suc (suc (suc (suc (suc (suc w)))))))) = refuse-takes badWord
+    exprAs-takes (suc (suc (suc (suc (suc (suc (suc (suc w)))))))) = leaf-takes (suc (suc (suc (suc (suc (suc (suc (suc w))))))))
 
     expr-returns : (e : Expr) → FitExpr known (suc levels) n e → Returns (λ ws k. after (word ws k) (λ c. exprAs known inner n (codeOf c))) e (exprWords e n) (drawCount e)
     unfolding exprAs codeOf exprWords depth drawCount Fit
-    expr-returns (finite rs) f = word-returns 1 (last-returns finite (rows-reads n) rs (f .fit))
-    expr-returns (cofinite rs) f = word-returns 2 (last-returns cofinite (rows-reads n) rs (f .fit))
-    expr-returns (definition d) f = word-returns 3 (last-returns definition definition-reads d (f .fit))
-    expr-returns (listed t m p) f =
-        word-returns 4 (then-returns _ (issuer-reads n) t (f .fit .0) (then-returns _ name-reads m (f .fit .1) (last-returns (listed t m) polarity-reads p tt)))
+    expr-returns (leaf x) f = word-returns (leafCode x) (rw (leaf-coded x) (last-returns leaf (leafAs-reads known n (leafCode x)) x (f .fit, refl)))
     expr-returns (union a b) f =
         word-returns 5 (parts-return union a b (record { fit = f .fit .0; shallow = omega (arith, f .shallow) }) (record { fit = f .fit .1; shallow = omega (arith, f .shallow) }))
     expr-returns (difference a b) f =
@@ -200,10 +194,7 @@ module _ (known levels : ℕ) (inner : ℕ → Reader Expr) (inner-reads : (m : 
 -- an expression is at depth 1 at least
 depth-some : (e : Expr) → 1 ≤ depth e
 unfolding depth
-depth-some (finite rs) = omega arith
-depth-some (cofinite rs) = omega arith
-depth-some (definition d) = omega arith
-depth-some (listed t m p) = omega arith
+depth-some (leaf x) = omega arith
 depth-some (union a b) = omega arith
 depth-some (difference a b) = omega arith
 depth-some (comprehension b) = omega arith

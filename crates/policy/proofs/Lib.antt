@@ -1,6 +1,7 @@
 pub mod Basics
 pub mod Format
 pub mod Leaves
+pub mod LeafDecoding
 pub mod Decoding
 pub mod Decoded
 pub mod Scope

@@ -5,121 +5,14 @@ use mathlib.Core.Bool.{Bool, true, false, _&&_}
 use mathlib.Core.List.{List, [], _∷_}
 use lib.Dec.{leb, ltb, eqb}
 use Rattle.refusals.specs.Table.{badWord, notInScope, tooDeep}
-use Rattle.rows.specs.Row.{isKey}
-use Rattle.rows.specs.Name.{Polarity, isName, isPolarity, polarityOf}
-use Rattle.policy.specs.Syntax.{Term, atom, var, Slot, old, new, Expr, finite, cofinite, definition, listed, union, difference, comprehension, Body, head, draw, same, different, absent}
-
-infixl 1 _>>=_ _>>_
-pub data Read (A : Type 0) : Type 0 where
-  got : A → List ℕ → ℕ → Read A  -- the value, the words left, the draws met
-  refused : ℕ → Read A
-
-abbrev pub Reader : Type 0 → Type 0
-Reader A = List ℕ → ℕ → Read A
-
-abbrev pub after : {A B : Type 0} → Read A → (A → Reader B) → Read B
-after (got a ws k) f = f a ws k
-after (refused n) f = refused n
-
-abbrev pub _>>=_ : {A B : Type 0} → Reader A → (A → Reader B) → Reader B
-_>>=_ m f = λ ws k. after (m ws k) f
-
-abbrev pub _>>_ : {A B : Type 0} → Reader A → Reader B → Reader B
-_>>_ m n = λ ws k. after (m ws k) (λ _. n)
-
-abbrev pub give : {A : Type 0} → A → Reader A
-give a = λ ws k. got a ws k
-
-abbrev pub refuse : {A : Type 0} → ℕ → Reader A
-refuse n = λ ws k. refused n
-
--- refused with n unless the test passes
-abbrev pub need : ℕ → Bool → Reader (Unit {0})
-need n true = give tt
-need n false = refuse n
-
--- the next word; "words run out" is 3
-abbrev pub word : Reader ℕ
-word = λ ws k. elim ws [ [] ↦ refused badWord | w ∷ rest ↦ got w rest k ]
-
--- a word that keeps a rule, else n
-unfoldable pub wordWhere : ℕ → (ℕ → Bool) → Reader ℕ
-wordWhere n rule = do
-  w ← word
-  need n (rule w)
-  give w
+use Rattle.policy.specs.Leaf.{LeafCode, leafOf, someLeaf, leafAs}
+pub use Rattle.policy.specs.Readers.{Read, got, refused, Reader, after, _>>=_, _>>_, give, refuse, need, word, Tag, isAtom, isVar, isNew, noTag}
+unfoldable pub use Rattle.policy.specs.Readers.{wordWhere, times, polarity, tagOf, termAs, anyAtom, term, issuer, width, row, rows}
+use Rattle.policy.specs.Syntax.{Slot, old, new, Expr, leaf, union, difference, comprehension, Body, head, draw, same, different, absent}
 
 -- "At most eight draws stand in one whole definition or query, counted where their guards begin."
 unfoldable pub countDraw : Reader (Unit {0})
 countDraw = λ ws k. elim (ltb k 8) [ true ↦ got tt ws (k + 1) | false ↦ refused tooDeep ]
-
--- n things, one after the other
-unfoldable pub times : {A : Type 0} → ℕ → Reader A → Reader (List A)
-times zero m = give []
-times (suc n) m = do
-  a ← m
-  rest ← times n m
-  give (a ∷ rest)
-
-unfoldable pub polarity : Reader Polarity
-unfolding wordWhere
-polarity = do
-  w ← wordWhere badWord isPolarity
-  give (polarityOf w)
-
--- the tag of a term or a slot
-pub data Tag : Type 0 where
-  isAtom isVar isNew noTag : Tag
-
-unfoldable pub tagOf : ℕ → Tag
-tagOf zero = isAtom
-tagOf (suc zero) = isVar
-tagOf (suc (suc zero)) = isNew
-tagOf (suc (suc (suc n))) = noTag
-
--- the word after a term's tag, n variables being in scope; atoms keep the rule given
-unfoldable pub termAs : (ℕ → Bool) → ℕ → Tag → Reader Term
-unfolding wordWhere
-termAs rule n isAtom = do
-  a ← wordWhere badWord rule
-  give (atom a)
-termAs rule n isVar = do
-  v ← wordWhere notInScope (λ v. ltb v n)
-  give (var v)
-termAs rule n isNew = refuse badWord
-termAs rule n noTag = refuse badWord
-
-unfoldable pub anyAtom : ℕ → Bool
-anyAtom a = true
-
-unfoldable pub term : ℕ → Reader Term
-unfolding termAs anyAtom tagOf
-term n = do
-  t ← word
-  termAs anyAtom n (tagOf t)
-
--- "a fixed issuer that is a number" is 3
-unfoldable pub issuer : ℕ → Reader Term
-unfolding termAs tagOf
-issuer n = do
-  t ← word
-  termAs isKey n (tagOf t)
-
-unfoldable pub width : Reader ℕ
-unfolding wordWhere
-width = wordWhere badWord (λ w. leb 1 w && leb w 4)
-
-unfoldable pub row : ℕ → Reader (List Term)
-unfolding width times term
-row n = do
-  w ← width
-  times w (term n)
-
-unfoldable pub rows : ℕ → Reader (List (List Term))
-unfolding wordWhere times row
-rows n = do
-  c ← wordWhere badWord (λ c. leb c 128)
-  times c (row n)
 
 -- a pattern's slots, and the count of variables in scope after them
 abbrev pub Pattern : Type 0
@@ -200,40 +93,45 @@ body inner (suc c) n = do
   t ← word
   guardAs inner n (λ m. body inner c m) (guardOf t)
 
+-- 5, 6 and 7 hold expressions; any other code is a leaf's, or none
 pub data Code : Type 0 where
-  isFinite isCofinite isDefinition isListed isUnion isDifference isComprehension noCode : Code
+  isLeaf : LeafCode → Code
+  isUnion isDifference isComprehension : Code
 
 unfoldable pub codeOf : ℕ → Code
-codeOf zero = noCode
-codeOf (suc zero) = isFinite
-codeOf (suc (suc zero)) = isCofinite
-codeOf (suc (suc (suc zero))) = isDefinition
-codeOf (suc (suc (suc (suc zero)))) = isListed
+unfolding leafOf
+codeOf zero = isLeaf (leafOf 0)
+codeOf (suc zero) = isLeaf (leafOf 1)
+codeOf (suc (suc zero)) = isLeaf (leafOf 2)
+codeOf (suc (suc (suc zero))) = isLeaf (leafOf 3)
+codeOf (suc (suc (suc (suc zero)))) = isLeaf (leafOf 4)
 codeOf (suc (suc (suc (suc (suc zero))))) = isUnion
 codeOf (suc (suc (suc (suc (suc (suc zero)))))) = isDifference
 codeOf (suc (suc (suc (suc (suc (suc (suc zero))))))) = isComprehension
-codeOf (suc (suc (suc (suc (suc (suc (suc (suc n)))))))) = noCode
+codeOf (suc (suc (suc (suc (suc (suc (suc (suc n)))))))) = isLeaf (leafOf (suc (suc (suc (suc (suc (suc (suc (suc n)))))))))
+
+-- whether the code is that of an expression that holds others, a node
+unfoldable pub isNode : ℕ → Bool
+isNode c = leb 5 c && leb c 7
+
+-- a code at all
+unfoldable pub someCode : Code → Bool
+unfolding someLeaf
+someCode (isLeaf l) = someLeaf l
+someCode isUnion = true
+someCode isDifference = true
+someCode isComprehension = true
 
 unfoldable pub isCode : ℕ → Bool
-isCode c = leb 1 c && leb c 7
+unfolding someCode codeOf
+isCode c = someCode (codeOf c)
 
--- what follows a code that is read, `known` earlier definitions being available
+-- what follows a code that is read
 unfoldable pub exprAs : ℕ → (ℕ → Reader Expr) → ℕ → Code → Reader Expr
-unfolding rows wordWhere issuer polarity body
-exprAs known inner n isFinite = do
-  rs ← rows n
-  give (finite rs)
-exprAs known inner n isCofinite = do
-  rs ← rows n
-  give (cofinite rs)
-exprAs known inner n isDefinition = do
-  d ← wordWhere notInScope (λ d. ltb d known)
-  give (definition d)
-exprAs known inner n isListed = do
-  t ← issuer n
-  name ← wordWhere badWord isName
-  p ← polarity
-  give (listed t name p)
+unfolding leafAs wordWhere body
+exprAs known inner n (isLeaf l) = do
+  x ← leafAs known n l
+  give (leaf x)
 exprAs known inner n isUnion = do
   a ← inner n
   b ← inner n
@@ -246,7 +144,6 @@ exprAs known inner n isComprehension = do
   c ← wordWhere badWord (λ c. leb c 8)
   b ← body inner c n
   give (comprehension b)
-exprAs known inner n noCode = refuse badWord
 
 -- an expression with so many levels of depth left; with none left it is refused "at its code word"
 unfoldable pub expr : ℕ → ℕ → ℕ → Reader Expr

@@ -1,3 +1,6 @@
+pub mod Terms
+pub mod Readers
+pub mod Leaf
 pub mod Syntax
 pub mod Words
 pub mod WellFormed
@@ -8,3 +11,4 @@ pub mod Table
 pub mod Judgement
 pub mod Judged
 pub mod Part
+pub mod Held

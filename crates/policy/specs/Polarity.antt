@@ -2,24 +2,16 @@
 use Prim.Native.Nat.{ℕ}
 use mathlib.Core.Bool.{Bool, true, false, not, _&&_, _||_}
 use mathlib.Core.List.{List}
-use lib.ListN.{getD}
-use Rattle.rows.specs.Name.{Polarity, plus, minus, opposite, samePolarity}
-use Rattle.policy.specs.Syntax.{Expr, finite, cofinite, definition, listed, union, difference, comprehension, Body, head, draw, same, different, absent}
-
--- what is known of an earlier definition: its declared polarity, and whether it is open
-pub record Known : Type 0 where
-  pub declared : Polarity
-  pub isOpen : Bool
-
-abbrev pub unknown : Known
-unknown = record { declared = plus; isOpen = false }
+use Rattle.rows.specs.Name.{Polarity, opposite}
+use Rattle.policy.specs.Leaf.{leafHas, leafOpen}
+pub use Rattle.policy.specs.Leaf.{Known, unknown}
+use Rattle.policy.specs.Syntax.{Expr, leaf, union, difference, comprehension, Body, head, draw, same, different, absent}
 
 unfoldable mutual
+  unfolding leafHas
+
   pub hasPolarity : Expr → List Known → Polarity → Bool
-  hasPolarity (finite rows) ks p = true
-  hasPolarity (cofinite rows) ks p = true
-  hasPolarity (definition d) ks p = samePolarity (getD ks d unknown .declared) p
-  hasPolarity (listed t n q) ks p = samePolarity q p
+  hasPolarity (leaf x) ks p = leafHas x ks p
   hasPolarity (union a b) ks p = hasPolarity a ks p && hasPolarity b ks p
   hasPolarity (difference a b) ks p = hasPolarity a ks p && hasPolarity b ks (opposite p)
   hasPolarity (comprehension b) ks p = guardsHave b ks p
@@ -34,10 +26,8 @@ unfoldable mutual
 
 -- "Open: 2, a − name, 3 of an open definition, 5 with an open part, 6 with an open left."
 unfoldable pub openExpr : Expr → List Known → Bool
-openExpr (finite rows) ks = false
-openExpr (cofinite rows) ks = true
-openExpr (definition d) ks = getD ks d unknown .isOpen
-openExpr (listed t n q) ks = samePolarity q minus
+unfolding leafOpen
+openExpr (leaf x) ks = leafOpen x ks
 openExpr (union a b) ks = openExpr a ks || openExpr b ks
 openExpr (difference a b) ks = openExpr a ks
 openExpr (comprehension b) ks = false
@@ -47,10 +37,7 @@ unfoldable mutual
   unfolding openExpr
 
   pub drawsClosed : Expr → List Known → Bool
-  drawsClosed (finite rows) ks = true
-  drawsClosed (cofinite rows) ks = true
-  drawsClosed (definition d) ks = true
-  drawsClosed (listed t n q) ks = true
+  drawsClosed (leaf x) ks = true
   drawsClosed (union a b) ks = drawsClosed a ks && drawsClosed b ks
   drawsClosed (difference a b) ks = drawsClosed a ks && drawsClosed b ks
   drawsClosed (comprehension b) ks = guardsClosed b ks

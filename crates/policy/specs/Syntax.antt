@@ -1,12 +1,7 @@
 -- Document 01, "Expressions, in prefix order": what the words stand for.
-use Prim.Native.Nat.{ℕ}
 use mathlib.Core.List.{List}
-use Rattle.rows.specs.Name.{Polarity}
-
--- "A term is 0 and an atom, or 1 and a variable number."
-pub data Term : Type 0 where
-  atom : ℕ → Term
-  var : ℕ → Term
+use Rattle.policy.specs.Leaf.{Leaf}
+pub use Rattle.policy.specs.Terms.{Term, atom, var}
 
 -- "A slot is a term, or 2 and the number of a new variable": the number is the count of variables in scope, so it is not kept
 pub data Slot : Type 0 where
@@ -15,10 +10,7 @@ pub data Slot : Type 0 where
 
 mutual
   pub data Expr : Type 0 where
-    finite : List (List Term) → Expr  -- 1
-    cofinite : List (List Term) → Expr  -- 2
-    definition : ℕ → Expr  -- 3
-    listed : Term → ℕ → Polarity → Expr  -- 4: issuer, name, polarity
+    leaf : Leaf → Expr
     union : Expr → Expr → Expr  -- 5
     difference : Expr → Expr → Expr  -- 6
     comprehension : Body → Expr  -- 7

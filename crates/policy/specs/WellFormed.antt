@@ -1,28 +1,12 @@
 -- Document 01, "Expressions, in prefix order": the rules that an expression keeps. The decoder reads just the words of those that keep them.
-use Prim.Native.Nat.{ℕ, suc, _+_, _≤_, _<_, max}
+use Prim.Native.Nat.{ℕ, suc, _+_, _≤_, max}
 use mathlib.Core.List.{List, [], _∷_}
-use lib.Dec.{T}
 use lib.ListN.{length}
-use Rattle.rows.specs.Word.{All}
-use Rattle.rows.specs.Row.{isKey}
-use Rattle.rows.specs.Name.{isName}
-use Rattle.policy.specs.Syntax.{Term, atom, var, Slot, old, new, Expr, finite, cofinite, definition, listed, union, difference, comprehension, Body, head, draw, same, different, absent}
+use Rattle.policy.specs.Syntax.{Slot, old, new, Expr, leaf, union, difference, comprehension, Body, head, draw, same, different, absent}
+use Rattle.policy.specs.Leaf.{FitLeaf}
+pub use Rattle.policy.specs.Terms.{FitRow, FitRows}
+unfoldable pub use Rattle.policy.specs.Terms.{FitTerm, FitIssuer}
 use Rattle.policy.specs.Words.{fresh, guardCount}
-
--- a variable is in scope: n of them are
-unfoldable pub FitTerm : ℕ → Term → Type 0
-FitTerm n (atom a) = Unit {0}
-FitTerm n (var i) = i < n
-
--- a fixed issuer is a key
-unfoldable pub FitIssuer : ℕ → Term → Type 0
-FitIssuer n (atom a) = T (isKey a)
-FitIssuer n (var i) = i < n
-
-pub record FitRow (n : ℕ) (ts : List Term) : Type 0 where
-  pub some : 1 ≤ length ts
-  pub few : length ts ≤ 4
-  pub terms : All (FitTerm n) ts
 
 -- "a new variable, which must be the count of variables in scope, at most 15"; "a variable from earlier in the pattern may be used"
 unfoldable pub FitSlots : ℕ → List Slot → Type 0
@@ -36,19 +20,11 @@ pub record FitPattern (n : ℕ) (p : List Slot) : Type 0 where
   pub few : length p ≤ 4
   pub slots : FitSlots n p
 
-pub record FitRows (n : ℕ) (rs : List (List Term)) : Type 0 where
-  pub few : length rs ≤ 128
-  pub rows : All (FitRow n) rs
-
--- m definitions stand before it, n variables are in scope
 unfoldable mutual
-  unfolding FitTerm FitIssuer fresh guardCount
+  unfolding FitTerm FitLeaf fresh guardCount
 
   pub Fit : ℕ → ℕ → Expr → Type 0
-  Fit m n (finite rs) = FitRows n rs
-  Fit m n (cofinite rs) = FitRows n rs
-  Fit m n (definition d) = d < m
-  Fit m n (listed t name p) = FitIssuer n t × T (isName name)
+  Fit m n (leaf x) = FitLeaf m n x
   Fit m n (union a b) = Fit m n a × Fit m n b
   Fit m n (difference a b) = Fit m n a × Fit m n b
   Fit m n (comprehension b) = (guardCount b ≤ 8) × FitBody m n b
@@ -64,10 +40,7 @@ unfoldable mutual
 -- "A whole definition or query stands at depth 1, each expression directly inside another one deeper"
 unfoldable mutual
   pub depth : Expr → ℕ
-  depth (finite rs) = 1
-  depth (cofinite rs) = 1
-  depth (definition d) = 1
-  depth (listed t n p) = 1
+  depth (leaf x) = 1
   depth (union a b) = suc (max (depth a) (depth b))
   depth (difference a b) = suc (max (depth a) (depth b))
   depth (comprehension b) = suc (bodyDepth b)
@@ -82,10 +55,7 @@ unfoldable mutual
 -- the draw guards that stand in it, at any depth
 unfoldable mutual
   pub drawCount : Expr → ℕ
-  drawCount (finite rs) = 0
-  drawCount (cofinite rs) = 0
-  drawCount (definition d) = 0
-  drawCount (listed t n p) = 0
+  drawCount (leaf x) = 0
   drawCount (union a b) = drawCount a + drawCount b
   drawCount (difference a b) = drawCount a + drawCount b
   drawCount (comprehension b) = bodyDraws b

@@ -2,22 +2,9 @@
 use Prim.Native.Nat.{ℕ, zero, suc, _+_}
 use mathlib.Core.List.{List, [], _∷_, _++_}
 use lib.ListN.{length}
-use Rattle.rows.specs.Name.{polarityWord}
-use Rattle.policy.specs.Syntax.{Term, atom, var, Slot, old, new, Expr, finite, cofinite, definition, listed, union, difference, comprehension, Body, head, draw, same, different, absent}
-
-unfoldable pub termWords : Term → List ℕ
-termWords (atom a) = 0 ∷ a ∷ []
-termWords (var i) = 1 ∷ i ∷ []
-
--- the words of each, one after the other
-unfoldable pub each : {A : Type 0} → (A → List ℕ) → List A → List ℕ
-each f [] = []
-each f (x ∷ xs) = f x ++ each f xs
-
--- "A row is a width and its terms."
-unfoldable pub termRowWords : List Term → List ℕ
-unfolding each termWords
-termRowWords ts = length ts ∷ each termWords ts
+use Rattle.policy.specs.Leaf.{leafWords}
+unfoldable pub use Rattle.policy.specs.Terms.{termWords, each, termRowWords}
+use Rattle.policy.specs.Syntax.{Slot, old, new, Expr, leaf, union, difference, comprehension, Body, head, draw, same, different, absent}
 
 unfoldable pub slotWords : ℕ → List Slot → List ℕ
 unfolding termWords
@@ -39,13 +26,10 @@ guardCount (different x y b) = suc (guardCount b)
 guardCount (absent r e b) = suc (guardCount b)
 
 unfoldable mutual
-  unfolding polarityWord each termWords termRowWords slotWords guardCount fresh
+  unfolding leafWords termWords termRowWords slotWords guardCount fresh
 
   pub exprWords : Expr → ℕ → List ℕ
-  exprWords (finite rs) n = 1 ∷ length rs ∷ each termRowWords rs
-  exprWords (cofinite rs) n = 2 ∷ length rs ∷ each termRowWords rs
-  exprWords (definition d) n = 3 ∷ d ∷ []
-  exprWords (listed t m p) n = 4 ∷ (termWords t ++ (m ∷ polarityWord p ∷ []))
+  exprWords (leaf x) n = leafWords x
   exprWords (union a b) n = 5 ∷ (exprWords a n ++ exprWords b n)
   exprWords (difference a b) n = 6 ∷ (exprWords a n ++ exprWords b n)
   exprWords (comprehension b) n = 7 ∷ guardCount b ∷ bodyWords b n

@@ -1,0 +1,113 @@
+-- The laws of leaves: what the theorems about expressions say, of the leaves alone. A theorem's case for a leaf is one of these.
+use Prim.Native.Nat.{ℕ}
+use mathlib.Core.Path.{_≡_, refl, subst}
+use mathlib.Core.Logic.{_↔_}
+use mathlib.Core.Bool.{not}
+use mathlib.Core.List.{List, [], _∷_, map}
+use lib.Dec.{T}
+use lib.ListN.{getD}
+use Rattle.rows.specs.Word.{All, IsWord, Words}
+use Rattle.rows.specs.Ordered.{_∈_}
+use Rattle.rows.specs.Row.{Row, IsRow, rowBefore}
+use Rattle.rows.specs.Name.{Polarity, plus, minus, samePolarity}
+use Rattle.rows.specs.Sets.{RowSet, only, allBut, listing, has}
+use Rattle.rows.proofs.Case.{_then_, iff-refl, both-or, both-not}
+use Rattle.rows.proofs.Order.{row-order}
+use Rattle.rows.proofs.Lists.{all-left, all-right}
+use Rattle.rows.proofs.Ordered.{insert-∈}
+use Rattle.rows.proofs.Sets.{Proper, none-proper, insert-proper, only-iff, allBut-iff}
+use Rattle.policy.specs.Terms.{Term, each, termRowWords, FitRow}
+use Rattle.policy.specs.Leaf.{Leaf, finite, cofinite, definition, listed, leafWords, FitLeaf, Known, unknown, leafHas, leafOpen}
+use Rattle.meaning.specs.Values.{Values, value, rowOf}
+use Rattle.meaning.specs.Evidence.{Evidence}
+use Rattle.meaning.specs.Reading.{done, rowsOf, readLeaf}
+use Rattle.meaning.specs.World.{World}
+use Rattle.meaning.specs.Belonging.{InList, Meanings, BelongsLeaf}
+use Rattle.meaning.proofs.Steps.{done-value, small-done}
+use Rattle.meaning.proofs.Rows.{row-of-terms}
+use Rattle.meaning.proofs.Claims.{Tidy, ProperNames, TidySets, small-tidy, Shows, Agree, has-by, Along, along-same, same-polarity, Below, Ways, Steady, give-steady, small-steady, IsFinite, FiniteNames, FiniteSets, Not12, give-not, small-not}
+
+rowsOf-proper : (n : ℕ) (vs : Values) → Words vs → (rs : List (List Term)) → All (FitRow n) rs → Words (each termRowWords rs) → Proper (rowsOf vs rs)
+unfolding rowsOf All each
+rowsOf-proper n vs w [] f t = none-proper
+rowsOf-proper n vs w (r ∷ rs) f t =
+    insert-proper (rowOf vs r) (rowsOf vs rs) (row-of-terms n vs w r (f .0) (all-left IsWord (termRowWords r) _ t))
+    (rowsOf-proper n vs w rs (f .1) (all-right IsWord (termRowWords r) _ t))
+
+-- what is read lists rows alone, in ascending order, at most 128 of them
+pub leaf-tidy : (names : Evidence) (sets : List RowSet) → ProperNames names → TidySets sets → (x : Leaf) (m n : ℕ) → FitLeaf m n x → Words (leafWords x) → (vs : Values) → Words vs →
+    (k : ℕ) (s : RowSet) (j : ℕ) → readLeaf names sets x vs k ≡ done s j → Tidy s
+unfolding readLeaf FitLeaf leafWords listing All
+leaf-tidy names sets a b (finite rs) m n f t vs w k s j q = small-tidy (only (rowsOf vs rs)) s k j (rowsOf-proper n vs w rs (f .rows) (t .1 .1)) q
+leaf-tidy names sets a b (cofinite rs) m n f t vs w k s j q = small-tidy (allBut (rowsOf vs rs)) s k j (rowsOf-proper n vs w rs (f .rows) (t .1 .1)) q
+leaf-tidy names sets a b (definition d) m n f t vs w k s j q = subst Tidy (done-value q) (b d)
+leaf-tidy names sets a b (listed i l p) m n f t vs w k s j q = small-tidy (names (value vs i) l p) s k j (a (value vs i) l p) q
+
+-- the rows written in a literal
+rowsOf-∈ : (vs : Values) (rs : List (List Term)) (r : Row) → (r ∈ rowsOf vs rs) ↔ (r ∈ map (rowOf vs) rs)
+unfolding rowsOf _∈_
+rowsOf-∈ vs [] r = iff-refl
+rowsOf-∈ vs (x ∷ rs) r = insert-∈ rowBefore row-order (rowOf vs x) (rowsOf vs rs) r then both-or iff-refl (rowsOf-∈ vs rs r)
+
+-- what is read is what belongs
+pub leaf-rows : (names : Evidence) (W : World) → Shows names W → (sets : List RowSet) (D : Meanings) → Agree sets D → (x : Leaf) (vs : Values) (k : ℕ) (s : RowSet) (j : ℕ) →
+    readLeaf names sets x vs k ≡ done s j → (r : Row) → IsRow r → T (has s r) ↔ BelongsLeaf W D x vs r
+unfolding readLeaf BelongsLeaf
+leaf-rows names W a sets D b (finite rs) vs k s j q r i = has-by (only (rowsOf vs rs)) s r _ (small-done _ s k j q .value) (only-iff (rowsOf vs rs) r then rowsOf-∈ vs rs r)
+leaf-rows names W a sets D b (cofinite rs) vs k s j q r i = has-by (allBut (rowsOf vs rs)) s r _ (small-done _ s k j q .value) (allBut-iff (rowsOf vs rs) r then both-not (rowsOf-∈ vs rs r))
+leaf-rows names W a sets D b (definition d) vs k s j q r i = has-by (getD sets d (only [])) s r _ (done-value q) (b d r i)
+leaf-rows names W a sets D b (listed u l p) vs k s j q r i = has-by (names (value vs u) l p) s r _ (small-done _ s k j q .value) (a (value vs u) l p r i)
+
+along-listed : (W U : World) → Below W U → (k n : ℕ) (p : Polarity) (r : Row) → Along p (InList W k n p r) (InList U k n p r)
+unfolding InList
+along-listed W U b k n plus r = record { go = λ t. (t .0, b .more k n r (t .1)) }
+along-listed W U b k n minus r = record { go = λ f key. b .less k n r (f key) }
+
+-- what belongs grows with +, shrinks with −
+pub leaf-along : (W U : World) → Below W U → (ks : List Known) (D E : Meanings) → Ways ks D E → (x : Leaf) (p : Polarity) → T (leafHas x ks p) → (vs : Values) (r : Row) →
+    Along p (BelongsLeaf W D x vs r) (BelongsLeaf U E x vs r)
+unfolding leafHas BelongsLeaf
+leaf-along W U below ks D E known (finite rs) p t vs r = along-same p _
+leaf-along W U below ks D E known (cofinite rs) p t vs r = along-same p _
+leaf-along W U below ks D E known (definition d) p t vs r = subst (λ (q : Polarity). Along q (getD D d (λ x. ⊥) r) (getD E d (λ x. ⊥) r)) (same-polarity _ p t) (known d r)
+leaf-along W U below ks D E known (listed u n q) p t vs r =
+    subst (λ (m : Polarity). Along m (InList W (value vs u) n q r) (InList U (value vs u) n q r)) (same-polarity q p t) (along-listed W U below (value vs u) n q r)
+
+not-both : (q : Polarity) → T (samePolarity q plus) → T (samePolarity q minus) → ⊥
+not-both plus t u = u
+not-both minus t u = t
+
+-- with both polarities it is read the same whatever is held
+pub leaf-same : (names names′ : Evidence) (sets sets′ : List RowSet) (ks : List Known) (x : Leaf) → T (leafHas x ks plus) → T (leafHas x ks minus) → (vs : Values) (k : ℕ) →
+    readLeaf names sets x vs k ≡ readLeaf names′ sets′ x vs k
+unfolding leafHas readLeaf
+leaf-same names names′ sets sets′ ks (finite rs) t u vs k = refl
+leaf-same names names′ sets sets′ ks (cofinite rs) t u vs k = refl
+leaf-same names names′ sets sets′ ks (definition d) t u vs k = absurd (not-both (getD ks d unknown .declared) t u)
+leaf-same names names′ sets sets′ ks (listed x n p) t u vs k = absurd (not-both p t u)
+
+-- the value does not depend on the draws made before
+pub leaf-steady : (names : Evidence) (sets : List RowSet) (x : Leaf) (vs : Values) → Steady (readLeaf names sets x vs)
+unfolding readLeaf
+leaf-steady names sets (finite rs) vs = small-steady (only (rowsOf vs rs))
+leaf-steady names sets (cofinite rs) vs = small-steady (allBut (rowsOf vs rs))
+leaf-steady names sets (definition d) vs = give-steady _
+leaf-steady names sets (listed t n p) vs = small-steady (names (value vs t) n p)
+
+-- what is not open is finite
+pub leaf-finite : (names : Evidence) → FiniteNames names → (sets : List RowSet) (ks : List Known) → FiniteSets ks sets → (x : Leaf) → T (not (leafOpen x ks)) → (vs : Values) →
+    (k : ℕ) (s : RowSet) (j : ℕ) → readLeaf names sets x vs k ≡ done s j → IsFinite s
+unfolding leafOpen readLeaf IsFinite
+leaf-finite names a sets ks b (finite rs) t vs k s j q = subst IsFinite (small-done (only (rowsOf vs rs)) s k j q .value) tt
+leaf-finite names a sets ks b (cofinite rs) t vs k s j q = absurd t
+leaf-finite names a sets ks b (definition d) t vs k s j q = subst IsFinite (done-value q) (b d t)
+leaf-finite names a sets ks b (listed u n plus) t vs k s j q = subst IsFinite (small-done (names (value vs u) n plus) s k j q .value) (a (value vs u) n)
+leaf-finite names a sets ks b (listed u n minus) t vs k s j q = absurd t
+
+-- no leaf is refused with 12
+pub leaf-not-12 : (names : Evidence) (sets : List RowSet) (x : Leaf) (vs : Values) → Not12 (readLeaf names sets x vs)
+unfolding readLeaf
+leaf-not-12 names sets (finite rs) vs = small-not (only (rowsOf vs rs))
+leaf-not-12 names sets (cofinite rs) vs = small-not (allBut (rowsOf vs rs))
+leaf-not-12 names sets (definition d) vs = give-not _
+leaf-not-12 names sets (listed u n p) vs = small-not (names (value vs u) n p)

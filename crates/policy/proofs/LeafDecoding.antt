@@ -1,0 +1,99 @@
+-- The decoder of leaves reads just the words of the leaves that keep their rules; and which words are codes at all.
+use Prim.Native.Nat.{ℕ, zero, suc, _<_}
+use mathlib.Core.Path.{_≡_, refl}
+use mathlib.Core.Bool.{false, _&&_}
+use mathlib.Core.List.{List}
+use native.Mathlib.Omega.{arith}
+use lib.Dec.{T, leb, ltb, ltb→lt, lt→ltb}
+use borrow.Author.Tests.{le-leb, lt-leb}
+use Rattle.refusals.specs.Table.{badWord, notInScope}
+use Rattle.rows.specs.Name.{isName}
+use Rattle.rows.proofs.Case.{iff-refl}
+use Rattle.policy.specs.Leaf.{Leaf, finite, cofinite, definition, listed, leafCode, leafRest, FitLeaf, LeafCode, isFinite, isCofinite, isDefinition, isListed, noLeaf, leafOf, lastCode, someLeaf, leafAs}
+use Rattle.policy.specs.Syntax.{Expr}
+use Rattle.policy.specs.Decode.{refused, Reader, wordWhere, Code, isLeaf, isUnion, isDifference, isComprehension, codeOf, someCode, isCode, exprAs}
+use Rattle.policy.proofs.Basics.{impossible}
+use Rattle.policy.proofs.Format.{Format, plain, oneWord, Made, made, Takes, Returns, Reads, refuse-takes, then-takes, last-takes, then-returns, last-returns}
+use Rattle.policy.proofs.Leaves.{where-reads, polarity-reads, issuer-reads, rows-reads}
+
+-- the leaves whose code is w, `known` earlier definitions being available and n variables in scope: the words after the code
+abbrev pub leavesOf : ℕ → ℕ → ℕ → Format Leaf
+leavesOf known n w = plain leafRest (λ x. FitLeaf known n x × (leafCode x ≡ w))
+
+name-reads : Reads (wordWhere badWord isName) (oneWord (λ m. T (isName m)))
+name-reads = where-reads badWord isName (λ m. iff-refl)
+
+definition-reads : (known : ℕ) → Reads (wordWhere notInScope (λ d. ltb d known)) (oneWord (λ d. d < known))
+definition-reads known = where-reads notInScope (λ d. ltb d known) (λ d. (ltb→lt d known, lt→ltb d known))
+
+pub leafAs-reads : (known n w : ℕ) → Reads (leafAs known n (leafOf w)) (leavesOf known n w)
+unfolding leafAs leafOf leafCode leafRest FitLeaf
+leafAs-reads known n w = record { takes = taking w; returns = λ x g. rw (g .1) at (returning x (g .0)) }
+  where
+    taking : (w : ℕ) → Takes (leafAs known n (leafOf w)) (Made (leavesOf known n w))
+    taking zero = refuse-takes badWord
+    taking (suc zero) = last-takes finite (rows-reads n) (λ rs g. made (g, refl))
+    taking (suc (suc zero)) = last-takes cofinite (rows-reads n) (λ rs g. made (g, refl))
+    taking (suc (suc (suc zero))) = last-takes definition (definition-reads known) (λ d g. made (g, refl))
+    taking (suc (suc (suc (suc zero)))) = then-takes (issuer-reads n) (λ t f. then-takes name-reads (λ m g. last-takes (listed t m) polarity-reads (λ p h. made ((f, g), refl))))
+    taking (suc (suc (suc (suc (suc w))))) = refuse-takes badWord
+
+    returning : (x : Leaf) → FitLeaf known n x → Returns (leafAs known n (leafOf (leafCode x))) x (leafRest x) 0
+    returning (finite rs) f = last-returns finite (rows-reads n) rs f
+    returning (cofinite rs) f = last-returns cofinite (rows-reads n) rs f
+    returning (definition d) f = last-returns definition (definition-reads known) d f
+    returning (listed t m p) f = then-returns _ (issuer-reads n) t (f .0) (then-returns _ name-reads m (f .1) (last-returns (listed t m) polarity-reads p tt))
+
+-- a leaf's code is no node's
+pub leaf-coded : (x : Leaf) → codeOf (leafCode x) ≡ isLeaf (leafOf (leafCode x))
+unfolding codeOf leafOf leafCode
+leaf-coded (finite rs) = refl
+leaf-coded (cofinite rs) = refl
+leaf-coded (definition d) = refl
+leaf-coded (listed t m p) = refl
+
+-- a code that is no node's is a leaf's, or none
+pub no-node : (c : ℕ) → (c ≡ 5 → ⊥) → (c ≡ 6 → ⊥) → (c ≡ 7 → ⊥) → codeOf c ≡ isLeaf (leafOf c)
+unfolding codeOf
+no-node zero u d p = refl
+no-node (suc zero) u d p = refl
+no-node (suc (suc zero)) u d p = refl
+no-node (suc (suc (suc zero))) u d p = refl
+no-node (suc (suc (suc (suc zero)))) u d p = refl
+no-node (suc (suc (suc (suc (suc zero))))) u d p = absurd (u refl)
+no-node (suc (suc (suc (suc (suc (suc zero)))))) u d p = absurd (d refl)
+no-node (suc (suc (suc (suc (suc (suc (suc zero))))))) u d p = absurd (p refl)
+no-node (suc (suc (suc (suc (suc (suc (suc (suc c)))))))) u d p = refl
+
+past-last : (c : ℕ) → lastCode < c → false ≡ (leb 1 c && leb c lastCode)
+past-last c h = rw (le-leb 1 c (omega arith), lt-leb c lastCode h)
+
+-- the codes are those from 1 to the last
+pub code-bounds : (c : ℕ) → isCode c ≡ (leb 1 c && leb c lastCode)
+unfolding isCode codeOf leafOf someLeaf
+code-bounds zero = refl
+code-bounds (suc zero) = refl
+code-bounds (suc (suc zero)) = refl
+code-bounds (suc (suc (suc zero))) = refl
+code-bounds (suc (suc (suc (suc zero)))) = refl
+code-bounds (suc (suc (suc (suc (suc zero))))) = refl
+code-bounds (suc (suc (suc (suc (suc (suc zero)))))) = refl
+code-bounds (suc (suc (suc (suc (suc (suc (suc zero))))))) = refl
+code-bounds (suc (suc (suc (suc (suc (suc (suc (suc c)))))))) = past-last (suc (suc (suc (suc (suc (suc (suc (suc c)))))))) (omega arith)
+
+-- any other is refused
+module _ (known n : ℕ) (us : List ℕ) (k : ℕ) where
+  no-leaf : (l : LeafCode) → someLeaf l ≡ false → leafAs known n l us k ≡ refused badWord
+  unfolding someLeaf leafAs
+  no-leaf isFinite e = impossible cc
+  no-leaf isCofinite e = impossible cc
+  no-leaf isDefinition e = impossible cc
+  no-leaf isListed e = impossible cc
+  no-leaf noLeaf e = refl
+
+  pub no-code : (inner : ℕ → Reader Expr) (c : Code) → someCode c ≡ false → exprAs known inner n c us k ≡ refused badWord
+  unfolding someCode exprAs
+  no-code inner (isLeaf l) e = rw (no-leaf l e)
+  no-code inner isUnion e = impossible cc
+  no-code inner isDifference e = impossible cc
+  no-code inner isComprehension e = impossible cc
