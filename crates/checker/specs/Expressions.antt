@@ -1,9 +1,10 @@
--- What the checker of expressions works out on its way: the facts of an expression, and of a comprehension from what follows a guard's code on.
+-- What the checker of expressions works out on its way: the facts of an expression, whole or from what follows its code on, and of a comprehension
+-- from what follows a guard's code on.
 use Prim.Native.Nat.{ℕ}
 use mathlib.Core.List.{List}
 use lib.ListN.{length}
 use Rattle.policy.specs.Syntax.{Expr, comprehension}
-use Rattle.policy.specs.Decode.{Reader, Guard, guardAs, body, expr}
+use Rattle.policy.specs.Decode.{Reader, Guard, guardAs, body, codeOf, exprAs, expr}
 use Rattle.policy.specs.Polarity.{Known}
 use Rattle.terms.specs.Answers.{keeping}
 use Rattle.polarity.specs.Facts.{factsOf}
@@ -17,6 +18,10 @@ inside ks levels = λ n. expr (length ks) levels n
 unfoldable pub exprFacts : List Known → ℕ → ℕ → Reader Facts
 unfolding expr
 exprFacts ks levels n = keeping (factsOf ks) (expr (length ks) levels n)
+
+unfoldable pub codeFacts : List Known → (ℕ → Reader Expr) → ℕ → ℕ → Reader Facts
+unfolding exprAs codeOf
+codeFacts ks inner n code = keeping (factsOf ks) (exprAs (length ks) inner n (codeOf code))
 
 unfoldable pub guardFacts : List Known → (ℕ → Reader Expr) → ℕ → ℕ → Guard → Reader Facts
 unfolding guardAs body

@@ -1,23 +1,25 @@
 // An expression checked in one pass over its words: refusals 3, 4 and 5 at the first word that breaks a rule, and on the way which polarities
 // it has, whether it is open, and whether every draw is from a set that is not.
 ghost use Prim.Native.Nat.{_≤_};
-ghost use lib.ListN.{drop};
+ghost use lib.ListN.{length, drop};
 ghost use Rattle.policy.specs.Decode.{isDraw, isAbsent};
 ghost use Rattle.terms.specs.Answers.{Answers};
 ghost use Rattle.polarity.specs.Earlier.{knownIn};
-ghost use Rattle.operands.specs.Checks.{checkingIs, codeFacts, bodyFacts};
-ghost use Rattle.checker.specs.Expressions.{inside, exprFacts, guardFacts};
+ghost use Rattle.operands.specs.Checks.{checkingIs, bodyFacts};
+ghost use Rattle.checker.specs.Expressions.{inside, exprFacts, codeFacts, guardFacts};
 use operands::Checking;
-use operands::check_definition;
 use operands::check_head;
-use operands::check_literal;
-use operands::check_name;
+use operands::check_leaf;
 use polarity::Earlier;
 use polarity::absent_of;
 use polarity::difference_of;
 use polarity::draw_of;
 use polarity::union_of;
-use terms::Guard;
+use policy::CODE_COMPREHENSION;
+use policy::CODE_DIFFERENCE;
+use policy::CODE_UNION;
+use policy::Guard;
+use policy::LAST_CODE;
 use terms::GuardRead;
 use terms::Passed;
 use terms::PatternRead;
@@ -26,8 +28,6 @@ use terms::read_guard;
 use terms::read_pattern;
 use terms::read_row;
 use terms::word_between;
-
-const LAST_CODE: u32 = 7;
 
 const MOST_GUARDS: u32 = 8;
 
@@ -57,7 +57,7 @@ pub fn check_expr(
     }
 }
 
-// What follows a code.
+// What follows a code: the parts of a node, or a leaf.
 fn check_code(
     words: &[u32],
     at: usize,
@@ -67,20 +67,17 @@ fn check_code(
     earlier: Earlier,
     code: u32,
 ) -> Checking
-    requires { ⌜ (earlier .count ≤ 16) × (1 ≤ code) × (code ≤ 7) ⌝ }
+    requires { ⌜ (earlier .count ≤ 16) × (at ≤ length (now words)) ⌝ }
     ensures { λ r. ⌜ Answers (now (words .entry)) at (checkingIs r) (codeFacts (knownIn earlier) (inside (knownIn earlier) levels) variables code (drop at (now (words .entry))) draws) ⌝ }
 {
-    if code <= 2 {
-        return check_literal(words, at, variables, draws, earlier, code);
-    }
-    if code == 3 {
-        return check_definition(words, at, variables, draws, earlier);
-    }
-    if code == 4 {
-        return check_name(words, at, variables, draws, earlier);
-    }
-    if code <= 6 {
+    if code == CODE_UNION {
         return check_two(words, at, levels, variables, draws, earlier, code);
+    }
+    if code == CODE_DIFFERENCE {
+        return check_two(words, at, levels, variables, draws, earlier, code);
+    }
+    if code != CODE_COMPREHENSION {
+        return check_leaf(words, at, variables, draws, earlier, code);
     }
     match word_between(words, at, 0, MOST_GUARDS) {
         WordRead::Refused(n) => Checking::Refused(n),
@@ -96,7 +93,7 @@ fn check_code(
     }
 }
 
-// The two parts of a union, code 5, or of a difference, code 6.
+// The two parts of a union or of a difference.
 fn check_two(
     words: &[u32],
     at: usize,
@@ -121,7 +118,7 @@ fn check_two(
         ) {
             Checking::Refused(n) => Checking::Refused(n),
             Checking::Found(right, next, total) => {
-                if code == 5 {
+                if code == CODE_UNION {
                     Checking::Found(union_of(left, right), next, total)
                 } else {
                     Checking::Found(difference_of(left, right), next, total)

@@ -1,24 +1,21 @@
 -- The definitions in file order and the query, way out by way out.
 use Prim.Native.Nat.{ℕ, suc, _+_, _-_, _≤_, _<_}
-use mathlib.Core.Path.{_≡_, refl, sym, _∙_, ap, subst}
+use mathlib.Core.Path.{_≡_, refl, sym, _∙_, ap}
 use mathlib.Core.Bool.{true, false}
 use mathlib.Core.List.{List, [], _∷_, _++_}
 use native.Mathlib.Omega.{arith}
-use lib.ListN.{length, getD}
+use lib.ListN.{length}
 use Rattle.refusals.specs.Table.{queryPart, noPart}
 use Rattle.rows.specs.Name.{plus, minus}
-use Rattle.rows.proofs.Lists.{all-at}
 use Rattle.policy.specs.Syntax.{Expr}
 use Rattle.policy.specs.Decode.{Parsed, parsed, unparsed}
 use Rattle.policy.specs.Polarity.{Known, hasPolarity, openExpr, verdictWord}
 use Rattle.policy.specs.Table.{Entry, entryAt, entryWords, table, noTable, readTable}
-use Rattle.policy.specs.Part.{noEntry}
 use Rattle.policy.specs.Judgement.{Checked, checked, unchecked, checkDefinition, checkQuery, verdictOf, knownOf, withDefinition, checkFrom, check, replyOf, judge}
 use Rattle.policy.proofs.Basics.{impossible}
 use Rattle.table.specs.Entries.{entryPlace, entriesFrom, tableIs}
 use Rattle.table.specs.declared.TableRead.{TableRead}
 use Rattle.table.specs.declared.TableRead.the-variants as tableRead
-use Rattle.table.proofs.PartAnswers.{table-sound, length-entries, entry-in}
 use Rattle.polarity.specs.Facts.{factsOf}
 use Rattle.polarity.specs.Earlier.{knownIn, knownAs}
 use Rattle.polarity.specs.declared.Facts.{Facts}
@@ -29,22 +26,6 @@ use Rattle.polarity.proofs.EarlierAnswers.{known-count}
 use Rattle.judging.specs.Whole.{wholeOf, definitionParsed}
 use Rattle.judging.specs.Reply.{judgementOf}
 use Rattle.judging.specs.declared.Judgement.the-variants as judgement
-
--- a table of n definitions
-pub record Listed (p : List ℕ) (n : ℕ) : Type 0 where
-  pub few : n ≤ 16
-  pub fits : entryPlace n ≤ length p
-  pub parts : (i : ℕ) → i < n → entryAt p (entryPlace i) .offset + entryAt p (entryPlace i) .size ≤ length p
-
-pub listed-of : (p : List ℕ) (n : ℕ) → table (entriesFrom n p 2) ≡ readTable p → Listed p n
-listed-of p n e =
-    let t = table-sound p (entriesFrom n p 2) (sym e) in
-    let c : n ≡ getD p 1 0 = sym (length-entries n p 2) ∙ t .count in
-    record {
-      few = omega (arith, t .header .count);
-      fits = omega (arith, t .header .fits);
-      parts = λ i h. subst (λ x. x .offset + x .size ≤ length p) (entry-in n p 2 i h) (all-at (λ x. x .offset + x .size ≤ length p) (entriesFrom n p 2) (t .parts) i noEntry (omega (arith, length-entries n p 2)));
-    }
 
 -- the verdict
 pub verdict-exact : (f : Facts) → f .plus ≡ true → f .minus ≡ true → 0 ≡ verdictWord (verdictOf (f .plus) (f .minus))

@@ -1,1 +1,2 @@
 pub mod CheckAnswers
+pub mod LeafAnswers

@@ -1,10 +1,11 @@
--- What checking an expression's words finds on its way, and what its answers stand for.
+-- What checking finds of what holds no other expression, and what its answers stand for.
 use Prim.Native.Nat.{ℕ}
 use mathlib.Core.List.{List}
 use lib.ListN.{length}
 use Rattle.refusals.specs.Table.{badWord}
-use Rattle.policy.specs.Syntax.{Expr, comprehension}
-use Rattle.policy.specs.Decode.{Reader, refuse, body, codeOf, exprAs}
+use Rattle.policy.specs.Leaf.{leafOf, leafAs}
+use Rattle.policy.specs.Syntax.{Expr, leaf, comprehension}
+use Rattle.policy.specs.Decode.{Reader, refuse, body}
 use Rattle.policy.specs.Polarity.{Known}
 use Rattle.terms.specs.Answers.{Answer, found, stopped, keeping}
 use Rattle.polarity.specs.Facts.{factsOf}
@@ -20,10 +21,10 @@ checkingIs (checking.Refused n) = stopped n
 unfoldable pub noneInside : ℕ → Reader Expr
 noneInside = λ n. refuse badWord
 
--- the facts of what follows a code; and of a comprehension, from its guards on
-unfoldable pub codeFacts : List Known → (ℕ → Reader Expr) → ℕ → ℕ → Reader Facts
-unfolding exprAs codeOf
-codeFacts ks inner n code = keeping (factsOf ks) (exprAs (length ks) inner n (codeOf code))
+-- the facts of a leaf, from what follows its code on; and of a comprehension, from its guards on
+unfoldable pub leafFacts : List Known → ℕ → ℕ → Reader Facts
+unfolding leafAs leafOf
+leafFacts ks n code = keeping (λ x. factsOf ks (leaf x)) (leafAs (length ks) n (leafOf code))
 
 unfoldable pub bodyFacts : List Known → (ℕ → Reader Expr) → ℕ → ℕ → Reader Facts
 unfolding body

@@ -1,13 +1,16 @@
-// What holds no other expression, checked over its words: the rows of a literal, an earlier definition, a name, and the head of a
-// comprehension.
+// What holds no other expression, checked over its words: the leaves, and the head of a comprehension.
 ghost use Prim.Native.Nat.{_≤_};
-ghost use lib.ListN.{drop};
+ghost use lib.ListN.{length, drop};
 ghost use Rattle.terms.specs.Answers.{Answers};
 ghost use Rattle.polarity.specs.Earlier.{knownIn};
-ghost use Rattle.operands.specs.Checks.{checkingIs, noneInside, codeFacts, bodyFacts};
+ghost use Rattle.operands.specs.Checks.{checkingIs, noneInside, leafFacts, bodyFacts};
 use polarity::Earlier;
 use polarity::Facts;
 use polarity::of_terms;
+use policy::CODE_COFINITE;
+use policy::CODE_DEFINITION;
+use policy::CODE_FINITE;
+use policy::CODE_NAME;
 use rows::LAST_NAME;
 use terms::Passed;
 use terms::WordRead;
@@ -22,8 +25,8 @@ pub enum Checking {
     Refused(u32),
 }
 
-// Codes 1 and 2: the rows.
-pub fn check_literal(
+// The rows of a literal.
+fn check_literal(
     words: &[u32],
     at: usize,
     variables: u32,
@@ -32,19 +35,19 @@ pub fn check_literal(
     code: u32,
 ) -> Checking
     requires { ⌜ (1 ≤ code) × (code ≤ 2) ⌝ }
-    ensures { λ r. ⌜ Answers (now (words .entry)) at (checkingIs r) (codeFacts (knownIn earlier) noneInside variables code (drop at (now (words .entry))) draws) ⌝ }
+    ensures { λ r. ⌜ Answers (now (words .entry)) at (checkingIs r) (leafFacts (knownIn earlier) variables code (drop at (now (words .entry))) draws) ⌝ }
 {
     match read_rows(words, at, variables) {
         Passed::Refused(n) => Checking::Refused(n),
         Passed::To(next) => {
-            let facts = of_terms(code == 2);
+            let facts = of_terms(code == CODE_COFINITE);
             Checking::Found(facts, next, draws)
         }
     }
 }
 
-// Code 3: an earlier definition.
-pub fn check_definition(
+// An earlier definition.
+fn check_definition(
     words: &[u32],
     at: usize,
     variables: u32,
@@ -52,7 +55,7 @@ pub fn check_definition(
     earlier: Earlier,
 ) -> Checking
     requires { ⌜ earlier .count ≤ 16 ⌝ }
-    ensures { λ r. ⌜ Answers (now (words .entry)) at (checkingIs r) (codeFacts (knownIn earlier) noneInside variables 3 (drop at (now (words .entry))) draws) ⌝ }
+    ensures { λ r. ⌜ Answers (now (words .entry)) at (checkingIs r) (leafFacts (knownIn earlier) variables 3 (drop at (now (words .entry))) draws) ⌝ }
 {
     if words.len() <= at {
         return Checking::Refused(refusals::BAD_WORD);
@@ -72,15 +75,9 @@ pub fn check_definition(
     Checking::Found(facts, at + 1, draws)
 }
 
-// Code 4: issuer, name, polarity.
-pub fn check_name(
-    words: &[u32],
-    at: usize,
-    variables: u32,
-    draws: u32,
-    earlier: Earlier,
-) -> Checking
-    ensures { λ r. ⌜ Answers (now (words .entry)) at (checkingIs r) (codeFacts (knownIn earlier) noneInside variables 4 (drop at (now (words .entry))) draws) ⌝ }
+// A name: issuer, name, polarity.
+fn check_name(words: &[u32], at: usize, variables: u32, draws: u32, earlier: Earlier) -> Checking
+    ensures { λ r. ⌜ Answers (now (words .entry)) at (checkingIs r) (leafFacts (knownIn earlier) variables 4 (drop at (now (words .entry))) draws) ⌝ }
 {
     match read_issuer(words, at, variables) {
         Passed::Refused(n) => Checking::Refused(n),
@@ -101,6 +98,33 @@ pub fn check_name(
             },
         },
     }
+}
+
+// An expression that holds no other, after its code.
+pub fn check_leaf(
+    words: &[u32],
+    at: usize,
+    variables: u32,
+    draws: u32,
+    earlier: Earlier,
+    code: u32,
+) -> Checking
+    requires { ⌜ (earlier .count ≤ 16) × (at ≤ length (now words)) ⌝ }
+    ensures { λ r. ⌜ Answers (now (words .entry)) at (checkingIs r) (leafFacts (knownIn earlier) variables code (drop at (now (words .entry))) draws) ⌝ }
+{
+    if code == CODE_FINITE {
+        return check_literal(words, at, variables, draws, earlier, code);
+    }
+    if code == CODE_COFINITE {
+        return check_literal(words, at, variables, draws, earlier, code);
+    }
+    if code == CODE_DEFINITION {
+        return check_definition(words, at, variables, draws, earlier);
+    }
+    if code == CODE_NAME {
+        return check_name(words, at, variables, draws, earlier);
+    }
+    Checking::Refused(refusals::BAD_WORD)
 }
 
 // The head of a comprehension.

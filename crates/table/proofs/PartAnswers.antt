@@ -11,10 +11,10 @@ use Rattle.refusals.specs.Table.{badTable, badHeader}
 use Rattle.rows.specs.Word.{All}
 use Rattle.rows.proofs.Case.{Case, isTrue, isFalse, split}
 use Rattle.rows.proofs.Lists.{all-at}
-use Rattle.policy.specs.Table.{Entry, entryAt, entryWords, Table, table, noTable, soundEntry, push, entries, soundHeader, readTable}
+use Rattle.policy.specs.Table.{Entry, entryAt, Table, table, noTable, soundEntry, push, entries, soundHeader, readTable}
 use Rattle.policy.specs.Part.{inPolicy, wholeQuery, nowhere, noEntry, placeAmong, placeOf, wordsAt, partWords}
 use Rattle.policy.specs.Part as Part
-use Rattle.table.specs.Entries.{entriesFrom, tableIs}
+use Rattle.table.specs.Entries.{entryPlace, entriesFrom, tableIs}
 use Rattle.table.specs.Places.{placeIs}
 use Rattle.table.specs.declared.TableRead.{TableRead}
 use Rattle.table.specs.declared.TableRead.the-variants as tableRead
@@ -23,7 +23,7 @@ use Rattle.table.specs.declared.parts.Place.the-variants as place
 use Rattle.policy.proofs.Basics.{impossible}
 use Rattle.table.proofs.TableAnswers.{Header, header-of, sound-of}
 
-abbrev inside : List ℕ → Entry → Type 0
+abbrev pub inside : List ℕ → Entry → Type 0
 inside policy x = x .offset + x .size ≤ length policy
 
 record Pushed (x : Entry) (t : Table) (xs : List Entry) : Type 0 where
@@ -36,33 +36,39 @@ unfolding push
 pushed x (table ys) xs e = record { ys = ys; rest = refl; is = cc }
 pushed x (noTable n) xs e = impossible cc
 
--- n entries were read, each with its part inside the policy
-record Sound (policy : List ℕ) (n : ℕ) (xs : List Entry) : Type 0 where
-  count : length xs ≡ n
+-- n entries were read from word `at` on, each with its part inside the policy
+record Sound (policy : List ℕ) (n at : ℕ) (xs : List Entry) : Type 0 where
+  are : xs ≡ entriesFrom n policy at
   parts : All (inside policy) xs
 
-entries-sound : (n : ℕ) (policy : List ℕ) (at due : ℕ) (earlier xs : List Entry) → entries n policy at due earlier ≡ table xs → Sound policy n xs
-unfolding entries All
+entries-sound : (n : ℕ) (policy : List ℕ) (at due : ℕ) (earlier xs : List Entry) → entries n policy at due earlier ≡ table xs → Sound policy n at xs
+unfolding entries entriesFrom All
 entries-sound zero policy at due earlier xs e = go (eqb due (length policy)) e
   where
-    go : (b : Bool) → (elim b as (λ c. Table) [ true ↦ table [] | false ↦ noTable badTable ]) ≡ table xs → Sound policy 0 xs
-    go true f = subst (Sound policy 0) (let g : [] ≡ xs = cc in g) (record { count = refl; parts = tt })
+    go : (b : Bool) → (elim b as (λ c. Table) [ true ↦ table [] | false ↦ noTable badTable ]) ≡ table xs → Sound policy 0 at xs
+    go true f = subst (Sound policy 0 at) (let g : [] ≡ xs = cc in g) (record { are = refl; parts = tt })
     go false f = impossible cc
 entries-sound (suc n) policy at due earlier xs e =
     go (λ ys f. entries-sound n policy (at + 4) (entryAt policy at .offset + entryAt policy at .size) (entryAt policy at ∷ earlier) ys f) (split (soundEntry policy due earlier (entryAt policy at)))
   where
-    go : ((ys : List Entry) → entries n policy (at + 4) (entryAt policy at .offset + entryAt policy at .size) (entryAt policy at ∷ earlier) ≡ table ys → Sound policy n ys) →
-        Case (soundEntry policy due earlier (entryAt policy at)) → Sound policy (suc n) xs
+    go : ((ys : List Entry) → entries n policy (at + 4) (entryAt policy at .offset + entryAt policy at .size) (entryAt policy at ∷ earlier) ≡ table ys → Sound policy n (at + 4) ys) →
+        Case (soundEntry policy due earlier (entryAt policy at)) → Sound policy (suc n) at xs
     go ih (isTrue s) =
         let p = pushed (entryAt policy at) _ xs (rw (s, entries) at e) in
         let t = ih (p .ys) (p .rest) in
-        subst (Sound policy (suc n)) (p .is) (record { count = ap suc (t .count); parts = (sound-of policy due earlier (entryAt policy at) s .ends, t .parts) })
+        subst (Sound policy (suc n) at) (p .is) (record { are = ap (λ ys. entryAt policy at ∷ ys) (t .are); parts = (sound-of policy due earlier (entryAt policy at) s .ends, t .parts) })
     go ih (isFalse s) = impossible (let f : noTable badTable ≡ table xs = rw (s, entries) at e in cc)
+
+pub length-entries : (n : ℕ) (policy : List ℕ) (at : ℕ) → length (entriesFrom n policy at) ≡ n
+unfolding entriesFrom
+length-entries zero policy at = refl
+length-entries (suc n) policy at = ap suc (length-entries n policy (at + 4))
 
 pub record SoundTable (policy : List ℕ) (xs : List Entry) : Type 0 where
   pub header : Header policy
+  pub are : xs ≡ entriesFrom (getD policy 1 0) policy 2
   pub count : length xs ≡ getD policy 1 0
-  pub parts : All (λ x. x .offset + x .size ≤ length policy) xs
+  pub parts : All (inside policy) xs
 
 pub table-sound : (policy : List ℕ) (xs : List Entry) → readTable policy ≡ table xs → SoundTable policy xs
 unfolding readTable
@@ -71,7 +77,7 @@ table-sound policy xs e = go (split (soundHeader policy))
     go : Case (soundHeader policy) → SoundTable policy xs
     go (isTrue h) =
         let t = entries-sound (getD policy 1 0) policy 2 (2 + 4 * getD policy 1 0) [] xs (rw (h, readTable) at e) in
-        record { header = header-of policy h; count = t .count; parts = t .parts }
+        record { header = header-of policy h; are = t .are; count = ap length (t .are) ∙ length-entries (getD policy 1 0) policy 2; parts = t .parts }
     go (isFalse h) = impossible (let f : noTable badHeader ≡ table xs = rw (h, readTable) at e in cc)
 
 -- ---- parts
@@ -82,10 +88,21 @@ entry-in zero policy at d h = absurd (omega arith)
 entry-in (suc n) policy at zero h = ap (entryAt policy) (let e : at ≡ at + 4 * 0 = omega arith in e)
 entry-in (suc n) policy at (suc d) h = entry-in n policy (at + 4) d (omega arith) ∙ ap (entryAt policy) (let e : at + 4 + 4 * d ≡ at + 4 * suc d = omega arith in e)
 
-pub length-entries : (n : ℕ) (policy : List ℕ) (at : ℕ) → length (entriesFrom n policy at) ≡ n
-unfolding entriesFrom
-length-entries zero policy at = refl
-length-entries (suc n) policy at = ap suc (length-entries n policy (at + 4))
+-- a table of n definitions
+pub record Listed (p : List ℕ) (n : ℕ) : Type 0 where
+  pub few : n ≤ 16
+  pub fits : entryPlace n ≤ length p
+  pub parts : (i : ℕ) → i < n → inside p (entryAt p (entryPlace i))
+
+pub listed-of : (p : List ℕ) (n : ℕ) → table (entriesFrom n p 2) ≡ readTable p → Listed p n
+listed-of p n e =
+    let t = table-sound p (entriesFrom n p 2) (sym e) in
+    let c : n ≡ getD p 1 0 = sym (length-entries n p 2) ∙ t .count in
+    record {
+      few = omega (arith, t .header .count);
+      fits = omega (arith, t .header .fits);
+      parts = λ i h. subst (inside p) (entry-in n p 2 i h) (all-at (inside p) (entriesFrom n p 2) (t .parts) i noEntry (omega (arith, length-entries n p 2)));
+    }
 
 pub place-none : (policy : List ℕ) (number n : ℕ) → noTable n ≡ readTable policy → inPolicy 0 0 ≡ placeOf policy number
 unfolding placeOf nowhere
@@ -132,7 +149,7 @@ place-inside policy number start size e = go (readTable policy) refl (split (eqb
             let z = in-policy start size _ _ g in
             let z₀ = z .0 in
             let z₁ = z .1 in
-            let p = all-at (λ x. x .offset + x .size ≤ length policy) xs (table-sound policy xs f .parts) number noEntry (ltb-true number (length xs) l) in
+            let p = all-at (inside policy) xs (table-sound policy xs f .parts) number noEntry (ltb-true number (length xs) l) in
             omega arith
         pick (isFalse l) =
             let g : inPolicy start size ≡ inPolicy 0 0 = rw (b, l, placeAmong) at (rw (f, placeOf) at e) in
@@ -151,15 +168,6 @@ unfolding partWords wordsAt
 policy-part policy query number start size e =
     ap (λ (n : ℕ). take n (drop start policy)) (let m : start + size - start ≡ size = omega arith in m) ∙ ap (wordsAt policy query) e
 
--- definition d's part is its entry's words
-pub definition-part : (policy query : List ℕ) (xs : List Entry) (d : ℕ) → readTable policy ≡ table xs → d < length xs → partWords policy query d ≡ entryWords policy (getD xs d noEntry)
-unfolding partWords placeOf placeAmong wordsAt entryWords
-definition-part policy query xs d e h =
-    let t = table-sound policy xs e in
-    let few = t .header .count in
-    let count = t .count in
-    rw (e, placeOf) (rw (ne-eqb d 16 (λ q. omega arith), lt-ltb d (length xs) h, placeAmong))
-
 -- a table in hand
 pub table-refused : (policy : List ℕ) (r : TableRead) (n : ℕ) → tableIs policy r ≡ readTable policy → r ≡ tableRead.Refused n → noTable n ≡ readTable policy
 unfolding tableIs
@@ -177,11 +185,3 @@ place-held p r start size e is = ap placeIs (sym is) ∙ e
 pub query-held : (p : Part.Place) (r : Held.Place) → placeIs r ≡ p → r ≡ place.WholeQuery → wholeQuery ≡ p
 unfolding placeIs
 query-held p r e is = ap placeIs (sym is) ∙ e
-
-pub table-whole : (policy : List ℕ) (n : ℕ) → table (entriesFrom n policy 2) ≡ readTable policy → 2 + 4 * n ≤ length policy
-table-whole policy n e =
-    let t = table-sound policy (entriesFrom n policy 2) (sym e) in
-    let c = t .count in
-    let l = length-entries n policy 2 in
-    let f = t .header .fits in
-    omega arith

@@ -30,7 +30,7 @@ pub stops : {A : Type 0} {ws : List ℕ} {at n : ℕ} {y : Read A} → y ≡ ref
 unfolding outcome Onward
 stops e = record { agrees = sym e; onward = tt }
 
-pub finds : {A : Type 0} {ws : List ℕ} {at next k : ℕ} {a : A} {y : Read A} → y ≡ got a (drop next ws) k → at < next → next ≤ length ws → Answers ws at (found a next k) y
+pub finds : {A : Type 0} {ws : List ℕ} {at next k : ℕ} {a : A} {y : Read A} → y ≡ got a (drop next ws) k → at ≤ next → next ≤ length ws → Answers ws at (found a next k) y
 unfolding outcome Onward
 finds e h l = record { agrees = sym e; onward = (h, l) }
 
@@ -48,7 +48,7 @@ pub got-of : {A : Type 0} {ws : List ℕ} {at next : ℕ} {x : ℕ → Answer A}
 unfolding outcome Onward
 got-of {ws} {at} {next} {x} {m} {a} f e = record {
   reads = λ k. sym (f .answers k .agrees) ∙ ap (outcome ws) (e k);
-  onward = (rw (e 0) at (f .answers 0 .onward)) .0;
+  onward = omega (arith, (rw (e 0) at (f .answers 0 .onward)) .0);
   within = (rw (e 0) at (f .answers 0 .onward)) .1;
 }
 
@@ -57,7 +57,7 @@ unfolding outcome
 lost-of {ws} f e = record { reads = λ k. sym (f .answers k .agrees) ∙ ap (outcome ws) (e k) }
 
 pub shows-got : {A : Type 0} {ws : List ℕ} {at next : ℕ} {m : Reader A} {a : A} → Got ws at m a next → Follows ws at (λ k. found a next k) m
-shows-got g = record { answers = λ k. finds (g .reads k) (g .onward) (g .within) }
+shows-got g = record { answers = λ k. finds (g .reads k) (omega (arith, g .onward)) (g .within) }
 
 pub shows-lost : {A : Type 0} {ws : List ℕ} {at n : ℕ} {m : Reader A} → Lost ws at m n → Follows ws at (λ k. stopped n) m
 shows-lost l = record { answers = λ k. stops (l .reads k) }
@@ -146,10 +146,10 @@ where-kept n rule (u ∷ us) k w vs j e = go (rule u) refl
         let p : _≡_ {A = Read ℕ} (refused n) (got w vs j) = sym (where-fails n rule u us k r) ∙ e in
         impossible cc
 
-pub word-bounds : {ws : List ℕ} {at w : ℕ} {r : WordRead.WordRead} (n least most : ℕ) → Follows ws at (wordIs at r) (wordWhere n (between least most)) → r ≡ wordRead.Found w → (least ≤ w) × (w ≤ most)
+pub word-bounds : {ws : List ℕ} {at w next : ℕ} (n least most : ℕ) → Got ws at (wordWhere n (between least most)) w next → (least ≤ w) × (w ≤ most)
 unfolding between
-word-bounds {ws} {at} {w} n least most f e =
-    let t = and-true (leb least w) (leb w most) (where-kept n (between least most) (drop at ws) 0 w _ _ (word-found f e .reads 0)) in
+word-bounds {ws} {at} {w} n least most g =
+    let t = and-true (leb least w) (leb w most) (where-kept n (between least most) (drop at ws) 0 w _ _ (g .reads 0)) in
     (leb-true least w (t .0), leb-true w most (t .1))
 
 -- a reader that does the same

@@ -10,12 +10,13 @@ use borrow.Author.Tests.{le-leb}
 use Rattle.refusals.specs.Table.{badWord, notInScope}
 use Rattle.policy.specs.Syntax.{Term, Slot}
 use Rattle.policy.specs.Decode.{Read, got, refused, Reader, after, give, wordWhere, times, isAtom, isVar, tagOf, termAs, anyAtom, term, width, row, rows, Pattern, push, slotAs, slots}
-use Rattle.terms.specs.Answers.{Follows, kept, keeping, nothing, between, wordIs, passedIs, slotFor, slot, scopeAfter, slotOf, pattern, scope, patternIs}
+use Rattle.policy.specs.Held.{slotOf}
+use Rattle.terms.specs.Answers.{Follows, kept, keeping, nothing, between, wordIs, passedIs, slotFor, slot, scopeAfter, pattern, scope, patternIs}
 use Rattle.terms.specs.declared.WordRead as WordRead
 use Rattle.terms.specs.declared.WordRead.the-variants as wordRead
-use Rattle.terms.specs.declared.Term as TermHeld
-use Rattle.terms.specs.declared.Slot as SlotHeld
-use Rattle.terms.specs.declared.Slot.the-variants.{Old, New}
+use Rattle.policy.specs.declared.Term as TermHeld
+use Rattle.policy.specs.declared.Slot as SlotHeld
+use Rattle.policy.specs.declared.Slot.the-variants.{Old, New}
 use Rattle.terms.specs.declared.Passed as Passed
 use Rattle.terms.specs.declared.Passed.the-variants as passed
 use Rattle.terms.specs.declared.PatternRead.the-variants as patternRead

@@ -11,19 +11,20 @@ use Rattle.refusals.specs.Table.{badWord, notInScope}
 use Rattle.rows.specs.Row.{isKey}
 use Rattle.policy.specs.Syntax.{Term, atom, var, Slot, old, new}
 use Rattle.policy.specs.Decode.{Read, got, refused, Reader, after, give, need, wordWhere, tagOf, termAs, anyAtom, term, issuer, guardOf}
-use Rattle.terms.specs.Answers.{Follows, keeping, nothing, between, next, wordIs, termOf, termIs, passedIs, slotFor, slot, slotOf, slotIs, Opening, sameOpens, differentOpens, openingFor, opening, openingOf, openingIs}
-use Rattle.terms.specs.declared.Term as TermHeld
-use Rattle.terms.specs.declared.Term.the-variants.{Atom, Variable}
+use Rattle.policy.specs.Held.{termOf, slotOf}
+use Rattle.terms.specs.Answers.{Follows, keeping, nothing, between, next, wordIs, termIs, passedIs, slotFor, slot, slotIs, Opening, sameOpens, differentOpens, openingFor, opening, openingOf, openingIs}
+use Rattle.policy.specs.declared.Term as TermHeld
+use Rattle.policy.specs.declared.Term.the-variants.{Atom, Variable}
 use Rattle.terms.specs.declared.TermRead as TermRead
 use Rattle.terms.specs.declared.TermRead.the-variants as termRead
 use Rattle.terms.specs.declared.WordRead as WordRead
 use Rattle.terms.specs.declared.WordRead.the-variants as wordRead
-use Rattle.terms.specs.declared.Slot as SlotHeld
-use Rattle.terms.specs.declared.Slot.the-variants.{Old, New}
+use Rattle.policy.specs.declared.Slot as SlotHeld
+use Rattle.policy.specs.declared.Slot.the-variants.{Old, New}
 use Rattle.terms.specs.declared.SlotRead as SlotRead
 use Rattle.terms.specs.declared.SlotRead.the-variants as slotRead
-use Rattle.terms.specs.declared.Guard as GuardHeld
-use Rattle.terms.specs.declared.Guard.the-variants.{Draw, Same, Different, Absent}
+use Rattle.policy.specs.declared.Guard as GuardHeld
+use Rattle.policy.specs.declared.Guard.the-variants.{Draw, Same, Different, Absent}
 use Rattle.terms.specs.declared.GuardRead as GuardRead
 use Rattle.terms.specs.declared.GuardRead.the-variants as guardRead
 use Rattle.terms.specs.declared.Passed.the-variants as passed
@@ -322,7 +323,7 @@ module _ (ws : List ℕ) (at n : ℕ) {r : WordRead.WordRead} (f : Follows ws at
     -- a comparison
     module _ (no-draw : w ≡ 1 → ⊥) (no-absent : w ≡ 4 → ⊥) where
       terms : (us : List ℕ) (k : ℕ) → openingFor n (guardOf w) us k ≡ after (term n us k) (λ x us i. after (term n us i) (λ y. give (compared w x y)))
-      terms = two-terms n w no-draw no-absent (word-bounds badWord 1 4 f e .0) (word-bounds badWord 1 4 f e .1)
+      terms = two-terms n w no-draw no-absent (word-bounds badWord 1 4 (word-found f e) .0) (word-bounds badWord 1 4 (word-found f e) .1)
 
       module _ {x : TermRead.TermRead} (g : Follows ws (at + 1) (termIs x) (term n)) where
         pub guard-first : {m : ℕ} → x ≡ termRead.Refused m → Follows ws at (openingIs (guardRead.Refused m)) (opening n)

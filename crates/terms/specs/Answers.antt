@@ -1,26 +1,23 @@
 -- What the code's answers stand for. A reader in code starts at a word and answers with the place of the next; the definitions take words off
 -- the front of a list. Its contract says that both come to the same.
-use Prim.Native.Nat.{ℕ, _+_, _≤_, _<_}
+use Prim.Native.Nat.{ℕ, _+_, _≤_}
 use mathlib.Core.Path.{_≡_}
 use mathlib.Core.Bool.{Bool, _&&_}
 use mathlib.Core.List.{List}
 use lib.Dec.{leb, eqb}
 use lib.ListN.{length, drop}
 use Rattle.refusals.specs.Table.{badWord, notInScope}
-use Rattle.policy.specs.Syntax.{Term, atom, var, Slot, old, new}
+use Rattle.policy.specs.Syntax.{Term, Slot, old, new}
 use Rattle.policy.specs.Decode.{Read, got, refused, Reader, _>>=_, give, refuse, word, wordWhere, Tag, isAtom, isVar, isNew, noTag, tagOf, termAs, anyAtom, term, width, Pattern, slots, Guard, isDraw, isSame, isDifferent, isAbsent, noGuard, guardOf}
+use Rattle.policy.specs.Held.{termOf, slotOf}
+use Rattle.policy.specs.declared.Guard as GuardHeld
+use Rattle.policy.specs.declared.Guard.the-variants.{Draw, Same, Different, Absent}
 use Rattle.terms.specs.declared.WordRead as WordRead
 use Rattle.terms.specs.declared.WordRead.the-variants as wordRead
-use Rattle.terms.specs.declared.Term as TermHeld
-use Rattle.terms.specs.declared.Term.the-variants.{Atom, Variable}
 use Rattle.terms.specs.declared.TermRead as TermRead
 use Rattle.terms.specs.declared.TermRead.the-variants as termRead
-use Rattle.terms.specs.declared.Slot as SlotHeld
-use Rattle.terms.specs.declared.Slot.the-variants.{Old, New}
 use Rattle.terms.specs.declared.SlotRead as SlotRead
 use Rattle.terms.specs.declared.SlotRead.the-variants as slotRead
-use Rattle.terms.specs.declared.Guard as GuardHeld
-use Rattle.terms.specs.declared.Guard.the-variants.{Draw, Same, Different, Absent}
 use Rattle.terms.specs.declared.GuardRead as GuardRead
 use Rattle.terms.specs.declared.GuardRead.the-variants as guardRead
 use Rattle.terms.specs.declared.Passed as Passed
@@ -38,9 +35,9 @@ unfoldable pub outcome : {A : Type 0} → List ℕ → Answer A → Read A
 outcome ws (found a next k) = got a (drop next ws) k
 outcome ws (stopped n) = refused n
 
--- the next word is a later one, or just past the last
+-- the next word stands there or later, or just past the last
 unfoldable pub Onward : {A : Type 0} → List ℕ → ℕ → Answer A → Type 0
-Onward ws at (found a next k) = (at < next) × (next ≤ length ws)
+Onward ws at (found a next k) = (at ≤ next) × (next ≤ length ws)
 Onward ws at (stopped n) = Unit {0}
 
 -- the answer of a reader that started at word `at`, and what the definition reads there
@@ -48,9 +45,9 @@ pub record Answers {A : Type 0} (ws : List ℕ) (at : ℕ) (x : Answer A) (y : R
   pub agrees : outcome ws x ≡ y
   pub onward : Onward ws at x
 
--- the same of a reader that meets no draws, whatever their count
+-- the same of a reader that takes a word at least and meets no draws, whatever their count
 pub record Follows {A : Type 0} (ws : List ℕ) (at : ℕ) (x : ℕ → Answer A) (m : Reader A) : Type 0 where
-  pub answers : (k : ℕ) → Answers ws at (x k) (m (drop at ws) k)
+  pub answers : (k : ℕ) → Answers ws (at + 1) (x k) (m (drop at ws) k)
 
 -- a reader of whose value only this is kept
 unfoldable pub kept : {A B : Type 0} → (A → B) → Read A → Read B
@@ -74,10 +71,6 @@ next n v = eqb v n && leb v 15
 unfoldable pub wordIs : ℕ → WordRead.WordRead → ℕ → Answer ℕ
 wordIs at (wordRead.Found w) k = found w (at + 1) k
 wordIs at (wordRead.Refused n) k = stopped n
-
-unfoldable pub termOf : TermHeld.Term → Term
-termOf (Atom a) = atom a
-termOf (Variable i) = var i
 
 unfoldable pub termIs : TermRead.TermRead → ℕ → Answer Term
 unfolding termOf
@@ -111,11 +104,6 @@ slot n = do
 unfoldable pub scopeAfter : ℕ → Slot → ℕ
 scopeAfter n (old t) = n
 scopeAfter n new = n + 1
-
-unfoldable pub slotOf : SlotHeld.Slot → Slot
-unfolding termOf
-slotOf (Old t) = old (termOf t)
-slotOf New = new
 
 unfoldable pub slotIs : SlotRead.SlotRead → ℕ → Answer Slot
 unfolding slotOf

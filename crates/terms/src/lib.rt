@@ -2,30 +2,21 @@
 ghost use Rattle.refusals.specs.Table.{badWord, notInScope};
 ghost use Rattle.policy.specs.Decode.{wordWhere, term, issuer, row, rows};
 ghost use Rattle.terms.specs.Answers.{Follows, keeping, nothing, between, next, slot, scope, pattern, opening, wordIs, termIs, slotIs, openingIs, passedIs, patternIs};
+use policy::GUARD_ABSENT;
+use policy::GUARD_DRAW;
+use policy::GUARD_SAME;
+use policy::Guard;
+use policy::Slot;
+use policy::TAG_ATOM;
+use policy::TAG_NEW;
+use policy::TAG_VARIABLE;
+use policy::Term;
 use rows::FIRST_KEY;
 use rows::MOST_ROWS;
 
 const MOST_ATOMS: u32 = 4;
 
 const LAST_VARIABLE: u32 = 15;
-
-pub enum Term {
-    Atom(u32),
-    Variable(u32),
-}
-
-pub enum Slot {
-    Old(Term),
-    New,
-}
-
-// A guard as far as its expression: a comparison whole, of the others the code.
-pub enum Guard {
-    Draw,
-    Same(Term, Term),
-    Different(Term, Term),
-    Absent,
-}
 
 pub enum WordRead {
     Found(u32),
@@ -85,7 +76,7 @@ pub fn read_term(words: &[u32], at: usize, variables: u32) -> TermRead
         return TermRead::Refused(refusals::BAD_WORD);
     }
     let tag = words[at];
-    if 1 < tag {
+    if TAG_VARIABLE < tag {
         return TermRead::Refused(refusals::BAD_WORD);
     }
     let second = at + 1;
@@ -93,7 +84,7 @@ pub fn read_term(words: &[u32], at: usize, variables: u32) -> TermRead
         return TermRead::Refused(refusals::BAD_WORD);
     }
     let word = words[second];
-    if tag == 0 {
+    if tag == TAG_ATOM {
         return TermRead::Found(Term::Atom(word), at + 2);
     }
     if word < variables {
@@ -143,10 +134,10 @@ fn read_new(words: &[u32], at: usize, variables: u32) -> WordRead
 pub fn read_slot(words: &[u32], at: usize, variables: u32) -> SlotRead
     ensures { λ r. ⌜ Follows (now (words .entry)) at (slotIs r) (slot variables) ⌝ }
 {
-    match word_between(words, at, 0, 2) {
+    match word_between(words, at, TAG_ATOM, TAG_NEW) {
         WordRead::Refused(n) => SlotRead::Refused(n),
         WordRead::Found(tag) => {
-            if tag == 2 {
+            if tag == TAG_NEW {
                 match read_new(words, at + 1, variables) {
                     WordRead::Refused(n) => SlotRead::Refused(n),
                     WordRead::Found(_) => SlotRead::Found(Slot::New, at + 2),
@@ -165,13 +156,13 @@ pub fn read_slot(words: &[u32], at: usize, variables: u32) -> SlotRead
 pub fn read_guard(words: &[u32], at: usize, variables: u32) -> GuardRead
     ensures { λ r. ⌜ Follows (now (words .entry)) at (openingIs r) (opening variables) ⌝ }
 {
-    match word_between(words, at, 1, 4) {
+    match word_between(words, at, GUARD_DRAW, GUARD_ABSENT) {
         WordRead::Refused(n) => GuardRead::Refused(n),
         WordRead::Found(code) => {
-            if code == 1 {
+            if code == GUARD_DRAW {
                 return GuardRead::Found(Guard::Draw, at + 1);
             }
-            if code == 4 {
+            if code == GUARD_ABSENT {
                 return GuardRead::Found(Guard::Absent, at + 1);
             }
             match read_term(words, at + 1, variables) {
@@ -179,7 +170,7 @@ pub fn read_guard(words: &[u32], at: usize, variables: u32) -> GuardRead
                 TermRead::Found(x, middle) => match read_term(words, middle, variables) {
                     TermRead::Refused(n) => GuardRead::Refused(n),
                     TermRead::Found(y, next) => {
-                        if code == 2 {
+                        if code == GUARD_SAME {
                             GuardRead::Found(Guard::Same(x, y), next)
                         } else {
                             GuardRead::Found(Guard::Different(x, y), next)

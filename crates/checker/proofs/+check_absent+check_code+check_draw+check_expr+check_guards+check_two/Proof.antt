@@ -1,14 +1,13 @@
 -- The measure is four times the count of words left, and a little more for the members that call others at the same word. Each way out is
 -- a law of `CycleAnswers`.
 use native.Mathlib.Omega.{arith}
-use Rattle.refusals.specs.Table.{badWord}
 use Rattle.polarity.specs.Earlier.{knownIn}
-use Rattle.checker.specs.Expressions.{inside}
-use Rattle.terms.proofs.Answering.{word-found, word-bounds}
-use Rattle.terms.proofs.TermAnswers.{guard-found}
-use Rattle.terms.proofs.RowAnswers.{passed-found}
-use Rattle.operands.proofs.CheckAnswers.{checked}
-use Rattle.checker.proofs.CycleAnswers.{expr-uncoded, expr-deep, expr-coded, leaf-answers, leaf-answers-of, comprehension-uncounted, comprehension-counted, two-first, two-second, union-found, difference-found, head-answers, guards-unopened, guards-draw, guards-compared, guards-absent, pattern-found, draw-ninth, draw-unread, draw-unmatched, draw-rest, draw-found, absent-unread, absent-set, absent-rest, absent-found}
+use Rattle.terms.proofs.Answering.{word-found, word-refused}
+use Rattle.terms.proofs.TermAnswers.{guard-found, guard-refused}
+use Rattle.terms.proofs.RowAnswers.{passed-found, passed-lost}
+use Rattle.operands.proofs.CheckAnswers.{checked, unchecked}
+use Rattle.checker.proofs.CycleAnswers.{expr-uncoded, expr-deep, expr-coded, leaf-answers, comprehension-uncounted, comprehension-counted, two-first, two-second, union-found, difference-found, head-answers}
+use Rattle.checker.proofs.CycleAnswers.{guards-unopened, guards-draw, guards-compared, guards-absent, pattern-found, pattern-lost, draw-ninth, draw-unread, draw-unmatched, draw-rest, draw-found, absent-unread, absent-set, absent-rest, absent-found}
 use borrow.Author.Needs.{needs}
 use Prim.Native.Nat.{ℕ, _<_, _+_, _*_, _-_}
 use lib.ListN.{length}
@@ -33,10 +32,8 @@ use Rattle.checker.proofs.check_two.Reads as check-two
 use Rattle.checker.proofs.check_two.Kinds as check-two-kinds
 use Rattle.checker.proofs.+check_absent+check_code+check_draw+check_expr+check_guards+check_two.Lts-check_two as check-two-lts
 use Rattle.polarity.proofs.absent_of.Reads as absent-of-reads
-use Rattle.operands.proofs.check_definition.Reads as check-definition-reads
 use Rattle.operands.proofs.check_head.Reads as check-head-reads
-use Rattle.operands.proofs.check_literal.Reads as check-literal-reads
-use Rattle.operands.proofs.check_name.Reads as check-name-reads
+use Rattle.operands.proofs.check_leaf.Reads as check-leaf-reads
 use Rattle.polarity.proofs.difference_of.Reads as difference-of-reads
 use Rattle.polarity.proofs.draw_of.Reads as draw-of-reads
 use Rattle.polarity.proofs.union_of.Reads as union-of-reads
@@ -130,7 +127,7 @@ check-absent-claims t = (read-row-reads.Asked, read-row-reads.Learnt, check-expr
 
 -- what `check-code` knows of the functions that it calls
 abbrev check-code-claims : ℕ → check-code-lts.Claims
-check-code-claims t = (check-literal-reads.Asked, check-literal-reads.Learnt, check-definition-reads.Asked, check-definition-reads.Learnt, check-name-reads.Asked, check-name-reads.Learnt, check-two-below t, check-two.Post, word-between-reads.Asked, word-between-reads.Learnt, check-guards-below t, check-guards.Post)
+check-code-claims t = (check-two-below t, check-two.Post, check-leaf-reads.Asked, check-leaf-reads.Learnt, word-between-reads.Asked, word-between-reads.Learnt, check-guards-below t, check-guards.Post)
 
 -- what `check-draw` knows of the functions that it calls
 abbrev check-draw-claims : ℕ → check-draw-lts.Claims
@@ -158,7 +155,11 @@ check-absent-enum-known-set : (t : ℕ) → check-absent-lts.Need-enum-known-set
 check-absent-enum-known-set t c = search needs
 
 check-absent-check-expr-requires : (t : ℕ) → check-absent-lts.Need-check-expr-requires (check-absent-claims t) (check-absent-at t) check-absent.Post
-check-absent-check-expr-requires t c κs = (omega (arith, c .before .before .before .before .before .pre .0, passed-found (c .before .before .before .read-row .ensures) (c .before .set .given .1) .onward, passed-found (c .before .before .before .read-row .ensures) (c .before .set .given .1) .within), c .before .before .before .before .before .pre .1)
+check-absent-check-expr-requires t c κs =
+    let r = c .before in
+    let s = r .before .before .before .before in
+    let row = passed-found (r .before .before .read-row .ensures) (r .set .given .1) in
+    (omega (arith, s .pre .0, row .onward, row .within), s .pre .1)
 
 check-absent-enum-known-n-2 : (t : ℕ) → check-absent-lts.Need-enum-known-n-2 (check-absent-claims t) (check-absent-at t) check-absent.Post
 check-absent-enum-known-n-2 t c = search needs
@@ -167,7 +168,13 @@ check-absent-enum-known-lacking : (t : ℕ) → check-absent-lts.Need-enum-known
 check-absent-enum-known-lacking t c = search needs
 
 check-absent-check-guards-requires : (t : ℕ) → check-absent-lts.Need-check-guards-requires (check-absent-claims t) (check-absent-at t) check-absent.Post
-check-absent-check-guards-requires t c κs = (omega (arith, c .before .before .before .before .before .before .before .before .before .pre .0, passed-found (c .before .before .before .before .before .before .before .read-row .ensures) (c .before .before .before .before .before .set .given .1) .onward, checked (c .before .before .before .check-expr .ensures) (c .before .lacking .given .1) .onward, checked (c .before .before .before .check-expr .ensures) (c .before .lacking .given .1) .within), c .before .before .before .before .before .before .before .before .before .pre .1)
+check-absent-check-guards-requires t c κs =
+    let e = c .before in
+    let r = e .before .before .before .before in
+    let s = r .before .before .before .before in
+    let row = passed-found (r .before .before .read-row .ensures) (r .set .given .1) in
+    let set = checked (e .before .before .check-expr .ensures) (e .lacking .given .1) in
+    (omega (arith, s .pre .0, row .onward, set .onward, set .within), s .pre .1)
 
 check-absent-enum-known-n-3 : (t : ℕ) → check-absent-lts.Need-enum-known-n-3 (check-absent-claims t) (check-absent-at t) check-absent.Post
 check-absent-enum-known-n-3 t c = search needs
@@ -179,40 +186,52 @@ check-absent-absent-of-requires : (t : ℕ) → check-absent-lts.Need-absent-of-
 check-absent-absent-of-requires t c κs = search needs
 
 check-absent-returns : (t : ℕ) → check-absent-lts.Need-returns (check-absent-claims t) (check-absent-at t) check-absent.Post
-check-absent-returns t c = let a = c .before .before .before .before .before .args in absent-unread (a .words .now) (a .at) (a .levels) (a .variables) (a .draws) (knownIn (a .earlier)) (a .left) (c .before .before .before .read-row .ensures) (c .before .n .given .1)
+check-absent-returns t c =
+    let a = c .before .before .before .before .before .args in
+    absent-unread (a .levels) (a .variables) (a .draws) (knownIn (a .earlier)) (a .left) (passed-lost (c .before .before .before .read-row .ensures) (c .before .n .given .1))
 
 check-absent-returns-2 : (t : ℕ) → check-absent-lts.Need-returns-2 (check-absent-claims t) (check-absent-at t) check-absent.Post
-check-absent-returns-2 t c = let a = c .before .before .before .before .before .before .before .before .before .args in absent-set (a .words .now) (a .at) (a .levels) (a .variables) (a .draws) (knownIn (a .earlier)) (a .left) (c .before .before .before .before .before .before .before .read-row .ensures) (c .before .before .before .before .before .set .given .1) (c .before .before .before .check-expr .ensures) (c .before .n2 .given .1)
+check-absent-returns-2 t c =
+    let r = c .before .before .before .before .before in
+    let a = r .before .before .before .before .args in
+    absent-set (a .levels) (a .variables) (a .draws) (knownIn (a .earlier)) (a .left) (passed-found (r .before .before .read-row .ensures) (r .set .given .1)) (unchecked (c .before .before .before .check-expr .ensures) (c .before .n2 .given .1))
 
 check-absent-returns-3 : (t : ℕ) → check-absent-lts.Need-returns-3 (check-absent-claims t) (check-absent-at t) check-absent.Post
-check-absent-returns-3 t c = let a = c .before .before .before .before .before .before .before .before .before .before .before .before .before .args in absent-rest (a .words .now) (a .at) (a .levels) (a .variables) (a .draws) (knownIn (a .earlier)) (a .left) (c .before .before .before .before .before .before .before .before .before .before .before .read-row .ensures) (c .before .before .before .before .before .before .before .before .before .set .given .1) (c .before .before .before .before .before .before .before .check-expr .ensures) (c .before .before .before .before .before .lacking .given .1) (c .before .before .before .check-guards .ensures) (c .before .n3 .given .1)
+check-absent-returns-3 t c =
+    let e = c .before .before .before .before .before in
+    let r = e .before .before .before .before in
+    let a = r .before .before .before .before .args in
+    absent-rest (a .levels) (a .variables) (a .draws) (knownIn (a .earlier)) (a .left) (passed-found (r .before .before .read-row .ensures) (r .set .given .1)) (checked (e .before .before .check-expr .ensures) (e .lacking .given .1))
+    (unchecked (c .before .before .before .check-guards .ensures) (c .before .n3 .given .1))
 
 check-absent-returns-4 : (t : ℕ) → check-absent-lts.Need-returns-4 (check-absent-claims t) (check-absent-at t) check-absent.Post
-check-absent-returns-4 t c = let a = c .before .before .before .before .before .before .before .before .before .before .before .before .before .before .args in absent-found (a .words .now) (a .at) (a .levels) (a .variables) (a .draws) (knownIn (a .earlier)) (a .left) (c .before .before .before .before .before .before .before .before .before .before .before .before .read-row .ensures) (c .before .before .before .before .before .before .before .before .before .before .set .given .1) (c .before .before .before .before .before .before .before .before .check-expr .ensures) (c .before .before .before .before .before .before .lacking .given .1) (c .before .before .before .before .check-guards .ensures) (c .before .before .others .given .1) (c .absent-of .ensures)
-
-check-code-check-literal-requires : (t : ℕ) → check-code-lts.Need-check-literal-requires (check-code-claims t) (check-code-at t) check-code.Post
-check-code-check-literal-requires t c κs = search needs
-
-check-code-returns : (t : ℕ) → check-code-lts.Need-returns (check-code-claims t) (check-code-at t) check-code.Post
-check-code-returns t c = let a = c .before .before .before .args in leaf-answers (a .words .now) (a .at) (a .variables) (a .draws) (knownIn (a .earlier)) (inside (knownIn (a .earlier)) (a .levels)) (a .code) (c .before .before .before .pre .1 .1) (omega (arith, c .before .if1 .taken)) (c .check-literal .ensures)
-
-check-code-check-definition-requires : (t : ℕ) → check-code-lts.Need-check-definition-requires (check-code-claims t) (check-code-at t) check-code.Post
-check-code-check-definition-requires t c κs = search needs
-
-check-code-returns-2 : (t : ℕ) → check-code-lts.Need-returns-2 (check-code-claims t) (check-code-at t) check-code.Post
-check-code-returns-2 t c = let a = c .before .before .before .before .args in leaf-answers-of (a .words .now) (a .at) (a .variables) (a .draws) (knownIn (a .earlier)) (inside (knownIn (a .earlier)) (a .levels)) (a .code) 3 (c .before .if2 .taken) (omega arith) (omega arith) (c .check-definition .ensures)
-
-check-code-check-name-requires : (t : ℕ) → check-code-lts.Need-check-name-requires (check-code-claims t) (check-code-at t) check-code.Post
-check-code-check-name-requires t c κs = search needs
-
-check-code-returns-3 : (t : ℕ) → check-code-lts.Need-returns-3 (check-code-claims t) (check-code-at t) check-code.Post
-check-code-returns-3 t c = let a = c .before .before .before .before .before .args in leaf-answers-of (a .words .now) (a .at) (a .variables) (a .draws) (knownIn (a .earlier)) (inside (knownIn (a .earlier)) (a .levels)) (a .code) 4 (c .before .if3 .taken) (omega arith) (omega arith) (c .check-name .ensures)
+check-absent-returns-4 t c =
+    let o = c .before .before in
+    let e = o .before .before .before .before in
+    let r = e .before .before .before .before in
+    let a = r .before .before .before .before .args in
+    absent-found (a .levels) (a .variables) (a .draws) (knownIn (a .earlier)) (a .left) (passed-found (r .before .before .read-row .ensures) (r .set .given .1)) (checked (e .before .before .check-expr .ensures) (e .lacking .given .1))
+    (checked (o .before .before .check-guards .ensures) (o .others .given .1)) (c .absent-of .ensures)
 
 check-code-check-two-requires : (t : ℕ) → check-code-lts.Need-check-two-requires (check-code-claims t) (check-code-at t) check-code.Post
 check-code-check-two-requires t c κs = search needs
 
-check-code-returns-4 : (t : ℕ) → check-code-lts.Need-returns-4 (check-code-claims t) (check-code-at t) check-code.Post
-check-code-returns-4 t c = search needs
+check-code-returns : (t : ℕ) → check-code-lts.Need-returns (check-code-claims t) (check-code-at t) check-code.Post
+check-code-returns t c = search needs
+
+check-code-check-two-requires-2 : (t : ℕ) → check-code-lts.Need-check-two-requires-2 (check-code-claims t) (check-code-at t) check-code.Post
+check-code-check-two-requires-2 t c κs = search needs
+
+check-code-returns-2 : (t : ℕ) → check-code-lts.Need-returns-2 (check-code-claims t) (check-code-at t) check-code.Post
+check-code-returns-2 t c = search needs
+
+check-code-check-leaf-requires : (t : ℕ) → check-code-lts.Need-check-leaf-requires (check-code-claims t) (check-code-at t) check-code.Post
+check-code-check-leaf-requires t c κs = search needs
+
+check-code-returns-3 : (t : ℕ) → check-code-lts.Need-returns-3 (check-code-claims t) (check-code-at t) check-code.Post
+check-code-returns-3 t c =
+    let a = c .before .before .before .before .before .args in
+    leaf-answers (a .levels) (a .variables) (a .draws) (knownIn (a .earlier)) (a .code) (c .before .before .before .if1 .left) (c .before .before .if2 .left) (c .before .if3 .taken) (c .check-leaf .ensures)
 
 check-code-word-between-requires : (t : ℕ) → check-code-lts.Need-word-between-requires (check-code-claims t) (check-code-at t) check-code.Post
 check-code-word-between-requires t c κs = search needs
@@ -227,16 +246,29 @@ check-code-add-check-guards : (t : ℕ) → check-code-lts.Need-add-check-guards
 check-code-add-check-guards t c = omega (arith, word-found (c .before .before .before .word-between .ensures) (c .before .count .given .1) .within)
 
 check-code-check-guards-requires : (t : ℕ) → check-code-lts.Need-check-guards-requires (check-code-claims t) (check-code-at t) check-code.Post
-check-code-check-guards-requires t c κs = (omega (arith, c .before .before .before .before .before .before .before .before .before .pre .0, word-found (c .before .before .before .word-between .ensures) (c .before .count .given .1) .within), c .before .before .before .before .before .before .before .before .before .pre .1 .0)
+check-code-check-guards-requires t c κs =
+    let w = c .before in
+    let s = w .before .before .before .before .before .before .before in
+    let count = word-found (w .before .before .word-between .ensures) (w .count .given .1) in
+    (omega (arith, s .pre .0, count .within), s .pre .1 .0)
+
+check-code-returns-4 : (t : ℕ) → check-code-lts.Need-returns-4 (check-code-claims t) (check-code-at t) check-code.Post
+check-code-returns-4 t c =
+    let e = c .before .before .before .before in
+    let a = e .before .before .before .before .args in
+    comprehension-uncounted (a .levels) (a .variables) (a .draws) (knownIn (a .earlier)) (a .code) (omega (arith, e .if3 .left)) (word-refused (c .before .before .before .word-between .ensures) (c .before .n .given .1))
 
 check-code-returns-5 : (t : ℕ) → check-code-lts.Need-returns-5 (check-code-claims t) (check-code-at t) check-code.Post
-check-code-returns-5 t c = let a = c .before .before .before .before .before .before .before .before .before .args in comprehension-uncounted (a .words .now) (a .at) (a .variables) (a .draws) (knownIn (a .earlier)) (inside (knownIn (a .earlier)) (a .levels)) (a .code) (omega (arith, c .before .before .before .before .before .before .before .before .before .pre .1 .2, c .before .before .before .before .if4 .left)) (c .before .before .before .word-between .ensures) (c .before .n .given .1)
-
-check-code-returns-6 : (t : ℕ) → check-code-lts.Need-returns-6 (check-code-claims t) (check-code-at t) check-code.Post
-check-code-returns-6 t c = let a = c .before .before .before .before .before .before .before .before .before .before .args in comprehension-counted (a .words .now) (a .at) (a .variables) (a .draws) (knownIn (a .earlier)) (inside (knownIn (a .earlier)) (a .levels)) (a .code) (omega (arith, c .before .before .before .before .before .before .before .before .before .before .pre .1 .2, c .before .before .before .before .before .if4 .left)) (c .before .before .before .before .word-between .ensures) (c .before .before .count .given .1) (c .check-guards .ensures)
+check-code-returns-5 t c =
+    let e = c .before .before .before .before .before in
+    let a = e .before .before .before .before .args in
+    comprehension-counted (a .levels) (a .variables) (a .draws) (knownIn (a .earlier)) (a .code) (omega (arith, e .if3 .left))
+    (word-found (c .before .before .before .before .word-between .ensures) (c .before .before .count .given .1)) (c .check-guards .ensures)
 
 check-draw-returns : (t : ℕ) → check-draw-lts.Need-returns (check-draw-claims t) (check-draw-at t) check-draw.Post
-check-draw-returns t c = let a = c .before .before .args in draw-ninth (a .words .now) (a .at) (a .levels) (a .variables) (a .draws) (knownIn (a .earlier)) (a .left) (c .if1 .taken)
+check-draw-returns t c =
+    let a = c .before .before .args in
+    draw-ninth (a .levels) (a .variables) (a .draws) (knownIn (a .earlier)) (a .left) (c .if1 .taken)
 
 check-draw-add-check-expr : (t : ℕ) → check-draw-lts.Need-add-check-expr (check-draw-claims t) (check-draw-at t) check-draw.Post
 check-draw-add-check-expr t c = search needs
@@ -260,7 +292,13 @@ check-draw-enum-known-scope : (t : ℕ) → check-draw-lts.Need-enum-known-scope
 check-draw-enum-known-scope t c = search needs
 
 check-draw-check-guards-requires : (t : ℕ) → check-draw-lts.Need-check-guards-requires (check-draw-claims t) (check-draw-at t) check-draw.Post
-check-draw-check-guards-requires t c κs = (omega (arith, c .before .before .before .before .before .before .before .before .before .before .pre .0, checked (c .before .before .before .before .before .before .before .check-expr .ensures) (c .before .before .before .before .before .drawn .given .1) .onward, pattern-found (c .before .before .before .read-pattern .ensures) (c .before .scope .given .1) .onward, pattern-found (c .before .before .before .read-pattern .ensures) (c .before .scope .given .1) .within), c .before .before .before .before .before .before .before .before .before .before .pre .1)
+check-draw-check-guards-requires t c κs =
+    let p = c .before in
+    let d = p .before .before .before .before in
+    let s = d .before .before .before .before .before in
+    let set = checked (d .before .before .check-expr .ensures) (d .drawn .given .1) in
+    let pattern = pattern-found (p .before .before .read-pattern .ensures) (p .scope .given .1) in
+    (omega (arith, s .pre .0, set .onward, pattern .onward, pattern .within), s .pre .1)
 
 check-draw-enum-known-n-3 : (t : ℕ) → check-draw-lts.Need-enum-known-n-3 (check-draw-claims t) (check-draw-at t) check-draw.Post
 check-draw-enum-known-n-3 t c = search needs
@@ -272,16 +310,36 @@ check-draw-draw-of-requires : (t : ℕ) → check-draw-lts.Need-draw-of-requires
 check-draw-draw-of-requires t c κs = search needs
 
 check-draw-returns-2 : (t : ℕ) → check-draw-lts.Need-returns-2 (check-draw-claims t) (check-draw-at t) check-draw.Post
-check-draw-returns-2 t c = let a = c .before .before .before .before .before .before .args in draw-unread (a .words .now) (a .at) (a .levels) (a .variables) (a .draws) (knownIn (a .earlier)) (a .left) (c .before .before .before .before .if1 .left) (c .before .before .before .check-expr .ensures) (c .before .n .given .1)
+check-draw-returns-2 t c =
+    let f = c .before .before .before .before in
+    let a = f .before .before .args in
+    draw-unread (a .levels) (a .variables) (a .draws) (knownIn (a .earlier)) (a .left) (f .if1 .left) (unchecked (c .before .before .before .check-expr .ensures) (c .before .n .given .1))
 
 check-draw-returns-3 : (t : ℕ) → check-draw-lts.Need-returns-3 (check-draw-claims t) (check-draw-at t) check-draw.Post
-check-draw-returns-3 t c = let a = c .before .before .before .before .before .before .before .before .before .before .args in draw-unmatched (a .words .now) (a .at) (a .levels) (a .variables) (a .draws) (knownIn (a .earlier)) (a .left) (c .before .before .before .before .before .before .before .before .if1 .left) (c .before .before .before .before .before .before .before .check-expr .ensures) (c .before .before .before .before .before .drawn .given .1) (c .before .before .before .read-pattern .ensures) (c .before .n2 .given .1)
+check-draw-returns-3 t c =
+    let d = c .before .before .before .before .before in
+    let f = d .before .before .before in
+    let a = f .before .before .args in
+    draw-unmatched (a .levels) (a .variables) (a .draws) (knownIn (a .earlier)) (a .left) (f .if1 .left) (checked (d .before .before .check-expr .ensures) (d .drawn .given .1)) (pattern-lost (c .before .before .before .read-pattern .ensures) (c .before .n2 .given .1))
 
 check-draw-returns-4 : (t : ℕ) → check-draw-lts.Need-returns-4 (check-draw-claims t) (check-draw-at t) check-draw.Post
-check-draw-returns-4 t c = let a = c .before .before .before .before .before .before .before .before .before .before .before .before .before .before .args in draw-rest (a .words .now) (a .at) (a .levels) (a .variables) (a .draws) (knownIn (a .earlier)) (a .left) (c .before .before .before .before .before .before .before .before .before .before .before .before .if1 .left) (c .before .before .before .before .before .before .before .before .before .before .before .check-expr .ensures) (c .before .before .before .before .before .before .before .before .before .drawn .given .1) (c .before .before .before .before .before .before .before .read-pattern .ensures) (c .before .before .before .before .before .scope .given .1) (c .before .before .before .check-guards .ensures) (c .before .n3 .given .1)
+check-draw-returns-4 t c =
+    let p = c .before .before .before .before .before in
+    let d = p .before .before .before .before in
+    let f = d .before .before .before in
+    let a = f .before .before .args in
+    draw-rest (a .levels) (a .variables) (a .draws) (knownIn (a .earlier)) (a .left) (f .if1 .left) (checked (d .before .before .check-expr .ensures) (d .drawn .given .1)) (pattern-found (p .before .before .read-pattern .ensures) (p .scope .given .1))
+    (unchecked (c .before .before .before .check-guards .ensures) (c .before .n3 .given .1))
 
 check-draw-returns-5 : (t : ℕ) → check-draw-lts.Need-returns-5 (check-draw-claims t) (check-draw-at t) check-draw.Post
-check-draw-returns-5 t c = let a = c .before .before .before .before .before .before .before .before .before .before .before .before .before .before .before .args in draw-found (a .words .now) (a .at) (a .levels) (a .variables) (a .draws) (knownIn (a .earlier)) (a .left) (c .before .before .before .before .before .before .before .before .before .before .before .before .before .if1 .left) (c .before .before .before .before .before .before .before .before .before .before .before .before .check-expr .ensures) (c .before .before .before .before .before .before .before .before .before .before .drawn .given .1) (c .before .before .before .before .before .before .before .before .read-pattern .ensures) (c .before .before .before .before .before .before .scope .given .1) (c .before .before .before .before .check-guards .ensures) (c .before .before .others .given .1) (c .draw-of .ensures)
+check-draw-returns-5 t c =
+    let o = c .before .before in
+    let p = o .before .before .before .before in
+    let d = p .before .before .before .before in
+    let f = d .before .before .before in
+    let a = f .before .before .args in
+    draw-found (a .levels) (a .variables) (a .draws) (knownIn (a .earlier)) (a .left) (f .if1 .left) (checked (d .before .before .check-expr .ensures) (d .drawn .given .1)) (pattern-found (p .before .before .read-pattern .ensures) (p .scope .given .1))
+    (checked (o .before .before .check-guards .ensures) (o .others .given .1)) (c .draw-of .ensures)
 
 check-expr-word-between-requires : (t : ℕ) → check-expr-lts.Need-word-between-requires (check-expr-claims t) (check-expr-at t) check-expr.Post
 check-expr-word-between-requires t c κs = search needs
@@ -299,22 +357,34 @@ check-expr-sub-check-code : (t : ℕ) → check-expr-lts.Need-sub-check-code (ch
 check-expr-sub-check-code t c = search needs
 
 check-expr-check-code-requires : (t : ℕ) → check-expr-lts.Need-check-code-requires (check-expr-claims t) (check-expr-at t) check-expr.Post
-check-expr-check-code-requires t c κs = (omega (arith, c .before .before .before .before .before .before .pre .0, word-found (c .before .before .before .before .word-between .ensures) (c .before .before .code .given .1) .within), (c .before .before .before .before .before .before .pre .1, word-bounds badWord 1 7 (c .before .before .before .before .word-between .ensures) (c .before .before .code .given .1) .0, word-bounds badWord 1 7 (c .before .before .before .before .word-between .ensures) (c .before .before .code .given .1) .1))
+check-expr-check-code-requires t c κs =
+    let s = c .before .before .before .before .before .before in
+    let read = word-found (c .before .before .before .before .word-between .ensures) (c .before .before .code .given .1) in
+    (omega (arith, s .pre .0, read .within), (s .pre .1, read .within))
 
 check-expr-returns : (t : ℕ) → check-expr-lts.Need-returns (check-expr-claims t) (check-expr-at t) check-expr.Post
-check-expr-returns t c = let a = c .before .before .before .before .before .args in expr-uncoded (a .words .now) (a .at) (a .variables) (a .draws) (knownIn (a .earlier)) (c .before .before .before .word-between .ensures) (a .levels) (c .before .n .given .1)
+check-expr-returns t c =
+    let a = c .before .before .before .before .before .args in
+    expr-uncoded (a .variables) (a .draws) (knownIn (a .earlier)) (a .levels) (word-refused (c .before .before .before .word-between .ensures) (c .before .n .given .1))
 
 check-expr-returns-2 : (t : ℕ) → check-expr-lts.Need-returns-2 (check-expr-claims t) (check-expr-at t) check-expr.Post
-check-expr-returns-2 t c = let a = c .before .before .before .before .before .before .args in expr-deep (a .words .now) (a .at) (a .variables) (a .draws) (knownIn (a .earlier)) (c .before .before .before .before .word-between .ensures) (a .levels) (c .before .before .code .given .1) (c .if1 .taken)
+check-expr-returns-2 t c =
+    let a = c .before .before .before .before .before .before .args in
+    expr-deep (a .variables) (a .draws) (knownIn (a .earlier)) (word-found (c .before .before .before .before .word-between .ensures) (c .before .before .code .given .1)) (a .levels) (c .if1 .taken)
 
 check-expr-returns-3 : (t : ℕ) → check-expr-lts.Need-returns-3 (check-expr-claims t) (check-expr-at t) check-expr.Post
-check-expr-returns-3 t c = let a = c .before .before .before .before .before .before .before .args in expr-coded (a .words .now) (a .at) (a .variables) (a .draws) (knownIn (a .earlier)) (c .before .before .before .before .before .word-between .ensures) (a .levels) (c .before .before .before .code .given .1) (c .before .if1 .left) (c .check-code .ensures)
+check-expr-returns-3 t c =
+    let a = c .before .before .before .before .before .before .before .args in
+    expr-coded (a .variables) (a .draws) (knownIn (a .earlier)) (word-found (c .before .before .before .before .before .word-between .ensures) (c .before .before .before .code .given .1)) (a .levels) (c .before .if1 .left)
+    (c .check-code .ensures)
 
 check-guards-check-head-requires : (t : ℕ) → check-guards-lts.Need-check-head-requires (check-guards-claims t) (check-guards-at t) check-guards.Post
 check-guards-check-head-requires t c κs = search needs
 
 check-guards-returns : (t : ℕ) → check-guards-lts.Need-returns (check-guards-claims t) (check-guards-at t) check-guards.Post
-check-guards-returns t c = let a = c .before .before .before .args in head-answers (a .words .now) (a .at) (a .variables) (a .draws) (knownIn (a .earlier)) (inside (knownIn (a .earlier)) (a .levels)) (a .left) (c .before .if1 .taken) (c .check-head .ensures)
+check-guards-returns t c =
+    let a = c .before .before .before .args in
+    head-answers (a .levels) (a .variables) (a .draws) (knownIn (a .earlier)) (a .left) (c .before .if1 .taken) (c .check-head .ensures)
 
 check-guards-read-guard-requires : (t : ℕ) → check-guards-lts.Need-read-guard-requires (check-guards-claims t) (check-guards-at t) check-guards.Post
 check-guards-read-guard-requires t c κs = search needs
@@ -332,13 +402,21 @@ check-guards-sub-check-draw : (t : ℕ) → check-guards-lts.Need-sub-check-draw
 check-guards-sub-check-draw t c = search needs
 
 check-guards-check-draw-requires : (t : ℕ) → check-guards-lts.Need-check-draw-requires (check-guards-claims t) (check-guards-at t) check-guards.Post
-check-guards-check-draw-requires t c κs = (omega (arith, c .before .before .before .before .before .before .before .before .pre .0, guard-found (c .before .before .before .before .before .read-guard .ensures) (c .before .before .before .guard .given .1) .onward, guard-found (c .before .before .before .before .before .read-guard .ensures) (c .before .before .before .guard .given .1) .within), c .before .before .before .before .before .before .before .before .pre .1)
+check-guards-check-draw-requires t c κs =
+    let g = c .before .before .before in
+    let s = g .before .before .before .before .before in
+    let opening = guard-found (g .before .before .read-guard .ensures) (g .guard .given .1) in
+    (omega (arith, s .pre .0, opening .onward, opening .within), s .pre .1)
 
 check-guards-sub-check-guards : (t : ℕ) → check-guards-lts.Need-sub-check-guards (check-guards-claims t) (check-guards-at t) check-guards.Post
 check-guards-sub-check-guards t c = search needs
 
 check-guards-check-guards-requires : (t : ℕ) → check-guards-lts.Need-check-guards-requires (check-guards-claims t) (check-guards-at t) check-guards.Post
-check-guards-check-guards-requires t c κs = (omega (arith, c .before .before .before .before .before .before .before .pre .0, guard-found (c .before .before .before .before .read-guard .ensures) (c .before .before .guard .given .1) .onward, guard-found (c .before .before .before .before .read-guard .ensures) (c .before .before .guard .given .1) .within), c .before .before .before .before .before .before .before .pre .1)
+check-guards-check-guards-requires t c κs =
+    let g = c .before .before in
+    let s = g .before .before .before .before .before in
+    let opening = guard-found (g .before .before .read-guard .ensures) (g .guard .given .1) in
+    (omega (arith, s .pre .0, opening .onward, opening .within), s .pre .1)
 
 check-guards-enum-told-2 : (t : ℕ) → check-guards-lts.Need-enum-told-2 (check-guards-claims t) (check-guards-at t) check-guards.Post
 check-guards-enum-told-2 t c = search needs
@@ -347,19 +425,38 @@ check-guards-sub-check-absent : (t : ℕ) → check-guards-lts.Need-sub-check-ab
 check-guards-sub-check-absent t c = search needs
 
 check-guards-check-absent-requires : (t : ℕ) → check-guards-lts.Need-check-absent-requires (check-guards-claims t) (check-guards-at t) check-guards.Post
-check-guards-check-absent-requires t c κs = (omega (arith, c .before .before .before .before .before .before .before .before .pre .0, guard-found (c .before .before .before .before .before .read-guard .ensures) (c .before .before .before .guard .given .1) .onward, guard-found (c .before .before .before .before .before .read-guard .ensures) (c .before .before .before .guard .given .1) .within), c .before .before .before .before .before .before .before .before .pre .1)
+check-guards-check-absent-requires t c κs =
+    let g = c .before .before .before in
+    let s = g .before .before .before .before .before in
+    let opening = guard-found (g .before .before .read-guard .ensures) (g .guard .given .1) in
+    (omega (arith, s .pre .0, opening .onward, opening .within), s .pre .1)
 
 check-guards-returns-2 : (t : ℕ) → check-guards-lts.Need-returns-2 (check-guards-claims t) (check-guards-at t) check-guards.Post
-check-guards-returns-2 t c = let a = c .before .before .before .before .before .before .args in guards-unopened (a .words .now) (a .at) (a .variables) (a .draws) (knownIn (a .earlier)) (inside (knownIn (a .earlier)) (a .levels)) (a .left) (c .before .before .before .before .if1 .left) (c .before .before .before .read-guard .ensures) (c .before .n .given .1)
+check-guards-returns-2 t c =
+    let f = c .before .before .before .before in
+    let a = f .before .before .args in
+    guards-unopened (a .levels) (a .variables) (a .draws) (knownIn (a .earlier)) (a .left) (f .if1 .left) (guard-refused (c .before .before .before .read-guard .ensures) (c .before .n .given .1))
 
 check-guards-returns-3 : (t : ℕ) → check-guards-lts.Need-returns-3 (check-guards-claims t) (check-guards-at t) check-guards.Post
-check-guards-returns-3 t c = let a = c .before .before .before .before .before .before .before .before .before .args in guards-draw (a .words .now) (a .at) (a .variables) (a .draws) (knownIn (a .earlier)) (inside (knownIn (a .earlier)) (a .levels)) (a .left) (c .before .before .before .before .before .before .before .if1 .left) (c .before .before .before .before .before .before .read-guard .ensures) (c .before .before .before .before .guard .given .1) (c .before .enum-told .given .1) (c .check-draw .ensures)
+check-guards-returns-3 t c =
+    let g = c .before .before .before .before in
+    let f = g .before .before .before in
+    let a = f .before .before .args in
+    guards-draw (a .levels) (a .variables) (a .draws) (knownIn (a .earlier)) (a .left) (f .if1 .left) (g .before .before .read-guard .ensures) (g .guard .given .1) (c .before .enum-told .given .1) (c .check-draw .ensures)
 
 check-guards-returns-4 : (t : ℕ) → check-guards-lts.Need-returns-4 (check-guards-claims t) (check-guards-at t) check-guards.Post
-check-guards-returns-4 t c = let a = c .before .before .before .before .before .before .before .before .args in guards-compared (a .words .now) (a .at) (a .variables) (a .draws) (knownIn (a .earlier)) (inside (knownIn (a .earlier)) (a .levels)) (a .left) (c .before .before .before .before .before .before .if1 .left) (c .before .before .before .before .before .read-guard .ensures) (c .before .before .before .guard .given .1) (c .before .match2 .keys2) (c .check-guards .ensures)
+check-guards-returns-4 t c =
+    let g = c .before .before .before in
+    let f = g .before .before .before in
+    let a = f .before .before .args in
+    guards-compared (a .levels) (a .variables) (a .draws) (knownIn (a .earlier)) (a .left) (f .if1 .left) (g .before .before .read-guard .ensures) (g .guard .given .1) (c .before .match2 .keys2) (c .check-guards .ensures)
 
 check-guards-returns-5 : (t : ℕ) → check-guards-lts.Need-returns-5 (check-guards-claims t) (check-guards-at t) check-guards.Post
-check-guards-returns-5 t c = let a = c .before .before .before .before .before .before .before .before .before .args in guards-absent (a .words .now) (a .at) (a .variables) (a .draws) (knownIn (a .earlier)) (inside (knownIn (a .earlier)) (a .levels)) (a .left) (c .before .before .before .before .before .before .before .if1 .left) (c .before .before .before .before .before .before .read-guard .ensures) (c .before .before .before .before .guard .given .1) (c .before .enum-told2 .given .1) (c .check-absent .ensures)
+check-guards-returns-5 t c =
+    let g = c .before .before .before .before in
+    let f = g .before .before .before in
+    let a = f .before .before .args in
+    guards-absent (a .levels) (a .variables) (a .draws) (knownIn (a .earlier)) (a .left) (f .if1 .left) (g .before .before .read-guard .ensures) (g .guard .given .1) (c .before .enum-told2 .given .1) (c .check-absent .ensures)
 
 check-two-check-expr-requires : (t : ℕ) → check-two-lts.Need-check-expr-requires (check-two-claims t) (check-two-at t) check-two.Post
 check-two-check-expr-requires t c κs = search needs
@@ -371,7 +468,11 @@ check-two-enum-known-left : (t : ℕ) → check-two-lts.Need-enum-known-left (ch
 check-two-enum-known-left t c = search needs
 
 check-two-check-expr-requires-2 : (t : ℕ) → check-two-lts.Need-check-expr-requires-2 (check-two-claims t) (check-two-at t) check-two.Post
-check-two-check-expr-requires-2 t c κs = (omega (arith, c .before .before .before .before .before .pre .0, checked (c .before .before .before .check-expr .ensures) (c .before .left .given .1) .onward, checked (c .before .before .before .check-expr .ensures) (c .before .left .given .1) .within), c .before .before .before .before .before .pre .1 .0)
+check-two-check-expr-requires-2 t c κs =
+    let l = c .before in
+    let s = l .before .before .before .before in
+    let left = checked (l .before .before .check-expr .ensures) (l .left .given .1) in
+    (omega (arith, s .pre .0, left .onward, left .within), s .pre .1 .0)
 
 check-two-enum-known-n-2 : (t : ℕ) → check-two-lts.Need-enum-known-n-2 (check-two-claims t) (check-two-at t) check-two.Post
 check-two-enum-known-n-2 t c = search needs
@@ -386,16 +487,36 @@ check-two-difference-of-requires : (t : ℕ) → check-two-lts.Need-difference-o
 check-two-difference-of-requires t c κs = search needs
 
 check-two-returns : (t : ℕ) → check-two-lts.Need-returns (check-two-claims t) (check-two-at t) check-two.Post
-check-two-returns t c = let a = c .before .before .before .before .before .args in two-first (a .words .now) (a .at) (a .levels) (a .variables) (a .draws) (knownIn (a .earlier)) (a .code) (c .before .before .before .before .before .pre .1 .1) (c .before .before .before .before .before .pre .1 .2) (c .before .before .before .check-expr .ensures) (c .before .n .given .1)
+check-two-returns t c =
+    let s = c .before .before .before .before .before in
+    let a = s .args in
+    two-first (a .levels) (a .variables) (a .draws) (knownIn (a .earlier)) (a .code) (s .pre .1 .1) (s .pre .1 .2) (unchecked (c .before .before .before .check-expr .ensures) (c .before .n .given .1))
 
 check-two-returns-2 : (t : ℕ) → check-two-lts.Need-returns-2 (check-two-claims t) (check-two-at t) check-two.Post
-check-two-returns-2 t c = let a = c .before .before .before .before .before .before .before .before .before .args in two-second (a .words .now) (a .at) (a .levels) (a .variables) (a .draws) (knownIn (a .earlier)) (a .code) (c .before .before .before .before .before .before .before .before .before .pre .1 .1) (c .before .before .before .before .before .before .before .before .before .pre .1 .2) (c .before .before .before .before .before .before .before .check-expr .ensures) (c .before .before .before .before .before .left .given .1) (c .before .before .before .check-expr2 .ensures) (c .before .n2 .given .1)
+check-two-returns-2 t c =
+    let l = c .before .before .before .before .before in
+    let s = l .before .before .before .before in
+    let a = s .args in
+    two-second (a .levels) (a .variables) (a .draws) (knownIn (a .earlier)) (a .code) (s .pre .1 .1) (s .pre .1 .2) (checked (l .before .before .check-expr .ensures) (l .left .given .1))
+    (unchecked (c .before .before .before .check-expr2 .ensures) (c .before .n2 .given .1))
 
 check-two-returns-3 : (t : ℕ) → check-two-lts.Need-returns-3 (check-two-claims t) (check-two-at t) check-two.Post
-check-two-returns-3 t c = let a = c .before .before .before .before .before .before .before .before .before .before .before .args in union-found (a .words .now) (a .at) (a .levels) (a .variables) (a .draws) (knownIn (a .earlier)) (a .code) (c .before .before .before .before .before .before .before .before .before .before .before .pre .1 .1) (c .before .before .before .before .before .before .before .before .before .before .before .pre .1 .2) (c .before .before .before .before .before .before .before .before .before .check-expr .ensures) (c .before .before .before .before .before .before .before .left .given .1) (c .before .before .before .before .before .check-expr2 .ensures) (c .before .before .before .right .given .1) (c .before .if1 .taken) (c .union-of .ensures)
+check-two-returns-3 t c =
+    let r = c .before .before .before in
+    let l = r .before .before .before .before in
+    let s = l .before .before .before .before in
+    let a = s .args in
+    union-found (a .levels) (a .variables) (a .draws) (knownIn (a .earlier)) (a .code) (s .pre .1 .1) (s .pre .1 .2)
+    (checked (l .before .before .check-expr .ensures) (l .left .given .1)) (checked (r .before .before .check-expr2 .ensures) (r .right .given .1)) (c .before .if1 .taken) (c .union-of .ensures)
 
 check-two-returns-4 : (t : ℕ) → check-two-lts.Need-returns-4 (check-two-claims t) (check-two-at t) check-two.Post
-check-two-returns-4 t c = let a = c .before .before .before .before .before .before .before .before .before .before .before .args in difference-found (a .words .now) (a .at) (a .levels) (a .variables) (a .draws) (knownIn (a .earlier)) (a .code) (c .before .before .before .before .before .before .before .before .before .before .before .pre .1 .1) (c .before .before .before .before .before .before .before .before .before .before .before .pre .1 .2) (c .before .before .before .before .before .before .before .before .before .check-expr .ensures) (c .before .before .before .before .before .before .before .left .given .1) (c .before .before .before .before .before .check-expr2 .ensures) (c .before .before .before .right .given .1) (c .before .if1 .left) (c .difference-of .ensures)
+check-two-returns-4 t c =
+    let r = c .before .before .before in
+    let l = r .before .before .before .before in
+    let s = l .before .before .before .before in
+    let a = s .args in
+    difference-found (a .levels) (a .variables) (a .draws) (knownIn (a .earlier)) (a .code) (s .pre .1 .1) (s .pre .1 .2)
+    (checked (l .before .before .check-expr .ensures) (l .left .given .1)) (checked (r .before .before .check-expr2 .ensures) (r .right .given .1)) (c .before .if1 .left) (c .difference-of .ensures)
 
 pub +check-absent+check-code+check-draw+check-expr+check-guards+check-two-spec :
     {M : Type 1} → statement M
@@ -427,21 +548,19 @@ pub +check-absent+check-code+check-draw+check-expr+check-guards+check-two-spec :
     (λ t. check-code-lts.spec (check-code-claims t)
     (check-code-at t)
     check-code.Post
-    (check-code-check-literal-requires t)
-    (check-code-returns t)
-    (check-code-check-definition-requires t)
-    (check-code-returns-2 t)
-    (check-code-check-name-requires t)
-    (check-code-returns-3 t)
     (check-code-check-two-requires t)
-    (check-code-returns-4 t)
+    (check-code-returns t)
+    (check-code-check-two-requires-2 t)
+    (check-code-returns-2 t)
+    (check-code-check-leaf-requires t)
+    (check-code-returns-3 t)
     (check-code-word-between-requires t)
     (check-code-enum-known-n t)
     (check-code-enum-known-count t)
     (check-code-add-check-guards t)
     (check-code-check-guards-requires t)
-    (check-code-returns-5 t)
-    (check-code-returns-6 t))
+    (check-code-returns-4 t)
+    (check-code-returns-5 t))
     (λ t. check-draw-lts.spec (check-draw-claims t)
     (check-draw-at t)
     check-draw.Post

@@ -8,7 +8,8 @@ use Rattle.table.specs.Entries.{entryPlace}
 use Rattle.policy.specs.Judgement.{checkDefinition}
 use Rattle.polarity.specs.Earlier.{knownIn}
 use Rattle.judging.specs.Whole.{wholeOf}
-use Rattle.judging.proofs.JudgeAnswers.{listed-of, Judging, judging-starts, judging-refused, judging-goes-on, query-unjudged, query-judged}
+use Rattle.table.proofs.PartAnswers.{listed-of}
+use Rattle.judging.proofs.JudgeAnswers.{Judging, judging-starts, judging-refused, judging-goes-on, query-unjudged, query-judged}
 use borrow.Author.Needs.{needs}
 use Rattle.judging.proofs.judge_all.Statement.{statement}
 use Rattle.judging.proofs.judge_all.Tie as tie

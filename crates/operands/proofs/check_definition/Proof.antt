@@ -1,11 +1,11 @@
--- Each way out is a law of `CheckAnswers`.
-use Rattle.operands.proofs.CheckAnswers.{definition-none, definition-later, definition-found}
+-- Each way out is a law of `LeafAnswers`.
+use Rattle.operands.proofs.LeafAnswers.{definition-none, definition-later, definition-found}
 use borrow.Author.Needs.{needs}
 use Rattle.operands.proofs.check_definition.Statement.{statement}
 use Rattle.operands.proofs.check_definition.Tie as tie
 
 returns : tie.Need-returns
-returns c = let a = c .before .args in definition-none (a .words .now) (a .at) (a .variables) (a .draws) (a .t5) (c .if1 .taken)
+returns c = let a = c .before .args in definition-none (a .variables) (a .draws) (a .t5) (c .if1 .taken)
 
 mul-d : tie.Need-mul-d
 mul-d c = search needs
@@ -14,7 +14,7 @@ shared-slice-read-d : tie.Need-shared-slice-read-d
 shared-slice-read-d c = search needs
 
 returns-2 : tie.Need-returns-2
-returns-2 c = let a = c .before .before .before .args in definition-later (a .words .now) (a .at) (a .variables) (a .draws) (a .t5) (c .before .before .if1 .left) (c .if2 .taken)
+returns-2 c = let a = c .before .before .before .args in definition-later (a .variables) (a .draws) (a .t5) (c .before .before .if1 .left) (c .if2 .taken)
 
 cast-i : tie.Need-cast-i
 cast-i c = search needs
@@ -29,7 +29,10 @@ add-t11 : tie.Need-add-t11
 add-t11 c = search needs
 
 returns-3 : tie.Need-returns-3
-returns-3 c = let a = c .before .before .before .before .before .args in definition-found (a .words .now) (a .at) (a .variables) (a .draws) (a .t5) (c .before .before .before .before .if1 .left) (c .before .before .if2 .left)
+returns-3 c =
+    let e : tie.Else2 = c .before .before in
+    let a = e .before .before .before .args in
+    definition-found (a .variables) (a .draws) (a .t5) (e .before .before .if1 .left) (e .if2 .left)
 
 pub check-definition-spec : {M : Type 1} → statement M
 check-definition-spec =

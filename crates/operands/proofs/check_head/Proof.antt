@@ -1,5 +1,6 @@
 -- Each way out is a law of `CheckAnswers`.
 use Rattle.polarity.specs.Earlier.{knownIn}
+use Rattle.terms.proofs.RowAnswers.{passed-found, passed-lost}
 use Rattle.operands.proofs.CheckAnswers.{head-refused, head-found}
 use borrow.Author.Needs.{needs}
 use Rattle.operands.proofs.check_head.Statement.{statement}
@@ -18,10 +19,14 @@ of-terms-requires : tie.Need-of-terms-requires
 of-terms-requires c κs = search needs
 
 returns : tie.Need-returns
-returns c = let a = c .before .before .before .before .before .args in head-refused (a .words .now) (a .at) (a .variables) (a .draws) (knownIn (a .earlier)) (c .before .before .before .read-row .ensures) (c .before .n .given .1)
+returns c =
+    let a = c .before .before .before .before .before .args in
+    head-refused (a .variables) (a .draws) (knownIn (a .earlier)) (passed-lost (c .before .before .before .read-row .ensures) (c .before .n .given .1))
 
 returns-2 : tie.Need-returns-2
-returns-2 c = let a = c .before .before .before .before .before .before .args in head-found (a .words .now) (a .at) (a .variables) (a .draws) (knownIn (a .earlier)) (c .before .before .before .before .read-row .ensures) (c .before .before .next .given .1) (c .of-terms .ensures)
+returns-2 c =
+    let a = c .before .before .before .before .before .before .args in
+    head-found (a .variables) (a .draws) (knownIn (a .earlier)) (passed-found (c .before .before .before .before .read-row .ensures) (c .before .before .next .given .1)) (c .of-terms .ensures)
 
 pub check-head-spec : {M : Type 1} → statement M
 check-head-spec =

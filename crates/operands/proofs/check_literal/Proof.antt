@@ -1,6 +1,7 @@
--- Each way out is a law of `CheckAnswers`.
+-- Each way out is a law of `LeafAnswers`.
 use Rattle.polarity.specs.Earlier.{knownIn}
-use Rattle.operands.proofs.CheckAnswers.{literal-found, literal-refused}
+use Rattle.terms.proofs.RowAnswers.{passed-found, passed-lost}
+use Rattle.operands.proofs.LeafAnswers.{literal-found, literal-refused}
 use borrow.Author.Needs.{needs}
 use Rattle.operands.proofs.check_literal.Statement.{statement}
 use Rattle.operands.proofs.check_literal.Tie as tie
@@ -18,10 +19,16 @@ of-terms-requires : tie.Need-of-terms-requires
 of-terms-requires c κs = search needs
 
 returns : tie.Need-returns
-returns c = let a = c .before .before .before .before .before .args in literal-refused (a .words .now) (a .at) (a .variables) (a .draws) (knownIn (a .earlier)) (a .code) (c .before .before .before .before .before .pre .0) (c .before .before .before .before .before .pre .1) (c .before .before .before .read-rows .ensures) (c .before .n .given .1)
+returns c =
+    let s : tie.Start = c .before .before .before .before .before in
+    let a = s .args in
+    literal-refused (a .variables) (a .draws) (knownIn (a .earlier)) (a .code) (s .pre .0) (s .pre .1) (passed-lost (c .before .before .before .read-rows .ensures) (c .before .n .given .1))
 
 returns-2 : tie.Need-returns-2
-returns-2 c = let a = c .before .before .before .before .before .before .args in literal-found (a .words .now) (a .at) (a .variables) (a .draws) (knownIn (a .earlier)) (a .code) (c .before .before .before .before .before .before .pre .0) (c .before .before .before .before .before .before .pre .1) (c .before .before .before .before .read-rows .ensures) (c .before .before .next .given .1) (c .of-terms .ensures)
+returns-2 c =
+    let s : tie.Start = c .before .before .before .before .before .before in
+    let a = s .args in
+    literal-found (a .variables) (a .draws) (knownIn (a .earlier)) (a .code) (s .pre .0) (s .pre .1) (passed-found (c .before .before .before .before .read-rows .ensures) (c .before .before .next .given .1)) (c .of-terms .ensures)
 
 pub check-literal-spec : {M : Type 1} → statement M
 check-literal-spec =

@@ -1,8 +1,9 @@
--- Each way out is a law of `CheckAnswers`.
+-- Each way out is a law of `LeafAnswers`.
 use native.Mathlib.Omega.{arith}
 use Rattle.polarity.specs.Earlier.{knownIn}
-use Rattle.terms.proofs.Answering.{word-found}
-use Rattle.operands.proofs.CheckAnswers.{name-unissued, name-over, name-unpolarized, name-found}
+use Rattle.terms.proofs.Answering.{word-found, word-refused}
+use Rattle.terms.proofs.RowAnswers.{passed-found, passed-lost}
+use Rattle.operands.proofs.LeafAnswers.{name-unissued, name-over, name-unpolarized, name-found}
 use borrow.Author.Needs.{needs}
 use Rattle.operands.proofs.check_name.Statement.{statement}
 use Rattle.operands.proofs.check_name.Tie as tie
@@ -41,16 +42,32 @@ add-t21 : tie.Need-add-t21
 add-t21 c = omega (arith, word-found (c .before .before .before .word-between2 .ensures) (c .before .polarity .given .1) .within)
 
 returns : tie.Need-returns
-returns c = let a = c .before .before .before .before .before .args in name-unissued (a .words .now) (a .at) (a .variables) (a .draws) (knownIn (a .earlier)) (c .before .before .before .read-issuer .ensures) (c .before .n .given .1)
+returns c =
+    let a = c .before .before .before .before .before .args in
+    name-unissued (a .variables) (a .draws) (knownIn (a .earlier)) (passed-lost (c .before .before .before .read-issuer .ensures) (c .before .n .given .1))
 
 returns-2 : tie.Need-returns-2
-returns-2 c = let a = c .before .before .before .before .before .before .before .before .before .args in name-over (a .words .now) (a .at) (a .variables) (a .draws) (knownIn (a .earlier)) (c .before .before .before .before .before .before .before .read-issuer .ensures) (c .before .before .before .before .before .name .given .1) (c .before .before .before .word-between .ensures) (c .before .n2 .given .1)
+returns-2 c =
+    let i : tie.After-name = c .before .before .before .before .before in
+    let a = i .before .before .before .before .args in
+    name-over (a .variables) (a .draws) (knownIn (a .earlier)) (passed-found (i .before .before .read-issuer .ensures) (i .name .given .1))
+    (word-refused (c .before .before .before .word-between .ensures) (c .before .n2 .given .1))
 
 returns-3 : tie.Need-returns-3
-returns-3 c = let a = c .before .before .before .before .before .before .before .before .before .before .before .before .args in name-unpolarized (a .words .now) (a .at) (a .variables) (a .draws) (knownIn (a .earlier)) (c .before .before .before .before .before .before .before .before .before .before .read-issuer .ensures) (c .before .before .before .before .before .before .before .before .name .given .1) (c .before .before .before .before .before .before .word-between .ensures) (c .before .before .before .before .enum-told .given .1) (c .before .before .before .word-between2 .ensures) (c .before .n3 .given .1)
+returns-3 c =
+    let m : tie.After-enum-told = c .before .before .before .before in
+    let i : tie.After-name = m .before .before .before .before in
+    let a = i .before .before .before .before .args in
+    name-unpolarized (a .variables) (a .draws) (knownIn (a .earlier)) (passed-found (i .before .before .read-issuer .ensures) (i .name .given .1))
+    (word-found (m .before .before .word-between .ensures) (m .enum-told .given .1)) (word-refused (c .before .before .before .word-between2 .ensures) (c .before .n3 .given .1))
 
 returns-4 : tie.Need-returns-4
-returns-4 c = let a = c .before .before .before .before .before .before .before .before .before .before .before .before .args in name-found (a .words .now) (a .at) (a .variables) (a .draws) (knownIn (a .earlier)) (c .before .before .before .before .before .before .before .before .before .before .read-issuer .ensures) (c .before .before .before .before .before .before .before .before .name .given .1) (c .before .before .before .before .before .before .word-between .ensures) (c .before .before .before .before .enum-told .given .1) (c .before .before .before .word-between2 .ensures) (c .before .polarity .given .1)
+returns-4 c =
+    let m : tie.After-enum-told = c .before .before .before .before in
+    let i : tie.After-name = m .before .before .before .before in
+    let a = i .before .before .before .before .args in
+    name-found (a .variables) (a .draws) (knownIn (a .earlier)) (passed-found (i .before .before .read-issuer .ensures) (i .name .given .1))
+    (word-found (m .before .before .word-between .ensures) (m .enum-told .given .1)) (word-found (c .before .before .before .word-between2 .ensures) (c .before .polarity .given .1))
 
 pub check-name-spec : {M : Type 1} → statement M
 check-name-spec =

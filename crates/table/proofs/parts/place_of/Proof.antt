@@ -2,7 +2,7 @@ use native.Mathlib.Omega.{arith}
 use borrow.Author.Needs.{needs}
 use denote.Ref.{now}
 use Rattle.table.specs.Places.{placeIs}
-use Rattle.table.proofs.PartAnswers.{table-read, table-refused, table-whole, place-none, place-query, place-past, place-entry}
+use Rattle.table.proofs.PartAnswers.{table-read, table-refused, listed-of, place-none, place-query, place-past, place-entry}
 use Rattle.table.proofs.parts.place_of.Statement.{statement}
 use Rattle.table.proofs.parts.place_of.Tie as tie
 
@@ -39,7 +39,7 @@ mul-wide : tie.Need-mul-wide
 mul-wide c = search needs
 
 shared-slice-read-wide : tie.Need-shared-slice-read-wide
-shared-slice-read-wide c = let t = table-whole (now (c .before .before .before .before .before .before .before .before .before .args .policy)) (c .before .before .before .before .before .count .given .0 .0) (table-read (now (c .before .before .before .before .before .before .before .before .before .args .policy)) (c .before .before .before .before .before .before .before .read-table .result) (c .before .before .before .before .before .count .given .0 .0) (c .before .before .before .before .before .before .before .read-table .ensures) (c .before .before .before .before .before .count .given .1)) in omega (arith, t, c .before .before .if2 .left, c .before .wide .ensures)
+shared-slice-read-wide c = let t = listed-of (now (c .before .before .before .before .before .before .before .before .before .args .policy)) (c .before .before .before .before .before .count .given .0 .0) (table-read (now (c .before .before .before .before .before .before .before .before .before .args .policy)) (c .before .before .before .before .before .before .before .read-table .result) (c .before .before .before .before .before .count .given .0 .0) (c .before .before .before .before .before .before .before .read-table .ensures) (c .before .before .before .before .before .count .given .1)) in omega (arith, t .fits, c .before .before .if2 .left, c .before .wide .ensures)
 
 wide-requires-2 : tie.Need-wide-requires-2
 wide-requires-2 c κs = search needs
@@ -51,7 +51,7 @@ mul-wide-2 : tie.Need-mul-wide-2
 mul-wide-2 c = search needs
 
 shared-slice-read-wide-2 : tie.Need-shared-slice-read-wide-2
-shared-slice-read-wide-2 c = let t = table-whole (now (c .before .before .before .before .before .before .before .before .before .before .before .args .policy)) (c .before .before .before .before .before .before .before .count .given .0 .0) (table-read (now (c .before .before .before .before .before .before .before .before .before .before .before .args .policy)) (c .before .before .before .before .before .before .before .before .before .read-table .result) (c .before .before .before .before .before .before .before .count .given .0 .0) (c .before .before .before .before .before .before .before .before .before .read-table .ensures) (c .before .before .before .before .before .before .before .count .given .1)) in omega (arith, t, c .before .before .before .before .if2 .left, c .before .before .before .wide .ensures)
+shared-slice-read-wide-2 c = let t = listed-of (now (c .before .before .before .before .before .before .before .before .before .before .before .args .policy)) (c .before .before .before .before .before .before .before .count .given .0 .0) (table-read (now (c .before .before .before .before .before .before .before .before .before .before .before .args .policy)) (c .before .before .before .before .before .before .before .before .before .read-table .result) (c .before .before .before .before .before .before .before .count .given .0 .0) (c .before .before .before .before .before .before .before .before .before .read-table .ensures) (c .before .before .before .before .before .before .before .count .given .1)) in omega (arith, t .fits, c .before .before .before .before .if2 .left, c .before .before .before .wide .ensures)
 
 wide-requires-3 : tie.Need-wide-requires-3
 wide-requires-3 c κs = search needs
