@@ -1,5 +1,2 @@
-pub mod Areas
-pub mod Match
-pub mod Inserting
 pub mod Literals
-pub mod Combined
+pub mod ByCode

@@ -1,14 +1,13 @@
--- The rows of a literal, put in from the first to the last; and the set of a definition, copied.
-use Prim.Native.Nat.{ℕ, _+_, _-_, _*_, _≤_, _<_}
+-- The rows of a literal, put in from the first to the last.
+use Prim.Native.Nat.{ℕ, _+_, _-_, _≤_, _<_}
 use mathlib.Core.Path.{_≡_, refl, sym, ap, subst, _∙_}
 use mathlib.Core.Logic.{_⊎_, inl, inr, _↔_}
-use mathlib.Core.Bool.{true}
 use mathlib.Core.List.{List, [], _∷_, map}
 use native.Mathlib.Omega.{arith}
-use lib.ListN.{length, take, drop, getD}
+use lib.ListN.{length, getD}
 use Rattle.rows.specs.Ordered.{_∈_, insert, join}
 use Rattle.rows.specs.Row.{Row, rowBefore}
-use Rattle.rows.specs.Layout.{rowsIn, formed, setIn, soundSet, written}
+use Rattle.rows.specs.Layout.{rowsIn, formed, setIn}
 use Rattle.layout.specs.Values as held
 use Rattle.layout.specs.declared.row.Row as Held-row
 use Rattle.rows.proofs.Case.{_then_, iff-refl, iff-sym, both-or}
@@ -17,20 +16,16 @@ use Rattle.rows.proofs.Ordered.{Ascending, insert-∈, insert-ascending, join-a
 use Rattle.rows.proofs.Joining.{insert-shorter}
 use Rattle.rows.proofs.LayoutLaws.{listing-in, rows-count, true-sound}
 use Rattle.sets.proofs.SetWords.{sound-ascending}
-use Rattle.sets.proofs.Standing.{copied-stands}
 use Rattle.policy.specs.Syntax.{Term}
 use Rattle.meaning.specs.Values.{Values, rowOf}
 use Rattle.meaning.specs.Reading.{small, rowsOf}
-use Rattle.values.specs.Values.{valuesOf}
 use Rattle.values.specs.Places.{SomeRow, SomeRows, PastRow}
 use Rattle.values.specs.Rows.{SayRow}
 use Rattle.values.specs.Answers.{Filled, Empty}
-use Rattle.leaves.specs.Leaves.{SayRows, SayDefinition}
+use Rattle.leaves.specs.Leaves.{SayRows}
 use Rattle.values.proofs.Past.{RowsLeft, RowsNext, rows-inside, rows-next, rows-none}
-use Rattle.values.proofs.Answers.{lies, small-few}
-use Rattle.leaves.proofs.Areas.{sets-at, part-whole}
-use Rattle.leaves.proofs.Inserting.{Listed}
-use Rattle.values.specs.declared.Env.{Env}
+use Rattle.values.proofs.Answers.{small-few}
+use Rattle.steps.proofs.Inserting.{Listed}
 
 -- ---- inserts commute, so the rows may go in from the first to the last
 
@@ -61,7 +56,7 @@ rows-join vs (r ∷ rs) = ap (insert rowBefore (rowOf vs r)) (rows-join vs rs)
 
 -- ---- the loop: i rows are in, and whatever those left come to with them, all come to
 
-pub record Filling (ws : List ℕ) (at form : ℕ) (env : Env) (area : List ℕ) (next i : ℕ) : Type 0 where
+pub record Filling (ws : List ℕ) (at form : ℕ) (vs : Values) (area : List ℕ) (next i : ℕ) : Type 0 where
   pub within : i ≤ getD ws at 0
   pub n : ℕ
   pub rs : List (List Term)
@@ -69,14 +64,14 @@ pub record Filling (ws : List ℕ) (at form : ℕ) (env : Env) (area : List ℕ)
   pub filled : Filled area
   pub is : getD area 0 0 ≡ form
   pub few : length (rowsIn area) ≤ i
-  pub means : (z : List Row) → ((n : ℕ) (rs : List (List Term)) → RowsLeft ws next (getD ws at 0 - i) n rs → join rowBefore (map (rowOf (valuesOf env)) rs) (rowsIn area) ≡ z) →
-      (n : ℕ) (rs : List (List Term)) → RowsLeft ws (at + 1) (getD ws at 0) n rs → join rowBefore (map (rowOf (valuesOf env)) rs) [] ≡ z
+  pub means : (z : List Row) → ((n : ℕ) (rs : List (List Term)) → RowsLeft ws next (getD ws at 0 - i) n rs → join rowBefore (map (rowOf vs) rs) (rowsIn area) ≡ z) →
+      (n : ℕ) (rs : List (List Term)) → RowsLeft ws (at + 1) (getD ws at 0) n rs → join rowBefore (map (rowOf vs) rs) [] ≡ z
 
 pub literal-few : {ws : List ℕ} {at : ℕ} → SomeRows ws at → getD ws at 0 ≤ 128
 literal-few s = omega (arith, rows-inside (s .here) .many, s .here .fit .few)
 
-pub filling-start : {ws : List ℕ} {at form : ℕ} {env : Env} {area : List ℕ} → SomeRows ws at → Empty form area → Filling ws at form env area (at + 1) 0
-filling-start {ws} {at} {form} {env} {area} s m =
+pub filling-start : {ws : List ℕ} {at form : ℕ} {vs : Values} {area : List ℕ} → SomeRows ws at → Empty form area → Filling ws at form vs area (at + 1) 0
+filling-start {ws} {at} {form} {vs} {area} s m =
     let w : getD ws at 0 ≡ getD ws at 0 - 0 = omega arith in
     record {
       within = omega arith;
@@ -86,14 +81,14 @@ filling-start {ws} {at} {form} {env} {area} s m =
       filled = m .filled;
       is = m .is;
       few = omega (arith, ap length (m .none));
-      means = λ z g n rs h. ap (join rowBefore (map (rowOf (valuesOf env)) rs)) (sym (m .none)) ∙ g n rs (subst (λ (k : ℕ). RowsLeft ws (at + 1) k n rs) w h);
+      means = λ z g n rs h. ap (join rowBefore (map (rowOf vs) rs)) (sym (m .none)) ∙ g n rs (subst (λ (k : ℕ). RowsLeft ws (at + 1) k n rs) w h);
     }
 
-module _ {ws : List ℕ} {at form : ℕ} {env : Env} {area : List ℕ} {next i : ℕ} (iv : Filling ws at form env area next i) where
+module _ {ws : List ℕ} {at form : ℕ} {vs : Values} {area : List ℕ} {next i : ℕ} (iv : Filling ws at form vs area next i) where
   pub filling-row : i < getD ws at 0 → SomeRow ws next
   filling-row h = record { n = iv .n; ts = _; here = rows-next (omega arith) (iv .left) .row }
 
-  pub filling-next : {r : Held-row.Row} {now : List ℕ} {after : ℕ} → i < getD ws at 0 → SayRow ws next env r → Listed area (held.rowOf r) now → PastRow ws next after → Filling ws at form env now after (i + 1)
+  pub filling-next : {r : Held-row.Row} {now : List ℕ} {after : ℕ} → i < getD ws at 0 → SayRow ws next vs r → Listed area (held.rowOf r) now → PastRow ws next after → Filling ws at form vs now after (i + 1)
   unfolding join
   filling-next {r} {now} {after} h s l q =
       let e : getD ws at 0 - i - 1 ≡ getD ws at 0 - (i + 1) = omega arith in
@@ -111,35 +106,20 @@ module _ {ws : List ℕ} {at form : ℕ} {env : Env} {area : List ℕ} {next i :
         few = omega (arith, ap length (l .rows), insert-shorter rowBefore row-order (held.rowOf r) (rowsIn area));
         means = λ z g. iv .means z (λ n rs t.
             let x = rows-next (omega arith) t in
-            ap (λ (ys : List (List Term)). join rowBefore (map (rowOf (valuesOf env)) ys) (rowsIn area)) (x .is)
-            ∙ join-first (rowOf (valuesOf env) (x .r)) (map (rowOf (valuesOf env)) (x .others)) (rowsIn area) (sound-ascending area (iv .filled .sound))
-            ∙ ap (λ (y : Row). join rowBefore (map (rowOf (valuesOf env)) (x .others)) (insert rowBefore y (rowsIn area))) (sym (s .means n (x .r) (x .row)))
-            ∙ ap (join rowBefore (map (rowOf (valuesOf env)) (x .others))) (sym (l .rows)) ∙ g n (x .others) (on n rs x));
+            ap (λ (ys : List (List Term)). join rowBefore (map (rowOf vs) ys) (rowsIn area)) (x .is)
+            ∙ join-first (rowOf vs (x .r)) (map (rowOf vs) (x .others)) (rowsIn area) (sound-ascending area (iv .filled .sound))
+            ∙ ap (λ (y : Row). join rowBefore (map (rowOf vs) (x .others)) (insert rowBefore y (rowsIn area))) (sym (s .means n (x .r) (x .row)))
+            ∙ ap (join rowBefore (map (rowOf vs) (x .others))) (sym (l .rows)) ∙ g n (x .others) (on n rs x));
       }
 
-  pub filling-end : getD ws at 0 ≤ i → SayRows ws at form env area
+  pub filling-end : getD ws at 0 ≤ i → SayRows ws at form vs area
   unfolding join setIn
   filling-end all = record {
     filled = iv .filled;
     means = λ n rs s k.
-        let e : rowsOf (valuesOf env) rs ≡ rowsIn area = rows-join (valuesOf env) rs
-        ∙ iv .means (rowsIn area) (λ m ts l. ap (λ (ys : List (List Term)). join rowBefore (map (rowOf (valuesOf env)) ys) (rowsIn area)) (rows-none (getD ws at 0 - i) (omega arith) l)) n rs (rows-inside s) in
+        let e : rowsOf vs rs ≡ rowsIn area = rows-join vs rs
+        ∙ iv .means (rowsIn area) (λ m ts l. ap (λ (ys : List (List Term)). join rowBefore (map (rowOf vs) ys) (rowsIn area)) (rows-none (getD ws at 0 - i) (omega arith) l)) n rs (rows-inside s) in
         let c = true-sound area (iv .filled .sound) .count in
         ap (λ (xs : List Row). small (formed form xs) k) e ∙ ap (λ (f : ℕ). small (formed f (rowsIn area)) k) (sym (iv .is))
         ∙ small-few (setIn area) k (omega (arith, ap length (listing-in area), rows-count area));
   }
-
--- ---- the set of a definition
-
--- the part of the definition area that is lent; w is the definition's number, widened
-module _ (defs : List ℕ) {d w : ℕ} (e : w ≡ d) (f : Filled (drop (642 * d) defs)) where
-  lent : take (length defs - 642 * w) (drop (642 * w) defs) ≡ drop (642 * d) defs
-  lent = part-whole (642 * w) defs ∙ ap (λ (k : ℕ). drop (642 * k) defs) e
-
-  pub definition-sound : soundSet (take (length defs - 642 * w) (drop (642 * w) defs)) ≡ true
-  definition-sound = ap soundSet lent ∙ f .sound
-
-  pub definition-copied : {known : ℕ} (to : List ℕ) {area : List ℕ} → d < known → 642 ≤ length to → area ≡ written (setIn (take (length defs - 642 * w) (drop (642 * w) defs))) to → SayDefinition known d defs area
-  definition-copied {known} to {area} h long c =
-      let s = copied-stands (take (length defs - 642 * w) (drop (642 * w) defs)) definition-sound to long c in
-      record { filled = lies s; means = s .set ∙ ap setIn lent ∙ sym (sets-at known d defs h) }

@@ -1,4 +1,4 @@
--- Reading a name: the rows of its records are those certified for it, and they are copied in order.
+-- Reading a name: the rows of its records are those certified for it; they are copied in order, or one is looked up among them.
 use Prim.Native.Nat.{ℕ, zero, suc, _+_, _-_, _*_, _/_, _≤_, _<_}
 use mathlib.Core.Path.{_≡_, refl, sym, ap, subst, _∙_}
 use mathlib.Core.Bool.{Bool, true, false, not}
@@ -6,50 +6,52 @@ use mathlib.Core.List.{List, [], _∷_, _++_, map, append-nil}
 use native.Mathlib.Numerals.{add-one}
 use native.Mathlib.Omega.{arith}
 use lib.Dec.{eqb}
-use lib.ListN.{length, take, drop, getD, set, length-take, length-map, List·getD-map}
+use lib.ListN.{length, take, drop, getD, set, length-map, List·getD-map}
 use lib.Seq.{take-suc, take-all, drop-drop, length-take-le}
 use borrow.Author.Tests.{leb-true, lt-leb, le-leb, eqb-true, eqb-false, eq-eqb, ne-eqb}
 use Rattle.rows.specs.Word.{All}
-use Rattle.rows.specs.Ordered.{lists, insert, join, keep}
+use Rattle.rows.specs.Ordered.{ascending, lists, insert, join, keep}
 use Rattle.rows.specs.Row.{Row, isKey, firstKey, rowBefore}
 use Rattle.rows.specs.Name.{Polarity, plus, minus, polarityOf, polarityWord, samePolarity}
 use Rattle.rows.specs.Sets.{RowSet, listing, has}
 use Rattle.rows.specs.Layout.{laid, rowWords, rowIn, fiveAt, soundRow, flat, pieces, rowsIn, formed, setIn, written, put}
-use Rattle.layout.specs.Values.{wordsOf, rowOf}
+use Rattle.layout.specs.Values.{rowOf}
+use Rattle.layout.specs.Search.{rowsAt, Listed, Finds}
 use Rattle.layout.specs.declared.row.Row as Held-row
+use Rattle.layout.specs.declared.search.Found as Found
 use Rattle.rows.proofs.Case.{Case, isTrue, isFalse, split}
 use Rattle.rows.proofs.Order.{row-order}
 use Rattle.rows.proofs.Lists.{all-in, all-of, at-all, all-take}
-use Rattle.rows.proofs.Ordered.{Ascending}
+use Rattle.rows.proofs.Ordered.{ascending-true, true-ascending}
 use Rattle.rows.proofs.Joining.{join-none}
-use Rattle.rows.proofs.LayoutLaws.{Width, piece-at, length-pieces, row-length, row-width, sound-width, formed-listing, formed-word}
-use Rattle.layout.proofs.RowLaws.{five-length, five-width, loaded-row, loaded-width}
+use Rattle.rows.proofs.LayoutLaws.{Width, piece-at, length-pieces, row-length, row-width, row-written, sound-width, formed-listing, formed-word}
+use Rattle.layout.proofs.RowLaws.{five-length, sound-narrow}
+use Rattle.layout.proofs.SearchLaws.{rows-in-pieces, listed-in-pieces, at-listed, missing-unlisted}
 use Rattle.rows.proofs.Put.{put-length, put-none, put-then-after}
 use Rattle.sets.proofs.Laid.{drop-take, Narrow, laid-length, laid-append, written-count}
 use Rattle.sets.proofs.Standing.{formed-fit, formed-few, written-stands}
-use Rattle.certificates.specs.Certificate.{Certificate, soundRecord, certificateOf, recordBefore}
+use Rattle.certificates.specs.Certificate.{Certificate, soundRecord, certificateOf}
 use Rattle.certificates.specs.Store.{records, soundStore, certificates}
 use Rattle.certificates.specs.NamePart.{ofName, namePart}
 use Rattle.certificates.proofs.Sound.{sound-record, sound-store}
-use Rattle.certificates.proofs.NameRows.{name-rows, name-length, name-pieces, name-sound, name-held}
+use Rattle.certificates.proofs.NameRows.{name-rows, name-length, name-pieces, name-sound}
 use Rattle.policy.specs.Syntax.{Term}
 use Rattle.policy.specs.Words.{termWords}
+use Rattle.policy.specs.Held.{termOf}
 use Rattle.meaning.specs.Values as values
-use Rattle.meaning.specs.Values.{value}
+use Rattle.meaning.specs.Values.{Values, value}
 use Rattle.meaning.specs.Evidence.{isOf, certified, namesHeld}
 use Rattle.meaning.specs.Reading.{Answer, done, refused, after, small}
-use Rattle.values.specs.Values.{valuesOf, termOf}
 use Rattle.values.specs.Places.{At, nameWords, SomeName, IsTerm}
 use Rattle.values.specs.Rows.{SayRow}
-use Rattle.values.specs.Answers.{Empty, setAnswer, IfDone}
-use Rattle.names.specs.Names.{belongsAnswer, Records, recordRows, SayName, SayCertified, Told, SayBelongs}
+use Rattle.values.specs.Answers.{Empty, setAnswer, testedAnswer, IfDone}
+use Rattle.names.specs.Names.{Records, recordRows, SayName, SayListed, SayBelongs, SayNameHas}
 use Rattle.values.proofs.Places.{at-word, at-next, at-skip, at-front, at-long, term-length}
 use Rattle.values.proofs.Held.{held-value}
 use Rattle.values.proofs.Answers.{lies, small-few, small-many}
-use Rattle.values.specs.declared.Belongs as Belongs
-use Rattle.values.specs.declared.Env.{Env}
 use Rattle.values.specs.declared.Read.the-variants.{Done, Refused}
-use Rattle.values.specs.declared.Term as Held-term
+use Rattle.values.specs.declared.Tested as Tested
+use Rattle.policy.specs.declared.Term as Held-term
 
 -- the row of a record
 abbrev pub rowOfRecord : List ℕ → Row
@@ -83,15 +85,19 @@ module _ {rs : List ℕ} {count : ℕ} (records : Records rs count) where
     unfolding rowIn recordRows
     row-there = List·getD-map rowOfRecord (pieces 8 count rs) i [] ∙ ap rowIn five
 
+    five-long : length (fiveAt rs (8 * i + 3)) ≡ 5
+    five-long = five-length rs (8 * i + 3) (omega (arith, records .whole))
+
     wide : Width (getD (recordRows rs count) i [])
     wide =
         let s = sound-width (fiveAt rs (8 * i + 3)) (records .sound i h) in
-        let w = row-width (fiveAt rs (8 * i + 3)) (five-length rs (8 * i + 3) (omega (arith, records .whole))) (records .sound i h) in
+        let w = row-width (fiveAt rs (8 * i + 3)) five-long (records .sound i h) in
         let l = ap length row-there in
         record { some = omega (arith, s .some); few = omega (arith, s .few) }
 
-    pub record-narrow : (r : Held-row.Row) → wordsOf r ≡ fiveAt rs (8 * i + 3) → r .width ≤ 4
-    record-narrow r e = omega (arith, loaded-width r rs (8 * i + 3) e, five-width rs (8 * i + 3), sound-width (fiveAt rs (8 * i + 3)) (records .sound i h) .few)
+    -- the row's words are the record's: its unused atoms are 0
+    words-there : fiveAt rs (8 * i + 3) ≡ rowWords (getD (recordRows rs count) i [])
+    words-there = sym (row-written (fiveAt rs (8 * i + 3)) five-long (records .sound i h)) ∙ ap rowWords (sym row-there)
 
   pub rows-of-records-wide : All Width (recordRows rs count)
   rows-of-records-wide = at-all Width (recordRows rs count) [] (λ i h. wide i (omega (arith, many)))
@@ -103,26 +109,26 @@ module _ {rs : List ℕ} {count : ℕ} (records : Records rs count) where
   laid-here i h = omega (arith, laid-length (take i (recordRows rs count)) (all-take _ i _ narrow), length-take-le i (recordRows rs count) (omega (arith, many)))
 
   module _ {entry : List ℕ} (long : 642 ≤ length entry) where
-    pub copying-next : {area : List ℕ} {i : ℕ} → Copying rs count entry area i → i < count → (r : Held-row.Row) → wordsOf r ≡ fiveAt rs (8 * i + 3) → (now : List ℕ) → now ≡ put (2 + 5 * i) (rowWords (rowOf r)) area → Copying rs count entry now (i + 1)
+    pub copying-next : {area : List ℕ} {i : ℕ} → Copying rs count entry area i → i < count → {now : List ℕ} → now ≡ put (2 + 5 * i) (take (8 * i + 3 + 5 - (8 * i + 3)) (drop (8 * i + 3) rs)) area → Copying rs count entry now (i + 1)
     unfolding flat
-    copying-next {area} {i} c h r e now w =
+    copying-next {area} {i} c h {now} w =
         let rows : List Row = recordRows rs count in
         let m = many in
         let few = records .few in
         let l = laid-here i (omega arith) in
-        let x : rowOf r ≡ getD rows i [] = loaded-row r rs (8 * i + 3) e ∙ sym (row-there i h) in
-        let f : length (rowWords (getD rows i [])) ≡ 5 = row-length (getD rows i []) (wide i h .few) in
-        let size : length now ≡ length entry = ap length w ∙ put-length (2 + 5 * i) (rowWords (rowOf r)) area (omega (arith, c .size, ap (λ (y : Row). length (rowWords y)) x)) ∙ c .size in
+        let row : List ℕ = rowWords (getD rows i []) in
+        let f : length row ≡ 5 = row-length (getD rows i []) (wide i h .few) in
+        let n : 8 * i + 3 + 5 - (8 * i + 3) ≡ 5 = omega arith in
+        let here : now ≡ put (2 + 5 * i) row area = w ∙ ap (λ (u : List ℕ). put (2 + 5 * i) u area) (ap (λ (k : ℕ). take k (drop (8 * i + 3) rs)) n ∙ words-there i h) in
         let at : 2 + 5 * i ≡ 2 + length (laid (take i rows)) = omega arith in
-        let next : laid (take i rows) ++ rowWords (getD rows i []) ≡ laid (take (i + 1) rows) =
-        ap (λ (u : List ℕ). laid (take i rows) ++ u) (sym (append-nil (rowWords (getD rows i [])))) ∙ sym (laid-append (take i rows) (getD rows i [] ∷ []))
+        let next : laid (take i rows) ++ row ≡ laid (take (i + 1) rows) =
+        ap (λ (u : List ℕ). laid (take i rows) ++ u) (sym (append-nil row)) ∙ sym (laid-append (take i rows) (getD rows i [] ∷ []))
         ∙ ap laid (sym (take-suc rows i [] (omega arith)) ∙ ap (λ (k : ℕ). take k rows) (sym (add-one i))) in
         record {
           within = omega arith;
-          size = size;
-          words = w ∙ ap (λ (y : Row). put (2 + 5 * i) (rowWords y) area) x ∙ ap (put (2 + 5 * i) (rowWords (getD rows i []))) (c .words)
-              ∙ ap (λ (k : ℕ). put k (rowWords (getD rows i [])) (put 2 (laid (take i rows)) entry)) at
-              ∙ put-then-after 2 (laid (take i rows)) (rowWords (getD rows i [])) entry (omega arith) ∙ ap (λ (u : List ℕ). put 2 u entry) next;
+          size = ap length here ∙ put-length (2 + 5 * i) row area (omega (arith, c .size)) ∙ c .size;
+          words = here ∙ ap (put (2 + 5 * i) row) (c .words) ∙ ap (λ (k : ℕ). put k row (put 2 (laid (take i rows)) entry)) at
+              ∙ put-then-after 2 (laid (take i rows)) row entry (omega arith) ∙ ap (λ (u : List ℕ). put 2 u entry) next;
         }
 
     pub copying-end : {area : List ℕ} {i : ℕ} → Copying rs count entry area i → count ≤ i → getD entry 0 0 ≤ 1 → set area 1 count ≡ written (formed (getD entry 0 0) (recordRows rs count)) entry
@@ -192,24 +198,20 @@ module _ (store : List ℕ) (sound : soundStore store ≡ true) (k n : ℕ) (p :
     part-pieces : pieces 8 (length part / 8) part ≡ ofIt
     part-pieces = ap (λ (m : ℕ). pieces 8 m part) part-count ∙ ap (pieces 8 (length ofIt)) e ∙ name-pieces k n (polarityWord p) store sound
 
-    pub part-rows : recordRows part (length part / 8) ≡ certified (certificates store) k n p
+    part-rows : recordRows part (length part / 8) ≡ certified (certificates store) k n p
     unfolding recordRows
     part-rows = ap (map rowOfRecord) part-pieces ∙ sym certified-name
 
-    pub part-ascending : Ascending rowBefore row-order (recordRows part (length part / 8))
+    part-ascending : ascending rowBefore (recordRows part (length part / 8)) ≡ true
     unfolding recordRows
-    part-ascending = subst (Ascending rowBefore row-order) (sym (ap (map rowOfRecord) part-pieces)) (name-rows k n (polarityWord p) store sound)
-
-    -- a row is one of them exactly when its certificate is held
-    pub part-listed : (x : Row) → lists rowBefore (recordRows part (length part / 8)) x ≡ lists recordBefore (records store) (k ∷ n ∷ polarityWord p ∷ rowWords x)
-    unfolding recordRows
-    part-listed x = ap (λ (xs : List Row). lists rowBefore xs x) (ap (map rowOfRecord) part-pieces) ∙ sym (name-held k n (polarityWord p) store sound x)
+    part-ascending = ap (λ (ws : List (List ℕ)). ascending rowBefore (map rowOfRecord ws)) part-pieces ∙ true-ascending rowBefore row-order (map rowOfRecord ofIt) (name-rows k n (polarityWord p) store sound)
 
     pub part-records : length part / 8 ≤ 128 → Records part (length part / 8)
     part-records few = record {
       whole = omega arith;
       few = few;
       sound = λ i h. ap (λ (ws : List ℕ). soundRow (fiveAt ws (8 * i + 3))) e ∙ name-sound k n (polarityWord p) store sound i (omega (arith, part-count));
+      ascend = part-ascending;
     }
 
 -- ---- what is said of a name
@@ -239,31 +241,46 @@ module _ (s : RowSet) {z : RowSet} (e : s ≡ z) (x : Row) (k : ℕ) where
   unfolding after
   not-looked-up many = ap (λ (y : RowSet). after (small y k) (λ w i. done (has w x) i)) e ∙ ap (λ (b : Answer RowSet). after b (λ w i. done (has w x) i)) (small-many z k many)
 
--- the answer goes by the form and by whether the row is listed
-module _ {form : ℕ} {b : Bool} {r : Belongs.Belongs} where
-  pub told-finite : form ≡ 0 → ((k : ℕ) → done b k ≡ belongsAnswer r k) → Told form b r
+-- whether it belongs goes by the form and by whether the row is listed
+module _ {form : ℕ} {listed : Bool} where
+  pub belongs-finite : form ≡ 0 → SayBelongs form listed listed
   unfolding formed has
-  told-finite z e = record { means = λ xs x l k. ap (λ (f : ℕ). done (has (formed f xs) x) k) z ∙ ap (λ (c : Bool). done c k) l ∙ e k }
+  belongs-finite z = record { means = λ xs x l. ap (λ (f : ℕ). has (formed f xs) x) z ∙ l }
 
-  pub told-complement : (form ≡ 0 → ⊥) → ((k : ℕ) → done (not b) k ≡ belongsAnswer r k) → Told form b r
+  pub belongs-complement : (form ≡ 0 → ⊥) → SayBelongs form listed (not listed)
   unfolding formed has
-  told-complement z e =
+  belongs-complement z =
       let f : suc (form - 1) ≡ form = omega arith in
-      record { means = λ xs x l k. ap (λ (i : ℕ). done (has (formed i xs) x) k) (sym f) ∙ ap (λ (c : Bool). done (not c) k) l ∙ e k }
+      record { means = λ xs x l. ap (λ (i : ℕ). has (formed i xs) x) (sym f) ∙ ap not l }
 
--- the certificate of a row in hand
-pub say-certified : {store ws : List ℕ} {at : ℕ} {env : Env} {key name polarity : ℕ} {row : Held-row.Row} {b : Bool} {certificate : List ℕ} → SayRow ws at env row →
-    certificate ≡ put 3 (rowWords (rowOf row)) (key ∷ name ∷ polarity ∷ 0 ∷ 0 ∷ 0 ∷ 0 ∷ 0 ∷ []) → b ≡ lists recordBefore (records store) certificate → SayCertified store ws at env key name polarity b
-unfolding put rowOf
-say-certified {store} {key} {name} {polarity} {row} s e h =
-    let five : length (rowWords (rowOf row)) ≡ 5 = row-length (rowOf row) (omega (arith, s .few, length-take (row .width) (row .atoms))) in
-    let w : put 3 (rowWords (rowOf row)) (key ∷ name ∷ polarity ∷ 0 ∷ 0 ∷ 0 ∷ 0 ∷ 0 ∷ []) ≡ key ∷ name ∷ polarity ∷ rowWords (rowOf row) =
-    ap (λ (l : ℕ). key ∷ name ∷ polarity ∷ (rowWords (rowOf row) ++ drop (3 + l) (key ∷ name ∷ polarity ∷ 0 ∷ 0 ∷ 0 ∷ 0 ∷ 0 ∷ []))) five
-    ∙ ap (λ (u : List ℕ). key ∷ name ∷ polarity ∷ u) (append-nil (rowWords (rowOf row))) in
-    record {
-      means = λ n ts t.
-          ap (λ (x : Row). lists recordBefore (records store) (key ∷ name ∷ polarity ∷ rowWords x)) (sym (s .means n ts t)) ∙ ap (lists recordBefore (records store)) (sym (e ∙ w)) ∙ sym h;
+-- ---- a row looked up among the records
+
+module _ {rs : List ℕ} {count : ℕ} (records : Records rs count) where
+  row-narrow : (i : ℕ) → i < count → getD rs (3 + 8 * i) 0 ≤ 4
+  row-narrow i h =
+      let e : 8 * i + 3 ≡ 3 + 8 * i = omega arith in
+      omega (arith, ap (λ (k : ℕ). getD rs k 0) e, sound-narrow rs (8 * i + 3) (records .sound i h))
+
+  rows-there : rowsAt rs 3 8 count ≡ recordRows rs count
+  unfolding recordRows
+  rows-there = rows-in-pieces rs 3 8 count (omega arith) row-narrow
+
+  pub ask-find : Listed rs 3 8 count
+  unfolding recordRows
+  ask-find = listed-in-pieces rs 3 8 count (omega arith) row-narrow (records .whole) (records .ascend)
+
+  module _ {ws : List ℕ} {at : ℕ} {vs : Values} {row : Held-row.Row} (says : SayRow ws at vs row) where
+    say-listed : {b : Bool} → lists rowBefore (rowsAt rs 3 8 count) (rowOf row) ≡ b → SayListed rs count ws at vs b
+    say-listed e = record {
+      means = λ n ts t. ap (lists rowBefore (recordRows rs count)) (sym (says .means n ts t)) ∙ ap (λ (xs : List Row). lists rowBefore xs (rowOf row)) (sym rows-there) ∙ e;
     }
+
+    module _ (f : Found.Found) {i : ℕ} (finds : Finds (rowsAt rs 3 8 count) (rowOf row) f) where
+      pub found-listed : f ≡ Found.the-variants.At i → SayListed rs count ws at vs true
+      found-listed e = say-listed (at-listed _ _ f i e finds)
+
+      pub found-missing : f ≡ Found.the-variants.Missing i → SayListed rs count ws at vs false
+      found-missing e = say-listed (missing-unlisted _ _ f i e finds)
 
 -- the issuer, the name and the polarity where they stand
 record NameHere (ws : List ℕ) (at : ℕ) (t : Term) (m : ℕ) (p : Polarity) : Type 0 where
@@ -292,38 +309,39 @@ module _ {ws : List ℕ} {at : ℕ} (some : SomeName ws at) where
   pub name-form : getD ws (at + 3) 0 ≤ 1
   name-form = let n = name-here (some .t) (some .m) (some .p) (some .words) in omega (arith, n .polarity, polarity-small (some .p))
 
-module _ {ws : List ℕ} {at : ℕ} (env : Env) {x : Held-term.Term} {key : ℕ} (issuer : IsTerm ws at x) (is : key ≡ value (valuesOf env) (termOf x)) where
-  key-is : {t : Term} {m : ℕ} {p : Polarity} → NameHere ws at t m p → value (valuesOf env) t ≡ key
-  key-is {t} h = sym (held-value (valuesOf env) t (issuer .is t (h .issuer))) ∙ sym is
+module _ {ws : List ℕ} {at : ℕ} (vs : Values) {x : Held-term.Term} {key : ℕ} (issuer : IsTerm ws at x) (is : key ≡ value vs (termOf x)) where
+  key-is : {t : Term} {m : ℕ} {p : Polarity} → NameHere ws at t m p → value vs t ≡ key
+  key-is {t} h = sym (held-value vs t (issuer .is t (h .issuer))) ∙ sym is
 
   -- a number issues nothing
-  pub say-number : {store : List ℕ} {k : ℕ} {area : List ℕ} → Empty (getD ws (at + 3) 0) area → key < 2147483648 → SayName store ws at env k (Done k) area
+  pub say-number : {store : List ℕ} {k : ℕ} {area : List ℕ} → Empty (getD ws (at + 3) 0) area → key < 2147483648 → SayName store ws at vs k (Done k) area
   unfolding IfDone setAnswer setIn
   say-number {store} {k} {area} m h = record {
     filled = m .filled;
     means = λ t n p w.
         let v = name-here t n p w in
         let s : setIn area ≡ formed (polarityWord p) [] = ap (λ (f : ℕ). formed f (rowsIn area)) (m .is ∙ v .polarity) ∙ ap (formed (polarityWord p)) (m .none) in
-        let number : isKey (value (valuesOf env) t) ≡ false = ap isKey (key-is v) ∙ lt-leb firstKey key h in
-        ap (λ (z : RowSet). small z k) (names-number (certificates store) (value (valuesOf env) t) n p number ∙ sym s)
+        let number : isKey (value vs t) ≡ false = ap isKey (key-is v) ∙ lt-leb firstKey key h in
+        ap (λ (z : RowSet). small z k) (names-number (certificates store) (value vs t) n p number ∙ sym s)
         ∙ small-few (setIn area) k (omega (arith, ap (λ (z : RowSet). length (listing z)) s, ap length (formed-listing (polarityWord p) [])));
   }
 
-  pub belongs-number : {store : List ℕ} {row : ℕ} {r : Belongs.Belongs} → key < 2147483648 → Told (getD ws (at + 3) 0) false r → SayBelongs store ws at row env r
+  pub number-has : {store : List ℕ} {row k : ℕ} {b : Bool} {r : Tested.Tested} → key < 2147483648 → SayBelongs (getD ws (at + 3) 0) false b → testedAnswer r ≡ done b k → SayNameHas store ws at row vs k r
   unfolding lists
-  belongs-number {store} h g = record {
-    means = λ t m p w n ts s k.
+  number-has {store} {k} h g e = record {
+    means = λ t m p w n ts s.
         let v = name-here t m p w in
-        let number : isKey (value (valuesOf env) t) ≡ false = ap isKey (key-is v) ∙ lt-leb firstKey key h in
-        looked-up _ (names-number (certificates store) (value (valuesOf env) t) m p number ∙ ap (λ (f : ℕ). formed f []) (sym (v .polarity))) (values.rowOf (valuesOf env) ts) k
-        (omega (arith, ap length (formed-listing (getD ws (at + 3) 0) []))) (g .means [] (values.rowOf (valuesOf env) ts) refl k);
+        let y : Row = values.rowOf vs ts in
+        let number : isKey (value vs t) ≡ false = ap isKey (key-is v) ∙ lt-leb firstKey key h in
+        looked-up _ (names-number (certificates store) (value vs t) m p number ∙ ap (λ (f : ℕ). formed f []) (sym (v .polarity))) y k
+        (omega (arith, ap length (formed-listing (getD ws (at + 3) 0) []))) (ap (λ (b : Bool). done b k) (g .means [] y refl) ∙ sym e);
   }
 
   module _ (store : List ℕ) (sound : soundStore store ≡ true) (some : SomeName ws at) (high : 2147483648 ≤ key) {part : List ℕ} (part-is : part ≡ namePart store key (getD ws (at + 2) 0) (getD ws (at + 3) 0)) where
     part-of : {t : Term} {n : ℕ} {p : Polarity} → NameHere ws at t n p → part ≡ namePart store key n (polarityWord p)
     part-of {t} {n} {p} v = part-is ∙ ap (λ (m : ℕ). namePart store key m (getD ws (at + 3) 0)) (v .name) ∙ ap (namePart store key n) (v .polarity)
 
-    held : (t : Term) (n : ℕ) (p : Polarity) → NameHere ws at t n p → namesHeld (certificates store) (value (valuesOf env) t) n p ≡ formed (polarityWord p) (recordRows part (length part / 8))
+    held : (t : Term) (n : ℕ) (p : Polarity) → NameHere ws at t n p → namesHeld (certificates store) (value vs t) n p ≡ formed (polarityWord p) (recordRows part (length part / 8))
     held t n p v =
         ap (λ (k : ℕ). namesHeld (certificates store) k n p) (key-is v) ∙ names-key (certificates store) key n p (le-leb firstKey key high)
         ∙ ap (formed (polarityWord p)) (sym (part-rows store sound key n p (part-of v)))
@@ -334,7 +352,7 @@ module _ {ws : List ℕ} {at : ℕ} (env : Env) {x : Held-term.Term} {key : ℕ}
     pub ask-records : length part / 8 ≤ 128 → Records part (length part / 8)
     ask-records few = part-records store sound key (some .m) (some .p) (part-of some-here) few
 
-    pub say-too-many : {k : ℕ} {area : List ℕ} → 128 < length part / 8 → SayName store ws at env k (Refused 13) area
+    pub say-too-many : {k : ℕ} {area : List ℕ} → 128 < length part / 8 → SayName store ws at vs k (Refused 13) area
     unfolding IfDone setAnswer
     say-too-many {k} h = record {
       filled = tt;
@@ -345,11 +363,11 @@ module _ {ws : List ℕ} {at : ℕ} (env : Env) {x : Held-term.Term} {key : ℕ}
     }
 
     pub say-records : {k : ℕ} (empty : List ℕ) {area : List ℕ} → Empty (getD ws (at + 3) 0) empty → length part / 8 ≤ 128 →
-        area ≡ written (formed (getD empty 0 0) (recordRows part (length part / 8))) empty → SayName store ws at env k (Done k) area
+        area ≡ written (formed (getD empty 0 0) (recordRows part (length part / 8))) empty → SayName store ws at vs k (Done k) area
     unfolding IfDone setAnswer
     say-records {k} empty {area} m few e =
         let rows : List Row = recordRows part (length part / 8) in
-        let fit = formed-fit (getD ws (at + 3) 0) rows (part-ascending store sound key (some .m) (some .p) (part-of some-here)) (rows-of-records-wide (ask-records few)) in
+        let fit = formed-fit (getD ws (at + 3) 0) rows (ascending-true rowBefore row-order rows (ask-records few .ascend)) (rows-of-records-wide (ask-records few)) in
         let few′ = formed-few (getD ws (at + 3) 0) rows (omega (arith, record-count part (length part / 8))) in
         let s = written-stands fit few′ empty (m .filled .long) (e ∙ ap (λ (f : ℕ). written (formed f rows) empty) (m .is)) in
         record {
@@ -360,24 +378,21 @@ module _ {ws : List ℕ} {at : ℕ} (env : Env) {x : Held-term.Term} {key : ℕ}
               ∙ small-few (formed (getD ws (at + 3) 0) rows) k few′ ∙ ap (λ (z : RowSet). done z k) (sym (s .set));
         }
 
-    pub belongs-many : {row : ℕ} → 128 < length part / 8 → SayBelongs store ws at row env (Belongs.the-variants.Refused 13)
-    unfolding belongsAnswer
-    belongs-many h = record {
-      means = λ t m p w n ts s k.
+    pub many-refused : {row k : ℕ} → 128 < length part / 8 → SayNameHas store ws at row vs k (Tested.the-variants.Refused 13)
+    unfolding testedAnswer
+    many-refused {k} h = record {
+      means = λ t m p w n ts s.
           let v = name-here t m p w in
-          not-looked-up _ (held t m p v) (values.rowOf (valuesOf env) ts) k
+          not-looked-up _ (held t m p v) (values.rowOf vs ts) k
           (omega (arith, ap length (formed-listing (polarityWord p) (recordRows part (length part / 8))), record-count part (length part / 8)));
     }
 
-    pub belongs-told : {row : ℕ} {b : Bool} {r : Belongs.Belongs} → length part / 8 ≤ 128 → SayCertified store ws row env key (getD ws (at + 2) 0) (getD ws (at + 3) 0) b → Told (getD ws (at + 3) 0) b r → SayBelongs store ws at row env r
-    belongs-told {row} {b} few c g = record {
-      means = λ t m p w n ts s k.
+    pub key-has : {row k : ℕ} {found b : Bool} {r : Tested.Tested} → length part / 8 ≤ 128 → SayListed part (length part / 8) ws row vs found → SayBelongs (getD ws (at + 3) 0) found b → testedAnswer r ≡ done b k → SayNameHas store ws at row vs k r
+    key-has {k} few l g e = record {
+      means = λ t m p w n ts s.
           let v = name-here t m p w in
           let rows : List Row = recordRows part (length part / 8) in
-          let x : Row = values.rowOf (valuesOf env) ts in
-          let l : lists rowBefore rows x ≡ b =
-          part-listed store sound key m p (part-of v) x ∙ ap (λ (i : ℕ). lists recordBefore (records store) (key ∷ m ∷ i ∷ rowWords x)) (sym (v .polarity))
-          ∙ ap (λ (i : ℕ). lists recordBefore (records store) (key ∷ i ∷ getD ws (at + 3) 0 ∷ rowWords x)) (sym (v .name)) ∙ c .means n ts s in
-          looked-up _ (held t m p v ∙ ap (λ (f : ℕ). formed f rows) (sym (v .polarity))) x k
-          (omega (arith, ap length (formed-listing (getD ws (at + 3) 0) rows), record-count part (length part / 8))) (g .means rows x l k);
+          let y : Row = values.rowOf vs ts in
+          looked-up _ (held t m p v ∙ ap (λ (f : ℕ). formed f rows) (sym (v .polarity))) y k
+          (omega (arith, ap length (formed-listing (getD ws (at + 3) 0) rows), record-count part (length part / 8))) (ap (λ (b : Bool). done b k) (g .means rows y (l .means n ts s)) ∙ sym e);
     }

@@ -1,27 +1,28 @@
-// Reading a name: the rows that are certified for it.
+// Reading a name: the rows that are certified for it, copied or looked up.
 ghost use mathlib.Core.Path.{_≡_};
 ghost use mathlib.Core.Bool.{true};
 ghost use Prim.Native.Nat.{_≤_};
-ghost use lib.ListN.{length, getD};
+ghost use lib.ListN.{length, getD, take};
 ghost use Rattle.rows.specs.Layout.{setRoom, formed, written};
 ghost use Rattle.certificates.specs.Store.{soundStore};
+ghost use Rattle.values.specs.Values.{Bound};
 ghost use Rattle.values.specs.Places.{SomeName, SomeRow};
-ghost use Rattle.names.specs.Names.{Records, recordRows, SayName, SayCertified, Told, SayBelongs};
+ghost use Rattle.names.specs.Names.{Records, recordRows, SayName, SayListed, SayBelongs, SayNameHas};
 use certificates::RECORD_WORDS;
 use certificates::ROW_IN_RECORD;
-use layout::row::load;
-use layout::row::store as store_row;
+use layout::search::Found;
+use layout::search::find;
+use layout::write;
 use refusals::TOO_MANY_ROWS;
 use rows::FIRST_KEY;
 use rows::MOST_LISTED;
 use sets::clear;
 use store::certificates_in;
-use store::holds;
-use values::Belongs;
-use values::Env;
 use values::Read;
+use values::Tested;
 use values::row_of;
 use values::term_at;
+use values::told;
 use values::value_of;
 
 // Has an empty set list the rows of these records, which are in order.
@@ -31,8 +32,9 @@ fn copy_rows(records: &[u32], count: usize, area: &mut [u32])
 {
     let mut i: usize = 0;
     while i < count {
-        let row = load(records, RECORD_WORDS * i + ROW_IN_RECORD);
-        store_row(area, 2 + 5 * i, row);
+        let from = RECORD_WORDS * i + ROW_IN_RECORD;
+        let end = from + 5;
+        write(area, 2 + 5 * i, &records[from..end]);
         i += 1;
     }
     area[1] = count as u32;
@@ -42,16 +44,17 @@ fn copy_rows(records: &[u32], count: usize, area: &mut [u32])
 pub fn read_name(
     words: &[u32],
     at: usize,
-    env: Env,
-    store: &[u32],
+    values: &[u32; 16],
+    count: usize,
     draws: u32,
     area: &mut [u32],
+    store: &[u32],
 ) -> Read
-    requires { ⌜ (env .count ≤ 16) × SomeName (now words) at × (soundStore (now store) ≡ true) × (setRoom ≤ length (now area)) ⌝ }
-    ensures { λ r. ⌜ SayName (now (store .entry)) (now (words .entry)) at env draws r (now (area .exit)) ⌝ }
+    requires { ⌜ Bound (now values) count × SomeName (now words) at × (soundStore (now store) ≡ true) × (setRoom ≤ length (now area)) ⌝ }
+    ensures { λ r. ⌜ SayName (now (store .entry)) (now (words .entry)) at (take count (now (values .entry))) draws r (now (area .exit)) ⌝ }
 {
     let issuer = term_at(words, at);
-    let key = value_of(env, issuer);
+    let key = value_of(values, count, issuer);
     let name = words[at + 2];
     let polarity = words[at + 3];
     clear(area, polarity);
@@ -59,65 +62,65 @@ pub fn read_name(
         return Read::Done(draws);
     }
     let records = certificates_in(store, key, name, polarity);
-    let count = records.len() / RECORD_WORDS;
-    if MOST_LISTED < count {
+    let listed = records.len() / RECORD_WORDS;
+    if MOST_LISTED < listed {
         return Read::Refused(TOO_MANY_ROWS);
     }
-    copy_rows(records, count, area);
+    copy_rows(records, listed, area);
     Read::Done(draws)
 }
 
-// Is the row that the terms come to certified for this name?
-fn is_certified(
+// Is the row that the terms come to among those of these records?
+fn is_listed(
     words: &[u32],
     at: usize,
-    env: Env,
-    store: &[u32],
-    key: u32,
-    name: u32,
-    polarity: u32,
+    values: &[u32; 16],
+    count: usize,
+    records: &[u32],
+    listed: usize,
 ) -> bool
-    requires { ⌜ (env .count ≤ 16) × SomeRow (now words) at × (soundStore (now store) ≡ true) ⌝ }
-    ensures { λ r. ⌜ SayCertified (now (store .entry)) (now (words .entry)) at env key name polarity r ⌝ }
+    requires { ⌜ Bound (now values) count × SomeRow (now words) at × Records (now records) listed ⌝ }
+    ensures { λ r. ⌜ SayListed (now (records .entry)) listed (now (words .entry)) at (take count (now (values .entry))) r ⌝ }
 {
-    let row = row_of(words, at, env);
-    let mut certificate = [key, name, polarity, 0, 0, 0, 0, 0];
-    store_row(&mut certificate, ROW_IN_RECORD, row);
-    holds(store, &certificate)
+    let row = row_of(words, at, values, count);
+    match find(records, ROW_IN_RECORD, RECORD_WORDS, listed, row) {
+        Found::At(_) => true,
+        Found::Missing(_) => false,
+    }
 }
 
 // Whether a row belongs to a set of this form that lists it or does not.
-fn told(form: u32, listed: bool) -> Belongs
-    ensures { λ r. ⌜ Told form listed r ⌝ }
+fn belongs(form: u32, listed: bool) -> bool
+    ensures { λ r. ⌜ SayBelongs form listed r ⌝ }
 {
-    if form == 0 {
-        if listed {
-            return Belongs::Yes;
-        }
-        return Belongs::No;
-    }
-    if listed {
-        return Belongs::No;
-    }
-    Belongs::Yes
+    if form == 0 { listed } else { !listed }
 }
 
-// Whether the row written at `row` belongs to the name's set: what `read_name` and `has_row` would find, without a copy of its rows.
-pub fn name_has(words: &[u32], at: usize, row: usize, env: Env, store: &[u32]) -> Belongs
-    requires { ⌜ (env .count ≤ 16) × SomeName (now words) at × SomeRow (now words) row × (soundStore (now store) ≡ true) ⌝ }
-    ensures { λ r. ⌜ SayBelongs (now (store .entry)) (now (words .entry)) at row env r ⌝ }
+// Whether the row written at `row` belongs to the name's set: what `read_name` and a look into its set would find, without a copy of its rows.
+pub fn name_has(
+    words: &[u32],
+    at: usize,
+    values: &[u32; 16],
+    count: usize,
+    draws: u32,
+    store: &[u32],
+    row: usize,
+) -> Tested
+    requires { ⌜ Bound (now values) count × SomeName (now words) at × SomeRow (now words) row × (soundStore (now store) ≡ true) ⌝ }
+    ensures { λ r. ⌜ SayNameHas (now (store .entry)) (now (words .entry)) at row (take count (now (values .entry))) draws r ⌝ }
 {
     let issuer = term_at(words, at);
-    let key = value_of(env, issuer);
+    let key = value_of(values, count, issuer);
     let name = words[at + 2];
     let polarity = words[at + 3];
     if key < FIRST_KEY {
-        return told(polarity, false);
+        return told(belongs(polarity, false), draws);
     }
     let records = certificates_in(store, key, name, polarity);
-    if MOST_LISTED < records.len() / RECORD_WORDS {
-        return Belongs::Refused(TOO_MANY_ROWS);
+    let listed = records.len() / RECORD_WORDS;
+    if MOST_LISTED < listed {
+        return Tested::Refused(TOO_MANY_ROWS);
     }
-    let listed = is_certified(words, row, env, store, key, name, polarity);
-    told(polarity, listed)
+    let found = is_listed(words, row, values, count, records, listed);
+    told(belongs(polarity, found), draws)
 }

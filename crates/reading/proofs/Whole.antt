@@ -3,15 +3,16 @@ use Prim.Native.Nat.{ℕ, _+_, _≤_}
 use mathlib.Core.Path.{_≡_, sym, _∙_}
 use mathlib.Core.List.{List, [], append-nil}
 use native.Mathlib.Omega.{arith}
-use Rattle.policy.specs.Syntax.{Expr, finite, cofinite, definition, listed, union, difference, comprehension, Body, head, draw, same, different, absent}
+use lib.ListN.{length}
+use Rattle.policy.specs.Syntax.{Expr, leaf, union, difference, comprehension, Body, head, draw, same, different, absent}
 use Rattle.policy.specs.Words.{exprWords}
 use Rattle.policy.specs.WellFormed.{depth, bodyDepth, drawCount, bodyDraws}
 use Rattle.policy.specs.Decode.{parse, parsed}
 use Rattle.policy.proofs.Decoding.{parse-words, parse-fits}
-use Rattle.values.specs.Values.{valuesOf}
 use Rattle.values.specs.Places.{Stands}
-use Rattle.leaves.specs.Areas.{roomOf, bodyRoom}
-use Rattle.reading.specs.Readers.{From, AskExpr, SayExpr, AskWhole, SayWhole}
+use Rattle.values.specs.From.{From}
+use Rattle.reading.specs.Room.{roomOf, bodyRoom}
+use Rattle.reading.specs.Readers.{AskExpr, SayExpr, AskWhole, SayWhole}
 use Rattle.values.specs.declared.Read.{Read}
 
 -- each level and each draw adds one set at most
@@ -19,10 +20,7 @@ mutual
   unfolding roomOf depth drawCount
 
   room-needed : (e : Expr) → roomOf e ≤ depth e + drawCount e
-  room-needed (finite rs) = omega arith
-  room-needed (cofinite rs) = omega arith
-  room-needed (definition d) = omega arith
-  room-needed (listed t n p) = omega arith
+  room-needed (leaf x) = omega arith
   room-needed (union a b) = omega (arith, room-needed a, room-needed b)
   room-needed (difference a b) = omega (arith, room-needed a, room-needed b)
   room-needed (comprehension b) = omega (arith, body-needed b)
@@ -38,14 +36,19 @@ whole-here : (m : ℕ) (ws : List ℕ) (e : Expr) → parse m ws ≡ parsed e �
 whole-here m ws e h = record { words = record { rest = []; spelled = parse-words m ws e h ∙ sym (append-nil (exprWords e 0)) }; fit = parse-fits m ws e h .fit }
 
 module _ {f : From} {ws : List ℕ} {values area : List ℕ} where
-  pub ask-whole : AskWhole f ws area → AskExpr f ws 0 (record { count = 0; values = values }) area
-  ask-whole q =
+  pub ask-whole : 16 ≤ length values → AskWhole f ws area → AskExpr f ws 0 values 0 area
+  ask-whole long q =
       let w = parse-fits (f .known) ws (q .e) (q .parses) in
       let shallow = w .shallow in
       let draws = w .draws in
-      let long = q .long in
-      record { sound = q .sound; scope = omega arith; e = q .e; here = whole-here (f .known) ws (q .e) (q .parses); room = omega (arith, room-needed (q .e)) }
+      let room = q .long in
+      record {
+        sound = q .sound;
+        bound = record { scope = omega arith; long = long };
+        e = q .e;
+        here = whole-here (f .known) ws (q .e) (q .parses);
+        room = omega (arith, room-needed (q .e));
+      }
 
-  pub say-whole : {k : ℕ} {r : Read} → SayExpr f ws 0 (record { count = 0; values = values }) k r area → SayWhole f ws k r area
-  unfolding valuesOf
+  pub say-whole : {k : ℕ} {r : Read} {later : List ℕ} → SayExpr f ws 0 values 0 k r later area → SayWhole f ws k r area
   say-whole s = record { filled = s .filled; means = λ e h. s .means .says e (whole-here (f .known) ws e h) }

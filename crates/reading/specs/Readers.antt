@@ -1,161 +1,161 @@
--- What the readers ask and what they say, of whatever stands in the words.
-use Prim.Native.Nat.{ℕ, _+_, _*_, _≤_, _<_}
+-- What the readers ask and what they say, of whatever stands in the words. `values` are those lent to a reader, of which the first `count` are in scope;
+-- `vs` are these.
+use Prim.Native.Nat.{ℕ, _+_, _*_, _≤_}
 use mathlib.Core.Path.{_≡_}
-use mathlib.Core.Bool.{Bool, true}
+use mathlib.Core.Bool.{Bool}
 use mathlib.Core.List.{List, []}
-use lib.ListN.{length, getD, drop}
+use lib.ListN.{length, take, drop}
 use Rattle.rows.specs.Row.{Row}
-use Rattle.rows.specs.Sets.{RowSet}
+use Rattle.rows.specs.Sets.{RowSet, has}
 use Rattle.rows.specs.Layout.{setRoom, rowsIn}
-use Rattle.certificates.specs.Store.{certificates, soundStore}
 use Rattle.policy.specs.Syntax.{Term, Slot, Expr, Body, draw, absent}
 use Rattle.policy.specs.Words.{fresh}
 use Rattle.policy.specs.Decode.{parse, parsed}
-use Rattle.meaning.specs.Values.{Values}
-use Rattle.meaning.specs.Evidence.{namesHeld}
-use Rattle.meaning.specs.Reading.{Answer, Reading, after, small, drawEach, read, gather}
-use Rattle.values.specs.Values.{valuesOf}
-use Rattle.values.specs.Places.{Stands, StandsPattern, StandsBody, StandsTwo, StandsDraw, StandsAbsent, PastRow}
-use Rattle.values.specs.Answers.{Filled, setAnswer, IfDone}
-use Rattle.leaves.specs.Areas.{Gathering, Kept, setsIn, roomOf, bodyRoom}
-use Rattle.leaves.specs.Leaves.{rowsAnswer, combined}
-use Rattle.values.specs.declared.Env.{Env}
+use Rattle.meaning.specs.Values.{Values, rowOf}
+use Rattle.meaning.specs.Reading.{Answer, done, Reading, after, small, drawEach, read, gather}
+use Rattle.values.specs.Values.{Bound, Unchanged}
+use Rattle.values.specs.Places.{Stands, StandsRow, StandsPattern, StandsBody, StandsTwo, StandsDraw, StandsAbsent}
+use Rattle.values.specs.Answers.{Filled, setAnswer, testedAnswer, IfDone}
+use Rattle.values.specs.From.{From, names, sets, SoundFrom}
+use Rattle.steps.specs.Areas.{Gathering, Kept}
+use Rattle.steps.specs.Steps.{rowsAnswer, combined}
+use Rattle.reading.specs.Room.{roomOf, bodyRoom}
 use Rattle.values.specs.declared.Read.{Read}
-
--- ---- what is read from besides the words: the store, and the sets of the definitions known
-
-pub record From : Type 0 where
-  pub store : List ℕ
-  pub defs : List ℕ
-  pub known : ℕ
+use Rattle.values.specs.declared.Tested.{Tested}
 
 abbrev pub reading : From → Expr → Values → Reading RowSet
-reading f = read (namesHeld (certificates (f .store))) (setsIn (f .known) (f .defs))
+reading f = read (names f) (sets f)
 
 abbrev pub gathering : From → Body → Values → List Row → Reading (List Row)
-gathering f = gather (namesHeld (certificates (f .store))) (setsIn (f .known) (f .defs))
-
-pub record SoundFrom (f : From) : Type 0 where
-  pub store : soundStore (f .store) ≡ true
-  pub defs : (d : ℕ) → d < f .known → Filled (drop (setRoom * d) (f .defs))
+gathering f = gather (names f) (sets f)
 
 -- ---- an expression: whichever stands there is read as `a`, k draws being made before
 
-pub record Means (f : From) (ws : List ℕ) (at : ℕ) (env : Env) (k : ℕ) (a : Answer RowSet) : Type 0 where
-  pub says : (e : Expr) → Stands (f .known) (env .count) ws at e → reading f e (valuesOf env) k ≡ a
+pub record Means (f : From) (ws : List ℕ) (at count : ℕ) (vs : Values) (k : ℕ) (a : Answer RowSet) : Type 0 where
+  pub says : (e : Expr) → Stands (f .known) count ws at e → reading f e vs k ≡ a
 
-pub record AskExpr (f : From) (ws : List ℕ) (at : ℕ) (env : Env) (area : List ℕ) : Type 0 where
+pub record AskExpr (f : From) (ws : List ℕ) (at : ℕ) (values : List ℕ) (count : ℕ) (area : List ℕ) : Type 0 where
   pub sound : SoundFrom f
-  pub scope : env .count ≤ 16
+  pub bound : Bound values count
   pub e : Expr
-  pub here : Stands (f .known) (env .count) ws at e
+  pub here : Stands (f .known) count ws at e
   pub room : setRoom * roomOf e ≤ length area
 
-pub record SayExpr (f : From) (ws : List ℕ) (at : ℕ) (env : Env) (k : ℕ) (r : Read) (area : List ℕ) : Type 0 where
+pub record SayExpr (f : From) (ws : List ℕ) (at : ℕ) (values : List ℕ) (count k : ℕ) (r : Read) (valuesNow area : List ℕ) : Type 0 where
+  pub unchanged : Unchanged count values valuesNow
   pub filled : IfDone Filled r area
-  pub means : Means f ws at env k (setAnswer r area)
+  pub means : Means f ws at count (take count values) k (setAnswer r area)
+
+-- whether the row that the terms written at `row` come to belongs to it
+pub record MeansHas (f : From) (ws : List ℕ) (at row count : ℕ) (vs : Values) (k : ℕ) (a : Answer Bool) : Type 0 where
+  pub says : (e : Expr) → Stands (f .known) count ws at e → (ts : List Term) → StandsRow count ws row ts →
+      after (reading f e vs k) (λ s i. done (has s (rowOf vs ts)) i) ≡ a
+
+pub record AskHas (f : From) (ws : List ℕ) (at row : ℕ) (values : List ℕ) (count : ℕ) (area : List ℕ) : Type 0 where
+  pub ask : AskExpr f ws at values count area
+  pub ts : List Term
+  pub tested : StandsRow count ws row ts
+
+pub record SayExprHas (f : From) (ws : List ℕ) (at row : ℕ) (values : List ℕ) (count k : ℕ) (r : Tested) (valuesNow : List ℕ) : Type 0 where
+  pub unchanged : Unchanged count values valuesNow
+  pub means : MeansHas f ws at row count (take count values) k (testedAnswer r)
 
 -- ---- a union or a difference
 
-pub record MeansTwo (f : From) (ws : List ℕ) (at : ℕ) (minus : Bool) (env : Env) (k : ℕ) (a : Answer RowSet) : Type 0 where
-  pub says : (x y : Expr) → StandsTwo (f .known) (env .count) ws at x y →
-      after (reading f x (valuesOf env) k) (λ s i. after (reading f y (valuesOf env) i) (λ t. small (combined minus s t))) ≡ a
+pub record MeansTwo (f : From) (ws : List ℕ) (at : ℕ) (minus : Bool) (count : ℕ) (vs : Values) (k : ℕ) (a : Answer RowSet) : Type 0 where
+  pub says : (x y : Expr) → StandsTwo (f .known) count ws at x y →
+      after (reading f x vs k) (λ s i. after (reading f y vs i) (λ t. small (combined minus s t))) ≡ a
 
-pub record AskTwo (f : From) (ws : List ℕ) (at : ℕ) (env : Env) (area : List ℕ) : Type 0 where
+pub record AskTwo (f : From) (ws : List ℕ) (at : ℕ) (values : List ℕ) (count : ℕ) (area : List ℕ) : Type 0 where
   pub sound : SoundFrom f
-  pub scope : env .count ≤ 16
+  pub bound : Bound values count
   pub x : Expr
   pub y : Expr
-  pub here : StandsTwo (f .known) (env .count) ws at x y
+  pub here : StandsTwo (f .known) count ws at x y
   pub left : setRoom * roomOf x ≤ length area
   pub right : setRoom + setRoom * roomOf y ≤ length area
 
-pub record SayTwo (f : From) (ws : List ℕ) (at : ℕ) (minus : Bool) (env : Env) (k : ℕ) (r : Read) (area : List ℕ) : Type 0 where
+pub record SayTwo (f : From) (ws : List ℕ) (at : ℕ) (minus : Bool) (values : List ℕ) (count k : ℕ) (r : Read) (valuesNow area : List ℕ) : Type 0 where
+  pub unchanged : Unchanged count values valuesNow
   pub filled : IfDone Filled r area
-  pub means : MeansTwo f ws at minus env k (setAnswer r area)
+  pub means : MeansTwo f ws at minus count (take count values) k (setAnswer r area)
 
 -- ---- the guards of a comprehension: with the rows found so far they gather `a`. From `free` on the area is theirs
 
-pub record MeansBody (f : From) (ws : List ℕ) (at left : ℕ) (env : Env) (k : ℕ) (found : List Row) (a : Answer (List Row)) : Type 0 where
-  pub says : (b : Body) → StandsBody (f .known) (env .count) ws at left b → gathering f b (valuesOf env) found k ≡ a
+pub record MeansBody (f : From) (ws : List ℕ) (at left count : ℕ) (vs : Values) (k : ℕ) (found : List Row) (a : Answer (List Row)) : Type 0 where
+  pub says : (b : Body) → StandsBody (f .known) count ws at left b → gathering f b vs found k ≡ a
 
-pub record MeansDraw (f : From) (ws : List ℕ) (at left : ℕ) (env : Env) (k : ℕ) (found : List Row) (a : Answer (List Row)) : Type 0 where
-  pub says : (e : Expr) (p : List Slot) (b : Body) → StandsDraw (f .known) (env .count) ws at left e p b → gathering f (draw e p b) (valuesOf env) found k ≡ a
+pub record MeansDraw (f : From) (ws : List ℕ) (at left count : ℕ) (vs : Values) (k : ℕ) (found : List Row) (a : Answer (List Row)) : Type 0 where
+  pub says : (e : Expr) (p : List Slot) (b : Body) → StandsDraw (f .known) count ws at left e p b → gathering f (draw e p b) vs found k ≡ a
 
 -- the rows xs, drawn in turn: the pattern stands at one place, the guards that follow at another
-pub record MeansEach (f : From) (ws : List ℕ) (pattern rest left : ℕ) (env : Env) (xs : List Row) (k : ℕ) (found : List Row) (a : Answer (List Row)) : Type 0 where
-  pub says : (p : List Slot) (b : Body) → StandsPattern (env .count) ws pattern p → StandsBody (f .known) (env .count + fresh p) ws rest left b →
-      drawEach (gathering f b) p (valuesOf env) xs found k ≡ a
+pub record MeansEach (f : From) (ws : List ℕ) (pattern rest left count : ℕ) (vs : Values) (xs : List Row) (k : ℕ) (found : List Row) (a : Answer (List Row)) : Type 0 where
+  pub says : (p : List Slot) (b : Body) → StandsPattern count ws pattern p → StandsBody (f .known) (count + fresh p) ws rest left b →
+      drawEach (gathering f b) p vs xs found k ≡ a
 
-pub record MeansAbsent (f : From) (ws : List ℕ) (at left : ℕ) (env : Env) (k : ℕ) (found : List Row) (a : Answer (List Row)) : Type 0 where
-  pub says : (r : List Term) (e : Expr) (b : Body) → StandsAbsent (f .known) (env .count) ws at left r e b → gathering f (absent r e b) (valuesOf env) found k ≡ a
+pub record MeansAbsent (f : From) (ws : List ℕ) (at left count : ℕ) (vs : Values) (k : ℕ) (found : List Row) (a : Answer (List Row)) : Type 0 where
+  pub says : (r : List Term) (e : Expr) (b : Body) → StandsAbsent (f .known) count ws at left r e b → gathering f (absent r e b) vs found k ≡ a
 
 -- what all four ask
-pub record AskGuards (f : From) (env : Env) (area : List ℕ) (free : ℕ) : Type 0 where
+pub record AskGuards (f : From) (values : List ℕ) (count : ℕ) (area : List ℕ) (free : ℕ) : Type 0 where
   pub sound : SoundFrom f
-  pub scope : env .count ≤ 16
+  pub bound : Bound values count
   pub gathering : Gathering area
   pub behind : setRoom ≤ free
 
-pub record AskBody (f : From) (ws : List ℕ) (at left : ℕ) (env : Env) (area : List ℕ) (free : ℕ) : Type 0 where
-  pub ask : AskGuards f env area free
+pub record AskBody (f : From) (ws : List ℕ) (at left : ℕ) (values : List ℕ) (count : ℕ) (area : List ℕ) (free : ℕ) : Type 0 where
+  pub ask : AskGuards f values count area free
   pub b : Body
-  pub here : StandsBody (f .known) (env .count) ws at left b
+  pub here : StandsBody (f .known) count ws at left b
   pub room : free + setRoom * bodyRoom b ≤ length area
 
-pub record AskDraw (f : From) (ws : List ℕ) (at left : ℕ) (env : Env) (area : List ℕ) (free : ℕ) : Type 0 where
-  pub ask : AskGuards f env area free
+pub record AskDraw (f : From) (ws : List ℕ) (at left : ℕ) (values : List ℕ) (count : ℕ) (area : List ℕ) (free : ℕ) : Type 0 where
+  pub ask : AskGuards f values count area free
   pub e : Expr
   pub p : List Slot
   pub b : Body
-  pub here : StandsDraw (f .known) (env .count) ws at left e p b
+  pub here : StandsDraw (f .known) count ws at left e p b
   pub room : free + setRoom * roomOf e ≤ length area
   pub rest : free + setRoom + setRoom * bodyRoom b ≤ length area
 
 -- the set that is drawn from lies at `free`
-pub record AskEach (f : From) (ws : List ℕ) (pattern rest left : ℕ) (env : Env) (area : List ℕ) (free : ℕ) : Type 0 where
-  pub ask : AskGuards f env area free
+pub record AskEach (f : From) (ws : List ℕ) (pattern rest left : ℕ) (values : List ℕ) (count : ℕ) (area : List ℕ) (free : ℕ) : Type 0 where
+  pub ask : AskGuards f values count area free
   pub p : List Slot
   pub b : Body
-  pub slots : StandsPattern (env .count) ws pattern p
-  pub here : StandsBody (f .known) (env .count + fresh p) ws rest left b
+  pub slots : StandsPattern count ws pattern p
+  pub here : StandsBody (f .known) (count + fresh p) ws rest left b
   pub drawn : Filled (drop free area)
   pub room : free + setRoom + setRoom * bodyRoom b ≤ length area
 
-pub record AskAbsent (f : From) (ws : List ℕ) (at left : ℕ) (env : Env) (area : List ℕ) (free : ℕ) : Type 0 where
-  pub ask : AskGuards f env area free
+pub record AskAbsent (f : From) (ws : List ℕ) (at left : ℕ) (values : List ℕ) (count : ℕ) (area : List ℕ) (free : ℕ) : Type 0 where
+  pub ask : AskGuards f values count area free
   pub r : List Term
   pub e : Expr
   pub b : Body
-  pub here : StandsAbsent (f .known) (env .count) ws at left r e b
+  pub here : StandsAbsent (f .known) count ws at left r e b
   pub room : free + setRoom * roomOf e ≤ length area
   pub rest : free + setRoom * bodyRoom b ≤ length area
 
--- its operand is a name, which stands at `inner`, after the row
-pub record AskNamed (f : From) (ws : List ℕ) (at inner left : ℕ) (env : Env) (area : List ℕ) (free : ℕ) : Type 0 where
-  pub ask : AskAbsent f ws at left env area free
-  pub past : PastRow ws at inner
-  pub name : getD ws inner 0 ≡ 4
-
-pub record SayBody (f : From) (ws : List ℕ) (at left : ℕ) (env : Env) (k free : ℕ) (entry : List ℕ) (r : Read) (area : List ℕ) : Type 0 where
+-- what all four say, M being what is gathered
+pub record SayGuards (M : Answer (List Row) → Type 0) (values : List ℕ) (count free : ℕ) (entry : List ℕ) (r : Read) (valuesNow area : List ℕ) : Type 0 where
+  pub unchanged : Unchanged count values valuesNow
   pub gathering : IfDone Gathering r area
-  pub means : MeansBody f ws at left env k (rowsIn entry) (rowsAnswer r area)
   pub kept : Kept free entry area
+  pub means : M (rowsAnswer r area)
 
-pub record SayDraw (f : From) (ws : List ℕ) (at left : ℕ) (env : Env) (k free : ℕ) (entry : List ℕ) (r : Read) (area : List ℕ) : Type 0 where
-  pub gathering : IfDone Gathering r area
-  pub means : MeansDraw f ws at left env k (rowsIn entry) (rowsAnswer r area)
-  pub kept : Kept free entry area
+abbrev pub SayBody : From → List ℕ → ℕ → ℕ → List ℕ → ℕ → ℕ → ℕ → List ℕ → Read → List ℕ → List ℕ → Type 0
+SayBody f ws at left values count k free entry = SayGuards (MeansBody f ws at left count (take count values) k (rowsIn entry)) values count free entry
 
-pub record SayEach (f : From) (ws : List ℕ) (pattern rest left : ℕ) (env : Env) (k free : ℕ) (entry : List ℕ) (r : Read) (area : List ℕ) : Type 0 where
-  pub gathering : IfDone Gathering r area
-  pub means : MeansEach f ws pattern rest left env (rowsIn (drop free entry)) k (rowsIn entry) (rowsAnswer r area)
-  pub kept : Kept free entry area
+abbrev pub SayDraw : From → List ℕ → ℕ → ℕ → List ℕ → ℕ → ℕ → ℕ → List ℕ → Read → List ℕ → List ℕ → Type 0
+SayDraw f ws at left values count k free entry = SayGuards (MeansDraw f ws at left count (take count values) k (rowsIn entry)) values count free entry
 
-pub record SayAbsent (f : From) (ws : List ℕ) (at left : ℕ) (env : Env) (k free : ℕ) (entry : List ℕ) (r : Read) (area : List ℕ) : Type 0 where
-  pub gathering : IfDone Gathering r area
-  pub means : MeansAbsent f ws at left env k (rowsIn entry) (rowsAnswer r area)
-  pub kept : Kept free entry area
+abbrev pub SayEach : From → List ℕ → ℕ → ℕ → ℕ → List ℕ → ℕ → ℕ → ℕ → List ℕ → Read → List ℕ → List ℕ → Type 0
+SayEach f ws pattern rest left values count k free entry =
+    SayGuards (MeansEach f ws pattern rest left count (take count values) (rowsIn (drop free entry)) k (rowsIn entry)) values count free entry
+
+abbrev pub SayAbsent : From → List ℕ → ℕ → ℕ → List ℕ → ℕ → ℕ → ℕ → List ℕ → Read → List ℕ → List ℕ → Type 0
+SayAbsent f ws at left values count k free entry = SayGuards (MeansAbsent f ws at left count (take count values) k (rowsIn entry)) values count free entry
 
 -- ---- a whole definition or query
 

@@ -1,75 +1,80 @@
 // The readers of expressions and of guards, which call each other. An expression's set is left at the area's front; what lies behind it is free.
 // A comprehension gathers its rows at the front, and from `free` on the area is free: below it lie the sets that are drawn from.
-ghost use Rattle.reading.specs.Readers.{AskExpr, AskTwo, AskBody, AskDraw, AskEach, AskAbsent, AskNamed, SayExpr, SayTwo, SayBody, SayDraw, SayEach, SayAbsent, AskWhole, SayWhole};
-use layout::row::load;
+// The values of the `count` variables in scope are lent down the calls: a reader may write behind them and leaves them as they were.
+ghost use Rattle.values.specs.From.{from};
+ghost use Rattle.reading.specs.Readers.{AskExpr, AskTwo, AskBody, AskDraw, AskEach, AskAbsent, AskHas, SayExpr, SayTwo, SayBody, SayDraw, SayEach, SayAbsent, SayExprHas, AskWhole, SayWhole};
 use layout::row::wide;
-use leaves::combine;
-use leaves::has_row;
-use leaves::insert_head;
-use leaves::match_row;
-use leaves::read_definition;
-use leaves::read_rows;
-use names::name_has;
-use names::read_name;
+use leaves::leaf_has;
+use leaves::read_leaf;
+use policy::CODE_COMPREHENSION;
+use policy::CODE_DIFFERENCE;
+use policy::Guard;
+use policy::is_node;
 use refusals::COMPLEMENT_DRAWN;
 use rows::SET_ROOM;
 use sets::clear;
-use values::Belongs;
-use values::Env;
-use values::Guard;
+use steps::Drawn;
+use steps::combine;
+use steps::draw_next;
+use steps::has_row;
+use steps::insert_head;
+pub use values::Given;
 pub use values::Read;
+use values::Tested;
 use values::guard_at;
 use values::passes;
 use values::skip::skip_expr;
 use values::skip::skip_pattern;
 use values::skip::skip_row;
-use values::tick;
+use values::told;
 
 // An expression, by its code.
 fn read_expr(
     words: &[u32],
     at: usize,
-    env: Env,
-    store: &[u32],
-    defs: &[u32],
-    known: usize,
+    values: &mut [u32; 16],
+    count: usize,
     draws: u32,
     area: &mut [u32],
+    given: Given,
+    store: &[u32],
+    defs: &[u32],
 ) -> Read
-    requires { ⌜ AskExpr (record { store = now store; defs = now defs; known = known }) (now words) at env (now area) ⌝ }
-    ensures { λ r. ⌜ SayExpr (record { store = now (store .entry); defs = now (defs .entry); known = known }) (now (words .entry)) at env draws r (now (area .exit)) ⌝ }
+    requires { ⌜ AskExpr (from given (now store) (now defs)) (now words) at (now values) count (now area) ⌝ }
+    ensures { λ r. ⌜ SayExpr (from given (now (store .entry)) (now (defs .entry))) (now (words .entry)) at (now (values .entry)) count draws r (now (values .exit)) (now (area .exit)) ⌝ }
 {
     let code = words[at];
-    let body = at + 1;
-    // a literal's code is one more than the form of its set
-    if code <= 2 {
-        read_rows(words, body, code - 1, env, area);
-        return Read::Done(draws);
+    if !is_node(code) {
+        return read_leaf(words, at, values, count, draws, area, given, store, defs);
     }
-    if code == 3 {
-        let d = words[body];
-        read_definition(defs, known, d, area);
-        return Read::Done(draws);
+    if code == CODE_COMPREHENSION {
+        let left = words[at + 1];
+        clear(area, 0);
+        return read_guards(
+            words,
+            at + 2,
+            values,
+            count,
+            draws,
+            area,
+            given,
+            store,
+            defs,
+            left,
+            SET_ROOM,
+        );
     }
-    if code == 4 {
-        return read_name(words, body, env, store, draws, area);
-    }
-    if code <= 6 {
-        return read_two(words, body, code == 6, env, store, defs, known, draws, area);
-    }
-    let count = words[body];
-    clear(area, 0);
-    read_guards(
+    read_two(
         words,
-        at + 2,
+        at + 1,
+        values,
         count,
-        env,
-        store,
-        defs,
-        known,
         draws,
         area,
-        SET_ROOM,
+        given,
+        store,
+        defs,
+        code == CODE_DIFFERENCE,
     )
 }
 
@@ -77,30 +82,32 @@ fn read_expr(
 fn read_two(
     words: &[u32],
     at: usize,
-    minus: bool,
-    env: Env,
-    store: &[u32],
-    defs: &[u32],
-    known: usize,
+    values: &mut [u32; 16],
+    count: usize,
     draws: u32,
     area: &mut [u32],
+    given: Given,
+    store: &[u32],
+    defs: &[u32],
+    minus: bool,
 ) -> Read
-    requires { ⌜ AskTwo (record { store = now store; defs = now defs; known = known }) (now words) at env (now area) ⌝ }
-    ensures { λ r. ⌜ SayTwo (record { store = now (store .entry); defs = now (defs .entry); known = known }) (now (words .entry)) at minus env draws r (now (area .exit)) ⌝ }
+    requires { ⌜ AskTwo (from given (now store) (now defs)) (now words) at (now values) count (now area) ⌝ }
+    ensures { λ r. ⌜ SayTwo (from given (now (store .entry)) (now (defs .entry))) (now (words .entry)) at minus (now (values .entry)) count draws r (now (values .exit)) (now (area .exit)) ⌝ }
 {
-    match read_expr(words, at, env, store, defs, known, draws, area) {
+    match read_expr(words, at, values, count, draws, area, given, store, defs) {
         Read::Refused(n) => Read::Refused(n),
         Read::Done(used) => {
             let second = skip_expr(words, at);
             match read_expr(
                 words,
                 second,
-                env,
-                store,
-                defs,
-                known,
+                values,
+                count,
                 used,
                 &mut area[SET_ROOM..],
+                given,
+                store,
+                defs,
             ) {
                 Read::Refused(n) => Read::Refused(n),
                 Read::Done(total) => combine(minus, total, area),
@@ -113,47 +120,50 @@ fn read_two(
 fn read_guards(
     words: &[u32],
     at: usize,
-    left: u32,
-    env: Env,
-    store: &[u32],
-    defs: &[u32],
-    known: usize,
+    values: &mut [u32; 16],
+    count: usize,
     draws: u32,
     area: &mut [u32],
+    given: Given,
+    store: &[u32],
+    defs: &[u32],
+    left: u32,
     free: usize,
 ) -> Read
-    requires { ⌜ AskBody (record { store = now store; defs = now defs; known = known }) (now words) at left env (now area) free ⌝ }
-    ensures { λ r. ⌜ SayBody (record { store = now (store .entry); defs = now (defs .entry); known = known }) (now (words .entry)) at left env draws free (now (area .entry)) r (now (area .exit)) ⌝ }
+    requires { ⌜ AskBody (from given (now store) (now defs)) (now words) at left (now values) count (now area) free ⌝ }
+    ensures { λ r. ⌜ SayBody (from given (now (store .entry)) (now (defs .entry))) (now (words .entry)) at left (now (values .entry)) count draws free (now (area .entry)) r (now (values .exit)) (now (area .exit)) ⌝ }
 {
     if left == 0 {
-        return insert_head(words, at, env, draws, area);
+        return insert_head(words, at, values, count, draws, area);
     }
     let guard = guard_at(words, at);
     match guard {
         Guard::Draw => read_draw(
             words,
             at + 1,
-            left - 1,
-            env,
-            store,
-            defs,
-            known,
+            values,
+            count,
             draws,
             area,
+            given,
+            store,
+            defs,
+            left - 1,
             free,
         ),
         Guard::Same(_, _) | Guard::Different(_, _) => {
-            if passes(env, guard) {
+            if passes(values, count, guard) {
                 return read_guards(
                     words,
                     at + 5,
-                    left - 1,
-                    env,
-                    store,
-                    defs,
-                    known,
+                    values,
+                    count,
                     draws,
                     area,
+                    given,
+                    store,
+                    defs,
+                    left - 1,
                     free,
                 );
             }
@@ -162,13 +172,14 @@ fn read_guards(
         Guard::Absent => read_absent(
             words,
             at + 1,
-            left - 1,
-            env,
-            store,
-            defs,
-            known,
+            values,
+            count,
             draws,
             area,
+            given,
+            store,
+            defs,
+            left - 1,
             free,
         ),
     }
@@ -178,19 +189,30 @@ fn read_guards(
 fn read_draw(
     words: &[u32],
     at: usize,
-    left: u32,
-    env: Env,
-    store: &[u32],
-    defs: &[u32],
-    known: usize,
+    values: &mut [u32; 16],
+    count: usize,
     draws: u32,
     area: &mut [u32],
+    given: Given,
+    store: &[u32],
+    defs: &[u32],
+    left: u32,
     free: usize,
 ) -> Read
-    requires { ⌜ AskDraw (record { store = now store; defs = now defs; known = known }) (now words) at left env (now area) free ⌝ }
-    ensures { λ r. ⌜ SayDraw (record { store = now (store .entry); defs = now (defs .entry); known = known }) (now (words .entry)) at left env draws free (now (area .entry)) r (now (area .exit)) ⌝ }
+    requires { ⌜ AskDraw (from given (now store) (now defs)) (now words) at left (now values) count (now area) free ⌝ }
+    ensures { λ r. ⌜ SayDraw (from given (now (store .entry)) (now (defs .entry))) (now (words .entry)) at left (now (values .entry)) count draws free (now (area .entry)) r (now (values .exit)) (now (area .exit)) ⌝ }
 {
-    match read_expr(words, at, env, store, defs, known, draws, &mut area[free..]) {
+    match read_expr(
+        words,
+        at,
+        values,
+        count,
+        draws,
+        &mut area[free..],
+        given,
+        store,
+        defs,
+    ) {
         Read::Refused(n) => Read::Refused(n),
         Read::Done(before) => {
             let pattern = skip_expr(words, at);
@@ -201,72 +223,72 @@ fn read_draw(
             }
             draw_rows(
                 words,
-                pattern,
                 rest,
-                left,
-                env,
-                store,
-                defs,
-                known,
+                values,
+                count,
                 before,
                 area,
+                given,
+                store,
+                defs,
+                left,
                 free,
+                pattern,
             )
         }
     }
 }
 
-// The rows of the set at `free`, drawn in turn: for each that matches the pattern the guards that follow are read.
+// The rows of the set at `free`, drawn in turn: for each that matches the pattern the guards that follow, at `at`, are read.
 fn draw_rows(
     words: &[u32],
-    pattern: usize,
-    rest: usize,
-    left: u32,
-    env: Env,
-    store: &[u32],
-    defs: &[u32],
-    known: usize,
+    at: usize,
+    values: &mut [u32; 16],
+    count: usize,
     draws: u32,
     area: &mut [u32],
+    given: Given,
+    store: &[u32],
+    defs: &[u32],
+    left: u32,
     free: usize,
+    pattern: usize,
 ) -> Read
-    requires { ⌜ AskEach (record { store = now store; defs = now defs; known = known }) (now words) pattern rest left env (now area) free ⌝ }
-    ensures { λ r. ⌜ SayEach (record { store = now (store .entry); defs = now (defs .entry); known = known }) (now (words .entry)) pattern rest left env draws free (now (area .entry)) r (now (area .exit)) ⌝ }
+    requires { ⌜ AskEach (from given (now store) (now defs)) (now words) pattern at left (now values) count (now area) free ⌝ }
+    ensures { λ r. ⌜ SayEach (from given (now (store .entry)) (now (defs .entry))) (now (words .entry)) pattern at left (now (values .entry)) count draws free (now (area .entry)) r (now (values .exit)) (now (area .exit)) ⌝ }
 {
-    let count = wide(area[free + 1]);
+    let listed = wide(area[free + 1]);
     let mut used = draws;
     let mut i: usize = 0;
-    while i < count {
-        match tick(used) {
-            Read::Refused(n) => {
+    while i < listed {
+        match draw_next(words, pattern, values, count, used, area, free, i) {
+            Drawn::Refused(n) => {
                 return Read::Refused(n);
             }
-            Read::Done(d) => {
-                used = d;
+            Drawn::End(total) => {
+                return Read::Done(total);
             }
-        }
-        let row = load(area, free + 2 + 5 * i);
-        i += 1;
-        let got = match_row(words, pattern, env, row);
-        if got.ok {
-            let inner = got.env;
-            match read_guards(
-                words,
-                rest,
-                left,
-                inner,
-                store,
-                defs,
-                known,
-                used,
-                area,
-                free + SET_ROOM,
-            ) {
-                Read::Refused(n) => {
-                    return Read::Refused(n);
-                }
-                Read::Done(d) => {
-                    used = d;
+            Drawn::Matches { next, draws, scope } => {
+                i = next;
+                match read_guards(
+                    words,
+                    at,
+                    values,
+                    scope,
+                    draws,
+                    area,
+                    given,
+                    store,
+                    defs,
+                    left,
+                    free + SET_ROOM,
+                ) {
+                    Read::Refused(n) => {
+                        return Read::Refused(n);
+                    }
+                    Read::Done(d) => {
+                        used = d;
+                    }
                 }
             }
         }
@@ -274,109 +296,106 @@ fn draw_rows(
     Read::Done(used)
 }
 
-// An absent guard: its operand is read into the free area, which is free again for the guards that follow.
+// An absent guard: its row is looked for in its operand, and where it is missing the guards that follow are read.
 fn read_absent(
     words: &[u32],
     at: usize,
-    left: u32,
-    env: Env,
-    store: &[u32],
-    defs: &[u32],
-    known: usize,
+    values: &mut [u32; 16],
+    count: usize,
     draws: u32,
     area: &mut [u32],
+    given: Given,
+    store: &[u32],
+    defs: &[u32],
+    left: u32,
     free: usize,
 ) -> Read
-    requires { ⌜ AskAbsent (record { store = now store; defs = now defs; known = known }) (now words) at left env (now area) free ⌝ }
-    ensures { λ r. ⌜ SayAbsent (record { store = now (store .entry); defs = now (defs .entry); known = known }) (now (words .entry)) at left env draws free (now (area .entry)) r (now (area .exit)) ⌝ }
+    requires { ⌜ AskAbsent (from given (now store) (now defs)) (now words) at left (now values) count (now area) free ⌝ }
+    ensures { λ r. ⌜ SayAbsent (from given (now (store .entry)) (now (defs .entry))) (now (words .entry)) at left (now (values .entry)) count draws free (now (area .entry)) r (now (values .exit)) (now (area .exit)) ⌝ }
 {
-    let inner = skip_row(words, at);
-    if words[inner] == 4 {
-        return absent_name(
-            words,
-            at,
-            inner,
-            left,
-            env,
-            store,
-            defs,
-            known,
-            draws,
-            area,
-            free,
-        );
-    }
-    match read_expr(
+    let operand = skip_row(words, at);
+    match expr_has(
         words,
-        inner,
-        env,
-        store,
-        defs,
-        known,
+        operand,
+        values,
+        count,
         draws,
         &mut area[free..],
+        given,
+        store,
+        defs,
+        at,
     ) {
-        Read::Refused(n) => Read::Refused(n),
-        Read::Done(used) => {
-            if has_row(words, at, env, &area[free..]) {
-                return Read::Done(used);
-            }
-            let rest = skip_expr(words, inner);
-            read_guards(words, rest, left, env, store, defs, known, used, area, free)
+        Tested::Refused(n) => Read::Refused(n),
+        Tested::Has(used) => Read::Done(used),
+        Tested::Lacks(used) => {
+            let rest = skip_expr(words, operand);
+            read_guards(
+                words,
+                rest,
+                values,
+                count,
+                used,
+                area,
+                given,
+                store,
+                defs,
+                left,
+                free,
+            )
         }
     }
 }
 
-// An absent guard whose operand is the name at `inner`: its row is looked up in the store, and the name's rows are not read.
-fn absent_name(
+// Whether the row written at `row` belongs to an expression, which is read into the area unless it is a leaf.
+fn expr_has(
     words: &[u32],
     at: usize,
-    inner: usize,
-    left: u32,
-    env: Env,
-    store: &[u32],
-    defs: &[u32],
-    known: usize,
+    values: &mut [u32; 16],
+    count: usize,
     draws: u32,
     area: &mut [u32],
-    free: usize,
-) -> Read
-    requires { ⌜ AskNamed (record { store = now store; defs = now defs; known = known }) (now words) at inner left env (now area) free ⌝ }
-    ensures { λ r. ⌜ SayAbsent (record { store = now (store .entry); defs = now (defs .entry); known = known }) (now (words .entry)) at left env draws free (now (area .entry)) r (now (area .exit)) ⌝ }
+    given: Given,
+    store: &[u32],
+    defs: &[u32],
+    row: usize,
+) -> Tested
+    requires { ⌜ AskHas (from given (now store) (now defs)) (now words) at row (now values) count (now area) ⌝ }
+    ensures { λ r. ⌜ SayExprHas (from given (now (store .entry)) (now (defs .entry))) (now (words .entry)) at row (now (values .entry)) count draws r (now (values .exit)) ⌝ }
 {
-    match name_has(words, inner + 1, at, env, store) {
-        Belongs::Refused(n) => Read::Refused(n),
-        Belongs::Yes => Read::Done(draws),
-        Belongs::No => read_guards(
+    let code = words[at];
+    if !is_node(code) {
+        return leaf_has(
             words,
-            inner + 5,
-            left,
-            env,
-            store,
-            defs,
-            known,
+            at,
+            values,
+            count,
             draws,
             area,
-            free,
-        ),
+            given,
+            store,
+            defs,
+            row,
+        );
+    }
+    match read_expr(words, at, values, count, draws, area, given, store, defs) {
+        Read::Refused(n) => Tested::Refused(n),
+        Read::Done(used) => told(has_row(words, row, values, count, area), used),
     }
 }
 
-// A whole definition or query that was checked: a sound store, the sets of the `known` definitions before it, and the draws made so far.
+// A whole definition or query that was checked: a sound store, the sets of the definitions before it, and the draws made so far.
 pub fn read_whole(
     words: &[u32],
-    store: &[u32],
-    defs: &[u32],
-    known: usize,
     draws: u32,
     area: &mut [u32],
+    given: Given,
+    store: &[u32],
+    defs: &[u32],
 ) -> Read
-    requires { ⌜ AskWhole (record { store = now store; defs = now defs; known = known }) (now words) (now area) ⌝ }
-    ensures { λ r. ⌜ SayWhole (record { store = now (store .entry); defs = now (defs .entry); known = known }) (now (words .entry)) draws r (now (area .exit)) ⌝ }
+    requires { ⌜ AskWhole (from given (now store) (now defs)) (now words) (now area) ⌝ }
+    ensures { λ r. ⌜ SayWhole (from given (now (store .entry)) (now (defs .entry))) (now (words .entry)) draws r (now (area .exit)) ⌝ }
 {
-    let env = Env {
-        count: 0,
-        values: [0u32; 16],
-    };
-    read_expr(words, 0, env, store, defs, known, draws, area)
+    let mut values = [0u32; 16];
+    read_expr(words, 0, &mut values, 0, draws, area, given, store, defs)
 }

@@ -3,45 +3,42 @@ use Prim.Native.Nat.{ℕ, _+_, _≤_, _<_}
 use mathlib.Core.Path.{_≡_, refl, sym, ap, subst, _∙_}
 use mathlib.Core.Logic.{_⊎_, inl, inr}
 use mathlib.Core.Bool.{false, not}
-use mathlib.Core.List.{List, [], _∷_, _++_}
+use mathlib.Core.List.{List, _∷_, _++_}
 use native.Mathlib.Omega.{arith}
-use native.Mathlib.Numerals.{add-one}
 use lib.Dec.{eqb}
-use lib.ListN.{length, take, getD, set, length-take, List·getD-eq-default}
-use lib.Seq.{getD-take, take-suc-set}
+use lib.ListN.{length, take, getD, length-take, List·getD-eq-default}
+use lib.Seq.{getD-take}
 use Rattle.policy.specs.Syntax.{Term, atom, var, Slot, old, new, Body, head, draw, same, different, absent}
 use Rattle.policy.specs.Words.{termWords, slotWords, guardCount, exprWords, bodyWords}
+use Rattle.policy.specs.Held.{termOf}
 use Rattle.meaning.specs.Values.{Values, value}
-use Rattle.values.specs.Values.{valuesOf, termOf, termHeld, slotHeld, guardHeld, passing}
+use Rattle.values.specs.Values.{termHeld, slotHeld, guardHeld, passing}
 use Rattle.values.specs.Places.{At, SomeGuard, IsTerm, IsSlot, IsGuard}
 use Rattle.values.proofs.Places.{at-word, at-next, at-front, at-long, body-some, two-terms}
-use Rattle.values.specs.declared.Env.{Env}
-use Rattle.values.specs.declared.Term as Held-term
-use Rattle.values.specs.declared.Term.the-variants.{Atom, Variable}
-use Rattle.values.specs.declared.Slot as Held-slot
-use Rattle.values.specs.declared.Slot.the-variants.{Old, New}
-use Rattle.values.specs.declared.Guard as Held-guard
-use Rattle.values.specs.declared.Guard.the-variants.{Draw, Same, Different, Absent}
-use Rattle.values.proofs.Guard.{the-type}
+use Rattle.policy.specs.declared.Term as Held-term
+use Rattle.policy.specs.declared.Term.the-variants.{Atom, Variable}
+use Rattle.policy.specs.declared.Slot as Held-slot
+use Rattle.policy.specs.declared.Slot.the-variants.{Old, New}
+use Rattle.policy.specs.declared.Guard as Held-guard
+use Rattle.policy.specs.declared.Guard.the-variants.{Draw, Same, Different, Absent}
+use Rattle.policy.proofs.Guard.{the-type}
 use denote.Enum.Declared.{tagOf}
 
 -- ---- values
 
-pub value-atom : (e : Env) (a : ℕ) → a ≡ value (valuesOf e) (termOf (Atom a))
-unfolding value termOf
-value-atom e a = refl
+module _ {x : Held-term.Term} {v : ℕ} where
+  pub value-atom : (vs : Values) → x ≡ Atom v → v ≡ value vs (termOf x)
+  unfolding value termOf
+  value-atom vs is = rw is refl
 
-pub value-in : (e : Env) (v : ℕ) → v < e .count → getD (e .values) v 0 ≡ value (valuesOf e) (termOf (Variable v))
-unfolding valuesOf value termOf
-value-in e v h = sym (getD-take (e .count) (e .values) v 0 h)
+  module _ {i : ℕ} (values : List ℕ) (count : ℕ) (is : x ≡ Variable v) (index : i ≡ v) where
+    pub value-in : i < count → getD values i 0 ≡ value (take count values) (termOf x)
+    unfolding value termOf
+    value-in h = rw (is, ← index) (sym (getD-take count values i 0 h))
 
-pub value-out : (e : Env) (v : ℕ) → e .count ≤ v → 0 ≡ value (valuesOf e) (termOf (Variable v))
-unfolding valuesOf value termOf
-value-out e v h = sym (List·getD-eq-default (take (e .count) (e .values)) 0 {n = v} (omega (arith, length-take (e .count) (e .values))))
-
-pub more-values : (e r : Env) (v : ℕ) → length (e .values) ≡ 16 → e .count < 16 → r .values ≡ set (e .values) (e .count) v → r .count ≡ e .count + 1 → valuesOf r ≡ valuesOf e ++ (v ∷ [])
-unfolding valuesOf
-more-values e r v l h p q = rw (p, q, add-one) (take-suc-set (e .values) (e .count) v (omega arith))
+    pub value-out : count ≤ i → 0 ≡ value (take count values) (termOf x)
+    unfolding value termOf
+    value-out h = rw (is, ← index) (sym (List·getD-eq-default (take count values) 0 {n = i} (omega (arith, length-take count values))))
 
 term-back : (t : Term) → termOf (termHeld t) ≡ t
 unfolding termOf termHeld

@@ -1,20 +1,19 @@
 -- The place after a row, a pattern, an expression or a body.
 use Prim.Native.Nat.{ℕ, _+_, _-_, _*_, _≤_, _<_}
 use mathlib.Core.Path.{_≡_, refl, sym, ap, subst, _∙_}
-use mathlib.Core.Logic.{_⊎_, inl, inr}
+use mathlib.Core.Logic.{inl, inr}
+use mathlib.Core.Bool.{true, false}
 use mathlib.Core.List.{List, [], _∷_, _++_}
 use native.Mathlib.Omega.{arith}
-use lib.Dec.{eqb}
 use lib.ListN.{length, getD, length-append}
-use borrow.Author.Tests.{eqb-true, eqb-false}
 use Rattle.rows.specs.Word.{All}
-use Rattle.rows.proofs.Case.{Case, isTrue, isFalse, split}
-use Rattle.rows.specs.Name.{Polarity, polarityWord}
-use Rattle.policy.specs.Syntax.{Term, Slot, Expr, finite, cofinite, union, difference, Body, head, draw, same, different, absent}
+use Rattle.policy.specs.Syntax.{Term, Slot, Expr, union, difference, Body, head, draw, same, different, absent}
 use Rattle.policy.specs.Words.{termWords, each, termRowWords, slotWords, fresh, guardCount, exprWords, bodyWords}
 use Rattle.policy.specs.WellFormed.{FitRow}
-use Rattle.values.specs.Places.{At, patternWords, StandsRow, StandsRows, StandsPattern, Stands, StandsBody, StandsTwo, StandsDraw, StandsAbsent, SomeRow, SomeRows, SomeName, SomePattern, SomeExpr, SomeBody, PastRow, PastRows, PastPattern, PastExpr, PastBody}
-use Rattle.values.proofs.Places.{at-word, at-next, at-skip, at-front, at-long, term-length, row-length, slots-length, on-finite, on-cofinite, on-definition, on-listed, on-union, on-difference, on-comprehension, in-finite, in-cofinite, in-definition, in-listed, in-union, in-difference, in-comprehension, in-head, in-draw, in-same, in-different, in-absent, on-head, on-draw, on-absent, code-here, row-wide, pattern-wide}
+use Rattle.policy.specs.Decode.{isNode}
+use Rattle.values.specs.Places.{At, patternWords, StandsRow, StandsRows, StandsPattern, Stands, StandsBody, StandsTwo, StandsDraw, StandsAbsent, SomeRow, SomeRows, SomePattern, SomeLeaf, SomeExpr, SomeBody, PastRow, PastRows, PastPattern, PastLeaf, PastExpr, PastBody}
+use Rattle.values.proofs.Places.{at-word, at-next, at-skip, at-front, at-long, term-length, row-length, slots-length, row-wide, pattern-wide}
+use Rattle.values.proofs.Places.{union-or-difference, on-leaf, on-union, on-difference, on-comprehension, in-leaf, in-union, in-difference, in-comprehension, in-head, in-draw, in-same, in-different, in-absent, on-head, on-draw, on-absent}
 use Rattle.values.proofs.Held.{is-draw, is-absent}
 
 -- ---- a row, a pattern
@@ -156,80 +155,40 @@ module _ {m n : ℕ} {ws : List ℕ} {place : ℕ} where
 
 -- ---- an expression
 
-name-length : (t : Term) (k : ℕ) (p : Polarity) → length (termWords t ++ (k ∷ polarityWord p ∷ [])) ≡ 4
-name-length t k p = omega (arith, length-append (termWords t) (k ∷ polarityWord p ∷ []), term-length t)
-
 test-length : (x y : Term) (v : List ℕ) → length (termWords x ++ (termWords y ++ v)) ≡ 4 + length v
 test-length x y v = omega (arith, length-append (termWords x) (termWords y ++ v), length-append (termWords y) v, term-length x, term-length y)
 
--- a number that is one of two neighbours
-one-of : (a c : ℕ) → a ≤ c → c ≤ a + 1 → (c ≡ a) ⊎ (c ≡ a + 1)
-one-of a c h k = go (split (eqb c a))
-  where
-    go : Case (eqb c a) → (c ≡ a) ⊎ (c ≡ a + 1)
-    go (isTrue e) = inl (eqb-true c a e)
-    go (isFalse e) = let n = eqb-false c a e in inr (omega arith)
-
-module _ {m n : ℕ} {ws : List ℕ} {at : ℕ} {e : Expr} (P : Expr → Type 0) (s : Stands m n ws at e) where
-  on-rows : getD ws at 0 ≤ 2 → ((rs : List (List Term)) → P (finite rs)) → ((rs : List (List Term)) → P (cofinite rs)) → P e
-  on-rows h f g = elim (one-of 1 (getD ws at 0) (code-here s .0) h) [ inl c ↦ on-finite P s c f | inr c ↦ on-cofinite P s c g ]
-
-  on-two : 4 < getD ws at 0 → getD ws at 0 ≤ 6 → ((a b : Expr) → P (union a b)) → ((a b : Expr) → P (difference a b)) → P e
-  on-two l h f g = elim (one-of 5 (getD ws at 0) (omega arith) h) [ inl c ↦ on-union P s c f | inr c ↦ on-difference P s c g ]
+on-two : {m n : ℕ} {ws : List ℕ} {at : ℕ} {e : Expr} (P : Expr → Type 0) → Stands m n ws at e → isNode (getD ws at 0) ≡ true → (getD ws at 0 ≡ 7 → ⊥) →
+    ((a b : Expr) → P (union a b)) → ((a b : Expr) → P (difference a b)) → P e
+on-two {ws} {at} P s h k f g = elim (union-or-difference (getD ws at 0) h k) [ inl c ↦ on-union P s c f | inr c ↦ on-difference P s c g ]
 
 module _ {ws : List ℕ} {at : ℕ} where
-  -- codes 1 and 2
-  pub some-rows : SomeExpr ws at → getD ws at 0 ≤ 2 → SomeRows ws (at + 1)
-  some-rows x c =
-      on-rows (λ e. Stands (x .m) (x .n) ws at e → SomeRows ws (at + 1)) (x .here) c
-      (λ rs s. record { n = x .n; rs = rs; here = in-finite s }) (λ rs s. record { n = x .n; rs = rs; here = in-cofinite s }) (x .here)
+  -- a leaf
+  pub some-leaf : SomeExpr ws at → isNode (getD ws at 0) ≡ false → SomeLeaf ws at
+  some-leaf x c = on-leaf (λ e. Stands (x .m) (x .n) ws at e → SomeLeaf ws at) (x .here) c (λ y s. record { m = x .m; n = x .n; x = y; here = in-leaf s }) (x .here)
 
-  pub past-rows : {r : ℕ} → getD ws at 0 ≤ 2 → PastRows ws (at + 1) r → PastExpr ws at r
+  pub past-leaf : {r : ℕ} → isNode (getD ws at 0) ≡ false → PastLeaf ws at r → PastExpr ws at r
   unfolding exprWords
-  past-rows {r} c g = record {
-    past = λ m n e s.
-        on-rows (λ x. Stands m n ws at x → r ≡ at + length (exprWords x n)) s c
-        (λ rs h. let q = g .past n rs (in-finite h) in omega arith) (λ rs h. let q = g .past n rs (in-cofinite h) in omega arith) s;
-  }
-
-  -- codes 3 and 4
-  pub definition-inside : SomeExpr ws at → getD ws at 0 ≡ 3 → at + 1 < length ws
-  definition-inside x c = on-definition (λ e. Stands (x .m) (x .n) ws at e → at + 1 < length ws) (x .here) c (λ d s. in-definition s .inside) (x .here)
-
-  pub past-definition : getD ws at 0 ≡ 3 → PastExpr ws at (at + 2)
-  unfolding exprWords
-  past-definition c = record { past = λ m n e s. on-definition (λ x. at + 2 ≡ at + length (exprWords x n)) s c (λ d. refl) }
-
-  pub some-name : SomeExpr ws at → getD ws at 0 ≡ 4 → SomeName ws (at + 1)
-  some-name x c = on-listed (λ e. Stands (x .m) (x .n) ws at e → SomeName ws (at + 1)) (x .here) c (λ t k p s. record { t = t; m = k; p = p; words = in-listed s }) (x .here)
-
-  pub name-inside : SomeExpr ws at → getD ws at 0 ≡ 4 → at + 5 ≤ length ws
-  name-inside x c =
-      on-listed (λ e. Stands (x .m) (x .n) ws at e → at + 5 ≤ length ws) (x .here) c
-      (λ t k p s. let l = name-length t k p in omega (arith, at-long (omega arith) (in-listed s))) (x .here)
-
-  pub past-name : getD ws at 0 ≡ 4 → PastExpr ws at (at + 5)
-  unfolding exprWords
-  past-name c = record { past = λ m n e s. on-listed (λ x. at + 5 ≡ at + length (exprWords x n)) s c (λ t k p. let l = name-length t k p in omega arith) }
+  past-leaf {r} c g = record { past = λ m n e s. on-leaf (λ x. Stands m n ws at x → r ≡ at + length (exprWords x n)) s c (λ x h. g .past m n x (in-leaf h)) s }
 
   -- codes 5 and 6
-  pub some-first : SomeExpr ws at → 4 < getD ws at 0 → getD ws at 0 ≤ 6 → SomeExpr ws (at + 1)
+  pub some-first : SomeExpr ws at → isNode (getD ws at 0) ≡ true → (getD ws at 0 ≡ 7 → ⊥) → SomeExpr ws (at + 1)
   some-first x l h =
       on-two (λ e. Stands (x .m) (x .n) ws at e → SomeExpr ws (at + 1)) (x .here) l h
       (λ a b s. record { m = x .m; n = x .n; e = a; here = in-union s .left }) (λ a b s. record { m = x .m; n = x .n; e = a; here = in-difference s .left }) (x .here)
 
   module _ {second : ℕ} (past : PastExpr ws (at + 1) second) where
-    pub some-second : SomeExpr ws at → 4 < getD ws at 0 → getD ws at 0 ≤ 6 → SomeExpr ws second
+    pub some-second : SomeExpr ws at → isNode (getD ws at 0) ≡ true → (getD ws at 0 ≡ 7 → ⊥) → SomeExpr ws second
     some-second x l h =
         on-two (λ e. Stands (x .m) (x .n) ws at e → SomeExpr ws second) (x .here) l h
         (λ a b s. record { m = x .m; n = x .n; e = b; here = right-here past (in-union s) }) (λ a b s. record { m = x .m; n = x .n; e = b; here = right-here past (in-difference s) }) (x .here)
 
-    pub second-after : SomeExpr ws at → 4 < getD ws at 0 → getD ws at 0 ≤ 6 → at < second
+    pub second-after : SomeExpr ws at → isNode (getD ws at 0) ≡ true → (getD ws at 0 ≡ 7 → ⊥) → at < second
     second-after x l h =
         on-two (λ e. Stands (x .m) (x .n) ws at e → at < second) (x .here) l h
         (λ a b s. let q = past .past (x .m) (x .n) a (in-union s .left) in omega arith) (λ a b s. let q = past .past (x .m) (x .n) a (in-difference s .left) in omega arith) (x .here)
 
-    pub past-two : {r : ℕ} → 4 < getD ws at 0 → getD ws at 0 ≤ 6 → PastExpr ws second r → PastExpr ws at r
+    pub past-two : {r : ℕ} → isNode (getD ws at 0) ≡ true → (getD ws at 0 ≡ 7 → ⊥) → PastExpr ws second r → PastExpr ws at r
     unfolding exprWords
     past-two {r} l h g = record {
       past = λ m n e s.
@@ -238,19 +197,16 @@ module _ {ws : List ℕ} {at : ℕ} where
     }
 
   -- code 7
-  pub last-code : {m n : ℕ} {e : Expr} → Stands m n ws at e → 6 < getD ws at 0 → getD ws at 0 ≡ 7
-  last-code s h = let c = code-here s .1 in omega arith
-
-  pub some-body : SomeExpr ws at → 6 < getD ws at 0 → SomeBody ws (at + 2) (getD ws (at + 1) 0)
+  pub some-body : SomeExpr ws at → getD ws at 0 ≡ 7 → SomeBody ws (at + 2) (getD ws (at + 1) 0)
   some-body x h =
-      on-comprehension (λ e. Stands (x .m) (x .n) ws at e → SomeBody ws (at + 2) (getD ws (at + 1) 0)) (x .here) (last-code (x .here) h)
+      on-comprehension (λ e. Stands (x .m) (x .n) ws at e → SomeBody ws (at + 2) (getD ws (at + 1) 0)) (x .here) h
       (λ b s. record { m = x .m; n = x .n; b = b; here = in-comprehension s .body }) (x .here)
 
-  pub past-body : {r : ℕ} → 6 < getD ws at 0 → PastBody ws (at + 2) (getD ws (at + 1) 0) r → PastExpr ws at r
+  pub past-body : {r : ℕ} → getD ws at 0 ≡ 7 → PastBody ws (at + 2) (getD ws (at + 1) 0) r → PastExpr ws at r
   unfolding exprWords
   past-body {r} h g = record {
     past = λ m n e s.
-        on-comprehension (λ x. Stands m n ws at x → r ≡ at + length (exprWords x n)) s (last-code s h)
+        on-comprehension (λ x. Stands m n ws at x → r ≡ at + length (exprWords x n)) s h
         (λ b t. let q = g .past m n b (in-comprehension t .body) in omega arith) s;
   }
 

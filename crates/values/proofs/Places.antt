@@ -1,19 +1,26 @@
 -- What stands at a place, taken apart: the words that it begins with, and what stands inside it.
 use Prim.Native.Nat.{ℕ, zero, suc, _+_, _-_, _*_, _≤_, _<_}
 use mathlib.Core.Path.{_≡_, refl, sym, ap, subst, _∙_}
+use mathlib.Core.Logic.{_⊎_, inl, inr}
+use mathlib.Core.Bool.{true, false}
 use mathlib.Core.List.{List, [], _∷_, _++_, append-assoc}
 use native.Mathlib.Omega.{arith}
 use lib.ListN.{length, drop, getD, length-append, length-drop}
 use lib.Seq.{drop-drop, drop-append-seam, getD-drop}
-use Rattle.rows.specs.Name.{Polarity}
-use Rattle.policy.specs.Syntax.{Term, atom, var, Slot, old, new, Expr, finite, cofinite, definition, listed, union, difference, comprehension, Body, head, draw, same, different, absent}
+use lib.Dec.{leb, eqb}
+use borrow.Author.Tests.{leb-true, eqb-true, eqb-false}
+use Rattle.rows.proofs.Case.{Case, isTrue, isFalse, split, and-true, never}
+use Rattle.policy.specs.Leaf.{Leaf, leafCode, leafWords, LeafCode}
+use Rattle.policy.specs.Syntax.{Term, atom, var, Slot, old, new, Expr, leaf, union, difference, comprehension, Body, head, draw, same, different, absent}
 use Rattle.policy.specs.Words.{termWords, each, termRowWords, slotWords, fresh, guardCount, exprWords, bodyWords}
 use Rattle.policy.specs.WellFormed.{FitSlots, Fit}
+use Rattle.policy.specs.Decode.{Code, isLeaf, isUnion, isDifference, isComprehension, codeOf, isNode}
+use Rattle.policy.proofs.LeafDecoding.{leaf-coded}
 use Rattle.values.specs.Values.{termHeld, guardHeld}
-use Rattle.values.specs.Places.{At, nameWords, patternWords, StandsRow, StandsRows, StandsPattern, Stands, StandsBody, StandsTwo, StandsDraw, StandsAbsent, SomeRow, SomePattern, IsGuard}
-use Rattle.values.specs.declared.Term as Held-term
-use Rattle.values.specs.declared.Guard as Held-guard
-use Rattle.values.specs.declared.Guard.the-variants.{Draw, Same, Different, Absent}
+use Rattle.values.specs.Places.{At, patternWords, StandsRow, StandsPattern, StandsLeaf, Stands, StandsBody, StandsTwo, StandsDraw, StandsAbsent, SomeRow, SomePattern, IsGuard}
+use Rattle.policy.specs.declared.Term as Held-term
+use Rattle.policy.specs.declared.Guard as Held-guard
+use Rattle.policy.specs.declared.Guard.the-variants.{Draw, Same, Different, Absent}
 
 -- ---- words one after the other
 
@@ -58,11 +65,8 @@ slots-length n (old t ∷ p) = omega (arith, length-append (termWords t) (slotWo
 slots-length n (new ∷ p) = omega (arith, slots-length (n + 1) p)
 
 pub expr-some : (e : Expr) (n : ℕ) → 0 < length (exprWords e n)
-unfolding exprWords
-expr-some (finite rs) n = omega arith
-expr-some (cofinite rs) n = omega arith
-expr-some (definition d) n = omega arith
-expr-some (listed t m p) n = omega arith
+unfolding exprWords leafWords
+expr-some (leaf x) n = omega arith
 expr-some (union a b) n = omega arith
 expr-some (difference a b) n = omega arith
 expr-some (comprehension b) n = omega arith
@@ -77,118 +81,89 @@ body-some (absent r e b) n = omega arith
 
 -- ---- an expression by its code
 
-unfoldable pub codeOf : Expr → ℕ
-codeOf (finite rs) = 1
-codeOf (cofinite rs) = 2
-codeOf (definition d) = 3
-codeOf (listed t m p) = 4
-codeOf (union a b) = 5
-codeOf (difference a b) = 6
-codeOf (comprehension b) = 7
+unfoldable exprCode : Expr → ℕ
+exprCode (leaf x) = leafCode x
+exprCode (union a b) = 5
+exprCode (difference a b) = 6
+exprCode (comprehension b) = 7
 
-pub code-range : (e : Expr) → (1 ≤ codeOf e) × (codeOf e ≤ 7)
-unfolding codeOf
-code-range (finite rs) = (omega arith, omega arith)
-code-range (cofinite rs) = (omega arith, omega arith)
-code-range (definition d) = (omega arith, omega arith)
-code-range (listed t m p) = (omega arith, omega arith)
-code-range (union a b) = (omega arith, omega arith)
-code-range (difference a b) = (omega arith, omega arith)
-code-range (comprehension b) = (omega arith, omega arith)
-
-pub code-at : {ws : List ℕ} {at : ℕ} (n : ℕ) (e : Expr) → At ws at (exprWords e n) → getD ws at 0 ≡ codeOf e
-unfolding exprWords codeOf
-code-at n (finite rs) h = at-word h
-code-at n (cofinite rs) h = at-word h
-code-at n (definition d) h = at-word h
-code-at n (listed t m p) h = at-word h
+code-at : {ws : List ℕ} {at : ℕ} (n : ℕ) (e : Expr) → At ws at (exprWords e n) → getD ws at 0 ≡ exprCode e
+unfolding exprWords leafWords exprCode
+code-at n (leaf x) h = at-word h
 code-at n (union a b) h = at-word h
 code-at n (difference a b) h = at-word h
 code-at n (comprehension b) h = at-word h
 
 -- P of an expression with this code
-unfoldable Given : (Expr → Type 0) → ℕ → Type 0
-Given P zero = ⊥
-Given P (suc zero) = (rs : List (List Term)) → P (finite rs)
-Given P (suc (suc zero)) = (rs : List (List Term)) → P (cofinite rs)
-Given P (suc (suc (suc zero))) = (d : ℕ) → P (definition d)
-Given P (suc (suc (suc (suc zero)))) = (t : Term) (m : ℕ) (p : Polarity) → P (listed t m p)
-Given P (suc (suc (suc (suc (suc zero))))) = (a b : Expr) → P (union a b)
-Given P (suc (suc (suc (suc (suc (suc zero)))))) = (a b : Expr) → P (difference a b)
-Given P (suc (suc (suc (suc (suc (suc (suc n))))))) = (b : Body) → P (comprehension b)
+unfoldable Given : (Expr → Type 0) → Code → Type 0
+Given P (isLeaf l) = (x : Leaf) → P (leaf x)
+Given P isUnion = (a b : Expr) → P (union a b)
+Given P isDifference = (a b : Expr) → P (difference a b)
+Given P isComprehension = (b : Body) → P (comprehension b)
 
-by-code : (P : Expr → Type 0) (e : Expr) → Given P (codeOf e) → P e
-unfolding Given codeOf
-by-code P (finite rs) g = g rs
-by-code P (cofinite rs) g = g rs
-by-code P (definition d) g = g d
-by-code P (listed t m p) g = g t m p
+by-code : (P : Expr → Type 0) (e : Expr) → Given P (codeOf (exprCode e)) → P e
+unfolding Given exprCode codeOf
+by-code P (leaf x) g = subst (Given P) (leaf-coded x) g x
 by-code P (union a b) g = g a b
 by-code P (difference a b) g = g a b
 by-code P (comprehension b) g = g b
 
+-- a code that is no node's is a leaf's, if it is any
+record NoNode (c : ℕ) : Type 0 where
+  code : LeafCode
+  is : codeOf c ≡ isLeaf code
+
+no-node : (c : ℕ) → isNode c ≡ false → NoNode c
+unfolding isNode codeOf
+no-node zero e = record { code = _; is = refl }
+no-node (suc zero) e = record { code = _; is = refl }
+no-node (suc (suc zero)) e = record { code = _; is = refl }
+no-node (suc (suc (suc zero))) e = record { code = _; is = refl }
+no-node (suc (suc (suc (suc zero)))) e = record { code = _; is = refl }
+no-node (suc (suc (suc (suc (suc zero))))) e = never refl e
+no-node (suc (suc (suc (suc (suc (suc zero)))))) e = never refl e
+no-node (suc (suc (suc (suc (suc (suc (suc zero))))))) e = never refl e
+no-node (suc (suc (suc (suc (suc (suc (suc (suc n)))))))) e = record { code = _; is = refl }
+
+-- a node's code that is not a comprehension's is a union's or a difference's
+pub union-or-difference : (c : ℕ) → isNode c ≡ true → (c ≡ 7 → ⊥) → (c ≡ 5) ⊎ (c ≡ 6)
+unfolding isNode
+union-or-difference c e z = let h = and-true (leb 5 c) (leb c 7) e in go (split (eqb c 5)) (leb-true 5 c (h .0)) (leb-true c 7 (h .1))
+  where
+    go : Case (eqb c 5) → 5 ≤ c → c ≤ 7 → (c ≡ 5) ⊎ (c ≡ 6)
+    go (isTrue f) l k = inl (eqb-true c 5 f)
+    go (isFalse f) l k = let n = eqb-false c 5 f in inr (omega arith)
+
 module _ {m n : ℕ} {ws : List ℕ} {at : ℕ} {e : Expr} (P : Expr → Type 0) (s : Stands m n ws at e) where
-  on-code : (c : ℕ) → getD ws at 0 ≡ c → Given P c → P e
-  on-code c h g = by-code P e (subst (Given P) (sym h ∙ code-at n e (s .words)) g)
+  on-code : (c : ℕ) → getD ws at 0 ≡ c → Given P (codeOf c) → P e
+  on-code c h g = by-code P e (subst (λ (k : ℕ). Given P (codeOf k)) (sym h ∙ code-at n e (s .words)) g)
 
-  pub on-finite : getD ws at 0 ≡ 1 → ((rs : List (List Term)) → P (finite rs)) → P e
+  pub on-leaf : isNode (getD ws at 0) ≡ false → ((x : Leaf) → P (leaf x)) → P e
   unfolding Given
-  on-finite h g = on-code 1 h g
-
-  pub on-cofinite : getD ws at 0 ≡ 2 → ((rs : List (List Term)) → P (cofinite rs)) → P e
-  unfolding Given
-  on-cofinite h g = on-code 2 h g
-
-  pub on-definition : getD ws at 0 ≡ 3 → ((d : ℕ) → P (definition d)) → P e
-  unfolding Given
-  on-definition h g = on-code 3 h g
-
-  pub on-listed : getD ws at 0 ≡ 4 → ((t : Term) (k : ℕ) (p : Polarity) → P (listed t k p)) → P e
-  unfolding Given
-  on-listed h g = on-code 4 h g
+  on-leaf h g = let l = no-node (getD ws at 0) h in on-code (getD ws at 0) refl (subst (Given P) (sym (l .is)) g)
 
   pub on-union : getD ws at 0 ≡ 5 → ((a b : Expr) → P (union a b)) → P e
-  unfolding Given
+  unfolding Given codeOf
   on-union h g = on-code 5 h g
 
   pub on-difference : getD ws at 0 ≡ 6 → ((a b : Expr) → P (difference a b)) → P e
-  unfolding Given
+  unfolding Given codeOf
   on-difference h g = on-code 6 h g
 
   pub on-comprehension : getD ws at 0 ≡ 7 → ((b : Body) → P (comprehension b)) → P e
-  unfolding Given
+  unfolding Given codeOf
   on-comprehension h g = on-code 7 h g
 
 -- ---- what stands inside an expression
-
--- the definition's number is the word after the code
-pub record InDefinition (m : ℕ) (ws : List ℕ) (at d : ℕ) : Type 0 where
-  pub number : getD ws (at + 1) 0 ≡ d
-  pub known : d < m
-  pub inside : at + 1 < length ws
 
 pub record InComprehension (m n : ℕ) (ws : List ℕ) (at : ℕ) (b : Body) : Type 0 where
   pub body : StandsBody m n ws (at + 2) (getD ws (at + 1) 0) b
   pub inside : at + 2 < length ws
 
 module _ {m n : ℕ} {ws : List ℕ} {at : ℕ} where
-  pub in-finite : {rs : List (List Term)} → Stands m n ws at (finite rs) → StandsRows n ws (at + 1) rs
+  pub in-leaf : {x : Leaf} → Stands m n ws at (leaf x) → StandsLeaf m n ws at x
   unfolding Fit exprWords
-  in-finite s = record { words = at-next (s .words); fit = s .fit }
-
-  pub in-cofinite : {rs : List (List Term)} → Stands m n ws at (cofinite rs) → StandsRows n ws (at + 1) rs
-  unfolding Fit exprWords
-  in-cofinite s = record { words = at-next (s .words); fit = s .fit }
-
-  pub in-definition : {d : ℕ} → Stands m n ws at (definition d) → InDefinition m ws at d
-  unfolding Fit exprWords
-  in-definition s =
-      let h = at-next (s .words) in
-      record { number = at-word h; known = s .fit; inside = omega (arith, at-long (omega arith) h) }
-
-  pub in-listed : {t : Term} {k : ℕ} {p : Polarity} → Stands m n ws at (listed t k p) → At ws (at + 1) (nameWords t k p)
-  unfolding exprWords
-  in-listed s = at-next (s .words)
+  in-leaf s = record { words = s .words; fit = s .fit }
 
   pub in-union : {a b : Expr} → Stands m n ws at (union a b) → StandsTwo m n ws (at + 1) a b
   unfolding Fit exprWords
@@ -328,9 +303,6 @@ module _ {m n : ℕ} {ws : List ℕ} {at left : ℕ} {b : Body} (P : Body → Ty
     on-absent i g = on-guard Absent i g
 
 -- ---- inside the words
-
-pub code-here : {m n : ℕ} {ws : List ℕ} {at : ℕ} {e : Expr} → Stands m n ws at e → (1 ≤ getD ws at 0) × (getD ws at 0 ≤ 7)
-code-here {n} {e} s = subst (λ (c : ℕ). (1 ≤ c) × (c ≤ 7)) (sym (code-at n e (s .words))) (code-range e)
 
 pub inside : {m n : ℕ} {ws : List ℕ} {at : ℕ} {e : Expr} → Stands m n ws at e → at < length ws
 inside {n} {e} s = omega (arith, expr-some e n, at-long (expr-some e n) (s .words))

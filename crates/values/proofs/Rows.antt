@@ -12,13 +12,12 @@ use Rattle.layout.specs.Values.{wordsOf}
 use Rattle.policy.specs.Syntax.{Term, atom}
 use Rattle.policy.specs.Words.{termWords, each, termRowWords}
 use Rattle.meaning.specs.Values.{Values, value, rowOf}
-use Rattle.values.specs.Values.{valuesOf, termOf}
+use Rattle.policy.specs.Held.{termOf}
 use Rattle.values.specs.Places.{At, StandsRow, SomeRow, IsTerm}
 use Rattle.values.specs.Rows.{SayRow}
 use Rattle.values.proofs.Places.{at-next, at-skip, at-front, term-length, row-wide}
 use Rattle.values.proofs.Held.{held-value}
-use Rattle.values.specs.declared.Env.{Env}
-use Rattle.values.specs.declared.Term as Held-term
+use Rattle.policy.specs.declared.Term as Held-term
 
 nth-term : {ws : List ℕ} (at : ℕ) (ts : List Term) (j : ℕ) → At ws at (each termWords ts) → j < length ts → At ws (at + 2 * j) (termWords (getD ts j (atom 0)))
 unfolding each
@@ -42,16 +41,16 @@ unfolding rowOf
 row-of-length vs ts = length-map ts (value vs)
 
 -- the first j atoms are there
-pub record Rowing (ws : List ℕ) (at : ℕ) (env : Env) (atoms : List ℕ) (j : ℕ) : Type 0 where
+pub record Rowing (ws : List ℕ) (at : ℕ) (vs : Values) (atoms : List ℕ) (j : ℕ) : Type 0 where
   pub within : j ≤ getD ws at 0
   pub four : length atoms ≡ 4
-  pub means : (n : ℕ) (ts : List Term) → StandsRow n ws at ts → take j atoms ≡ take j (rowOf (valuesOf env) ts)
+  pub means : (n : ℕ) (ts : List Term) → StandsRow n ws at ts → take j atoms ≡ take j (rowOf vs ts)
 
-pub rowing-start : {ws : List ℕ} {at : ℕ} {env : Env} {atoms : List ℕ} → length atoms ≡ 4 → Rowing ws at env atoms 0
+pub rowing-start : {ws : List ℕ} {at : ℕ} {vs : Values} {atoms : List ℕ} → length atoms ≡ 4 → Rowing ws at vs atoms 0
 rowing-start four = record { within = omega arith; four = four; means = λ n ts s. refl }
 
-module _ {ws : List ℕ} {at : ℕ} {env : Env} (some : SomeRow ws at) {atoms : List ℕ} {j : ℕ} (iv : Rowing ws at env atoms j) where
-  pub rowing-next : {x : Held-term.Term} {a : ℕ} → j < getD ws at 0 → IsTerm ws (at + 1 + 2 * j) x → a ≡ value (valuesOf env) (termOf x) → Rowing ws at env (set atoms j a) (j + 1)
+module _ {ws : List ℕ} {at : ℕ} {vs : Values} (some : SomeRow ws at) {atoms : List ℕ} {j : ℕ} (iv : Rowing ws at vs atoms j) where
+  pub rowing-next : {x : Held-term.Term} {a : ℕ} → j < getD ws at 0 → IsTerm ws (at + 1 + 2 * j) x → a ≡ value vs (termOf x) → Rowing ws at vs (set atoms j a) (j + 1)
   rowing-next {x} {a} less i e =
       let w = row-wide (some .here) in
       let width = w .width in
@@ -62,14 +61,14 @@ module _ {ws : List ℕ} {at : ℕ} {env : Env} (some : SomeRow ws at) {atoms : 
         four = length-set atoms j a ∙ four;
         means = λ n ts s.
             let wt = row-wide s .width in
-            let l = row-of-length (valuesOf env) ts in
+            let l = row-of-length vs ts in
             let t : Term = getD ts j (atom 0) in
-            let v : getD (rowOf (valuesOf env) ts) j 0 ≡ a = nth-value (valuesOf env) ts j (omega arith) ∙ sym (held-value (valuesOf env) t (i .is t (term-here j s (omega arith)))) ∙ sym e in
+            let v : getD (rowOf vs ts) j 0 ≡ a = nth-value vs ts j (omega arith) ∙ sym (held-value vs t (i .is t (term-here j s (omega arith)))) ∙ sym e in
             rw (add-one) (take-suc-set atoms j a (omega arith) ∙ ap (λ (u : List ℕ). u ++ (a ∷ [])) (iv .means n ts s)
-            ∙ ap (λ (y : ℕ). take j (rowOf (valuesOf env) ts) ++ (y ∷ [])) (sym v) ∙ sym (take-suc (rowOf (valuesOf env) ts) j 0 (omega arith)));
+            ∙ ap (λ (y : ℕ). take j (rowOf vs ts) ++ (y ∷ [])) (sym v) ∙ sym (take-suc (rowOf vs ts) j 0 (omega arith)));
       }
 
-  pub rowing-end : getD ws at 0 ≤ j → SayRow ws at env (record { width = getD ws at 0; atoms = atoms })
+  pub rowing-end : getD ws at 0 ≤ j → SayRow ws at vs (record { width = getD ws at 0; atoms = atoms })
   unfolding held.rowOf wordsOf rowIn
   rowing-end all =
       let w = row-wide (some .here) in
@@ -83,6 +82,6 @@ module _ {ws : List ℕ} {at : ℕ} {env : Env} (some : SomeRow ws at) {atoms : 
         few = omega arith;
         means = λ n ts s.
             let wt = row-wide s .width in
-            let l = row-of-length (valuesOf env) ts in
-            subst (λ (k : ℕ). take k atoms ≡ take k (rowOf (valuesOf env) ts)) e (iv .means n ts s) ∙ take-all (getD ws at 0) (rowOf (valuesOf env) ts) (omega arith);
+            let l = row-of-length vs ts in
+            subst (λ (k : ℕ). take k atoms ≡ take k (rowOf vs ts)) e (iv .means n ts s) ∙ take-all (getD ws at 0) (rowOf vs ts) (omega arith);
       }

@@ -1,7 +1,7 @@
 -- What a reader answers: the number that the code gives, and the set that it leaves at the front of the area.
 use Prim.Native.Nat.{ℕ, _≤_}
 use mathlib.Core.Path.{_≡_}
-use mathlib.Core.Bool.{true}
+use mathlib.Core.Bool.{Bool, true, false}
 use mathlib.Core.List.{List, []}
 use lib.ListN.{length, getD}
 use Rattle.rows.specs.Sets.{RowSet}
@@ -9,6 +9,7 @@ use Rattle.rows.specs.Layout.{setRoom, rowsIn, setIn, soundSet}
 use Rattle.meaning.specs.Reading.{Answer, done, refused}
 use Rattle.values.specs.declared.Read.{Read}
 use Rattle.values.specs.declared.Read.the-variants.{Done, Refused}
+use Rattle.values.specs.declared.Tested as Tested
 
 -- a set lies at the area's front, with room for any other
 pub record Filled (area : List ℕ) : Type 0 where
@@ -29,6 +30,12 @@ setAnswer (Refused n) area = refused n
 unfoldable pub ticked : Read → Answer (Unit {0})
 ticked (Done k) = done tt k
 ticked (Refused n) = refused n
+
+-- whether a row belongs
+unfoldable pub testedAnswer : Tested.Tested → Answer Bool
+testedAnswer (Tested.the-variants.Has k) = done true k
+testedAnswer (Tested.the-variants.Lacks k) = done false k
+testedAnswer (Tested.the-variants.Refused n) = refused n
 
 -- what holds of the area if the reading is done
 unfoldable pub IfDone : (List ℕ → Type 0) → Read → List ℕ → Type 0

@@ -4,13 +4,14 @@ use mathlib.Core.Path.{_≡_}
 use mathlib.Core.List.{List, [], _∷_, _++_}
 use lib.ListN.{length, drop}
 use Rattle.rows.specs.Name.{Polarity, polarityWord}
+use Rattle.policy.specs.Leaf.{Leaf, leafWords, FitLeaf}
 use Rattle.policy.specs.Syntax.{Term, Slot, Expr, Body}
 use Rattle.policy.specs.Words.{termWords, each, termRowWords, slotWords, fresh, guardCount, exprWords, bodyWords}
 use Rattle.policy.specs.WellFormed.{FitRow, FitRows, FitPattern, Fit, FitBody}
 use Rattle.values.specs.Values.{termHeld, slotHeld, guardHeld}
-use Rattle.values.specs.declared.Term as Held-term
-use Rattle.values.specs.declared.Slot as Held-slot
-use Rattle.values.specs.declared.Guard as Held-guard
+use Rattle.policy.specs.declared.Term as Held-term
+use Rattle.policy.specs.declared.Slot as Held-slot
+use Rattle.policy.specs.declared.Guard as Held-guard
 
 -- these words stand there
 pub record At (ws : List ℕ) (at : ℕ) (u : List ℕ) : Type 0 where
@@ -40,6 +41,11 @@ pub record StandsRows (n : ℕ) (ws : List ℕ) (at : ℕ) (rs : List (List Term
 pub record StandsPattern (n : ℕ) (ws : List ℕ) (at : ℕ) (p : List Slot) : Type 0 where
   pub words : At ws at (patternWords n p)
   pub fit : FitPattern n p
+
+-- an expression that holds no other
+pub record StandsLeaf (m n : ℕ) (ws : List ℕ) (at : ℕ) (x : Leaf) : Type 0 where
+  pub words : At ws at (leafWords x)
+  pub fit : FitLeaf m n x
 
 pub record Stands (m n : ℕ) (ws : List ℕ) (at : ℕ) (e : Expr) : Type 0 where
   pub words : At ws at (exprWords e n)
@@ -88,6 +94,12 @@ pub record SomePattern (n : ℕ) (ws : List ℕ) (at : ℕ) : Type 0 where
   pub p : List Slot
   pub here : StandsPattern n ws at p
 
+pub record SomeLeaf (ws : List ℕ) (at : ℕ) : Type 0 where
+  pub m : ℕ
+  pub n : ℕ
+  pub x : Leaf
+  pub here : StandsLeaf m n ws at x
+
 pub record SomeExpr (ws : List ℕ) (at : ℕ) : Type 0 where
   pub m : ℕ
   pub n : ℕ
@@ -117,6 +129,9 @@ pub record PastRows (ws : List ℕ) (at r : ℕ) : Type 0 where
 
 pub record PastPattern (ws : List ℕ) (at r : ℕ) : Type 0 where
   pub past : (n : ℕ) (p : List Slot) → StandsPattern n ws at p → r ≡ at + length (patternWords n p)
+
+pub record PastLeaf (ws : List ℕ) (at r : ℕ) : Type 0 where
+  pub past : (m n : ℕ) (x : Leaf) → StandsLeaf m n ws at x → r ≡ at + length (leafWords x)
 
 pub record PastExpr (ws : List ℕ) (at r : ℕ) : Type 0 where
   pub past : (m n : ℕ) (e : Expr) → Stands m n ws at e → r ≡ at + length (exprWords e n)

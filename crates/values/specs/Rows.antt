@@ -5,13 +5,11 @@ use mathlib.Core.List.{List}
 use Rattle.layout.specs.Values as held
 use Rattle.layout.specs.declared.row.Row as Held-row
 use Rattle.policy.specs.Syntax.{Term}
-use Rattle.meaning.specs.Values.{rowOf}
-use Rattle.values.specs.Values.{valuesOf}
+use Rattle.meaning.specs.Values.{Values, rowOf}
 use Rattle.values.specs.Places.{StandsRow}
-use Rattle.values.specs.declared.Env.{Env}
 
 -- the row that the terms written there come to, in the code's form
-pub record SayRow (ws : List ℕ) (at : ℕ) (env : Env) (r : Held-row.Row) : Type 0 where
+pub record SayRow (ws : List ℕ) (at : ℕ) (vs : Values) (r : Held-row.Row) : Type 0 where
   pub some : 1 ≤ r .width
   pub few : r .width ≤ 4
-  pub means : (n : ℕ) (ts : List Term) → StandsRow n ws at ts → held.rowOf r ≡ rowOf (valuesOf env) ts
+  pub means : (n : ℕ) (ts : List Term) → StandsRow n ws at ts → held.rowOf r ≡ rowOf vs ts

@@ -1,25 +1,31 @@
--- What the values that the code hands about stand for.
+-- The values of variables as the readers lend them, and what the terms and guards that the code holds stand for.
+use Prim.Native.Nat.{ℕ, _≤_}
+use mathlib.Core.Path.{_≡_}
 use mathlib.Core.Bool.{Bool, false, not}
+use mathlib.Core.List.{List}
 use lib.Dec.{eqb}
-use lib.ListN.{take}
+use lib.ListN.{length, take}
 use Rattle.policy.specs.Syntax.{Term, atom, var, Slot, old, new, Body, head, draw, same, different, absent}
+use Rattle.policy.specs.Held.{termOf}
+use Rattle.policy.specs.declared.Term as Held-term
+use Rattle.policy.specs.declared.Term.the-variants.{Atom, Variable}
+use Rattle.policy.specs.declared.Slot as Held-slot
+use Rattle.policy.specs.declared.Slot.the-variants.{Old, New}
+use Rattle.policy.specs.declared.Guard as Held-guard
+use Rattle.policy.specs.declared.Guard.the-variants.{Draw, Same, Different, Absent}
 use Rattle.meaning.specs.Values.{Values, value}
-use Rattle.values.specs.declared.Env.{Env}
-use Rattle.values.specs.declared.Term as Held-term
-use Rattle.values.specs.declared.Term.the-variants.{Atom, Variable}
-use Rattle.values.specs.declared.Slot as Held-slot
-use Rattle.values.specs.declared.Slot.the-variants.{Old, New}
-use Rattle.values.specs.declared.Guard as Held-guard
-use Rattle.values.specs.declared.Guard.the-variants.{Draw, Same, Different, Absent}
 
-unfoldable pub valuesOf : Env → Values
-valuesOf e = take (e .count) (e .values)
+-- the first `count` of the values lent are those of the variables in scope
+pub record Bound (values : List ℕ) (count : ℕ) : Type 0 where
+  pub scope : count ≤ 16
+  pub long : 16 ≤ length values
 
--- the term that is held, and a term as it is held
-unfoldable pub termOf : Held-term.Term → Term
-termOf (Atom a) = atom a
-termOf (Variable i) = var i
+-- those are as they were; behind them a reader may write
+pub record Unchanged (count : ℕ) (before after : List ℕ) : Type 0 where
+  pub size : length after ≡ length before
+  pub front : take count after ≡ take count before
 
+-- a term as it is held
 unfoldable pub termHeld : Term → Held-term.Term
 termHeld (atom a) = Atom a
 termHeld (var i) = Variable i

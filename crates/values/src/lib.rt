@@ -1,30 +1,33 @@
-// The values that the readers hand about, and the terms, slots, guards and rows of terms that stand in the words.
+// Terms, slots, guards and rows of terms that stand in the words, and what they come to. The values of the variables in scope are the first `count` of the
+// sixteen that the readers lend each other, variable 0 first.
 pub mod skip;
 
 ghost use mathlib.Core.Path.{_≡_};
-ghost use mathlib.Core.List.{[], _∷_, _++_};
-ghost use Prim.Native.Nat.{_+_, _≤_, _<_};
-ghost use lib.ListN.{length};
+ghost use Prim.Native.Nat.{_+_, _≤_};
+ghost use lib.ListN.{length, take};
+ghost use Rattle.policy.specs.Held.{termOf};
 ghost use Rattle.meaning.specs.Reading.{tick};
 ghost use Rattle.meaning.specs.Values.{value};
-ghost use Rattle.values.specs.Values.{valuesOf, termOf, passing};
+ghost use Rattle.values.specs.Values.{Bound, passing};
 ghost use Rattle.values.specs.Places.{IsTerm, IsSlot, IsGuard, SomeRow, SomeGuard};
 ghost use Rattle.values.specs.Rows.{SayRow};
-ghost use Rattle.values.specs.Answers.{ticked};
+ghost use Rattle.values.specs.Answers.{ticked, testedAnswer};
+ghost use Rattle.meaning.specs.Reading.{done};
 use layout::row::Row;
 use layout::row::wide;
+use policy::GUARD_ABSENT;
+use policy::GUARD_DRAW;
+use policy::GUARD_SAME;
+use policy::Guard;
+use policy::Slot;
+use policy::TAG_ATOM;
+use policy::TAG_NEW;
+use policy::Term;
 use refusals::TOO_MANY_DRAWS;
 
-// The values of the variables in scope, variable 0 first.
-pub struct Env {
-    pub count: u32,
-    pub values: [u32; 16],
-}
-
-// Whether a pattern matched a row, and then the values with those of its new variables.
-pub struct Matched {
-    pub ok: bool,
-    pub env: Env,
+// The numbers that stay the same through a reading: how many definitions were read before.
+pub struct Given {
+    pub known: usize,
 }
 
 // The draws made so far, or the number of a refusal.
@@ -33,42 +36,14 @@ pub enum Read {
     Refused(u32),
 }
 
-// Whether a row belongs to a set, or the number of a refusal.
-pub enum Belongs {
-    Yes,
-    No,
+// Whether a row belongs to an expression, with the draws made so far; or the number of a refusal.
+pub enum Tested {
+    Has(u32),
+    Lacks(u32),
     Refused(u32),
 }
 
-pub enum Term {
-    Atom(u32),
-    Variable(u32),
-}
-
-pub enum Slot {
-    Old(Term),
-    New,
-}
-
-// A guard, with the terms that a test compares.
-pub enum Guard {
-    Draw,
-    Same(Term, Term),
-    Different(Term, Term),
-    Absent,
-}
-
 const MOST_DRAWS: u32 = 1000000;
-
-const TAG_ATOM: u32 = 0;
-
-const TAG_NEW: u32 = 2;
-
-pub const GUARD_DRAW: u32 = 1;
-
-const GUARD_SAME: u32 = 2;
-
-pub const GUARD_ABSENT: u32 = 4;
 
 // One draw more, unless as many were made as may be.
 pub fn tick(draws: u32) -> Read
@@ -78,6 +53,16 @@ pub fn tick(draws: u32) -> Read
         return Read::Refused(TOO_MANY_DRAWS);
     }
     Read::Done(draws + 1)
+}
+
+pub fn told(has: bool, draws: u32) -> Tested
+    ensures { λ r. ⌜ testedAnswer r ≡ done has draws ⌝ }
+{
+    if has {
+        Tested::Has(draws)
+    } else {
+        Tested::Lacks(draws)
+    }
 }
 
 pub fn term_at(words: &[u32], at: usize) -> Term
@@ -124,53 +109,35 @@ pub fn guard_at(words: &[u32], at: usize) -> Guard
 }
 
 // What a term comes to; a checked one names a variable in scope.
-pub fn value_of(env: Env, term: Term) -> u32
-    requires { ⌜ env .count ≤ 16 ⌝ }
-    ensures { λ r. ⌜ r ≡ value (valuesOf env) (termOf term) ⌝ }
+pub fn value_of(values: &[u32; 16], count: usize, term: Term) -> u32
+    requires { ⌜ Bound (now values) count ⌝ }
+    ensures { λ r. ⌜ r ≡ value (take count (now (values .entry))) (termOf term) ⌝ }
 {
     match term {
         Term::Atom(a) => a,
         Term::Variable(v) => {
-            let count = env.count;
-            if v < count {
-                let i = v as usize;
-                env.values[i]
-            } else {
-                0
-            }
+            let i = wide(v);
+            if i < count { values[i] } else { 0 }
         }
     }
 }
 
 // Whether a comparison passes: the two atoms are equal, or differ. A draw and an absent guard compare nothing; of them it says no.
-pub fn passes(env: Env, guard: Guard) -> bool
-    requires { ⌜ env .count ≤ 16 ⌝ }
-    ensures { λ r. ⌜ r ≡ passing (valuesOf env) guard ⌝ }
+pub fn passes(values: &[u32; 16], count: usize, guard: Guard) -> bool
+    requires { ⌜ Bound (now values) count ⌝ }
+    ensures { λ r. ⌜ r ≡ passing (take count (now (values .entry))) guard ⌝ }
 {
     match guard {
-        Guard::Same(x, y) => value_of(env, x) == value_of(env, y),
-        Guard::Different(x, y) => value_of(env, x) != value_of(env, y),
+        Guard::Same(x, y) => value_of(values, count, x) == value_of(values, count, y),
+        Guard::Different(x, y) => value_of(values, count, x) != value_of(values, count, y),
         Guard::Draw | Guard::Absent => false,
     }
 }
 
-// The values with one more behind them.
-pub fn with_value(env: Env, value: u32) -> Env
-    requires { ⌜ env .count < 16 ⌝ }
-    ensures { λ r. ⌜ (valuesOf r ≡ valuesOf env ++ (value ∷ [])) × (r .count ≡ env .count + 1) ⌝ }
-{
-    let count = env.count;
-    let at = count as usize;
-    let mut next = env;
-    next.values[at] = value;
-    next.count = count + 1;
-    next
-}
-
 // The row that the terms come to.
-pub fn row_of(words: &[u32], at: usize, env: Env) -> Row
-    requires { ⌜ (env .count ≤ 16) × SomeRow (now words) at ⌝ }
-    ensures { λ r. ⌜ SayRow (now (words .entry)) at env r ⌝ }
+pub fn row_of(words: &[u32], at: usize, values: &[u32; 16], count: usize) -> Row
+    requires { ⌜ Bound (now values) count × SomeRow (now words) at ⌝ }
+    ensures { λ r. ⌜ SayRow (now (words .entry)) at (take count (now (values .entry))) r ⌝ }
 {
     let width = words[at];
     let end = wide(width);
@@ -178,7 +145,7 @@ pub fn row_of(words: &[u32], at: usize, env: Env) -> Row
     let mut j: usize = 0;
     while j < end {
         let term = term_at(words, at + 1 + 2 * j);
-        atoms[j] = value_of(env, term);
+        atoms[j] = value_of(values, count, term);
         j += 1;
     }
     Row {

@@ -1,8 +1,12 @@
 // Past what stands in the words: the place after it.
 ghost use Prim.Native.Nat.{ℕ};
-ghost use Rattle.values.specs.Places.{SomeRow, SomePattern, SomeRows, SomeExpr, SomeBody, PastRow, PastPattern, PastRows, PastExpr, PastBody};
-use crate::GUARD_ABSENT;
-use crate::GUARD_DRAW;
+ghost use Rattle.values.specs.Places.{SomeRow, SomePattern, SomeRows, SomeLeaf, SomeExpr, SomeBody, PastRow, PastPattern, PastRows, PastLeaf, PastExpr, PastBody};
+use policy::CODE_COMPREHENSION;
+use policy::CODE_DEFINITION;
+use policy::CODE_NAME;
+use policy::GUARD_ABSENT;
+use policy::GUARD_DRAW;
+use policy::is_node;
 
 // A row: its width, and two words a term.
 pub fn skip_row(words: &[u32], at: usize) -> usize
@@ -37,26 +41,35 @@ fn skip_rows(words: &[u32], at: usize) -> usize
     next
 }
 
+// An expression that holds no other.
+fn skip_leaf(words: &[u32], at: usize) -> usize
+    requires { ⌜ SomeLeaf (now words) at ⌝ }
+    ensures { λ r. ⌜ PastLeaf (now (words .entry)) at r ⌝ }
+{
+    let code = words[at];
+    if code == CODE_DEFINITION {
+        return at + 2;
+    }
+    if code == CODE_NAME {
+        return at + 5;
+    }
+    skip_rows(words, at + 1)
+}
+
 pub fn skip_expr(words: &[u32], at: usize) -> usize
     requires { ⌜ SomeExpr (now words) at ⌝ }
     ensures { λ r. ⌜ PastExpr (now (words .entry)) at r ⌝ }
 {
     let code = words[at];
-    if code <= 2 {
-        return skip_rows(words, at + 1);
+    if !is_node(code) {
+        return skip_leaf(words, at);
     }
-    if code == 3 {
-        return at + 2;
+    if code == CODE_COMPREHENSION {
+        let left = words[at + 1];
+        return skip_guards(words, at + 2, left);
     }
-    if code == 4 {
-        return at + 5;
-    }
-    if code <= 6 {
-        let second = skip_expr(words, at + 1);
-        return skip_expr(words, second);
-    }
-    let left = words[at + 1];
-    skip_guards(words, at + 2, left)
+    let second = skip_expr(words, at + 1);
+    skip_expr(words, second)
 }
 
 // The guards left, and the head.

@@ -1,11 +1,12 @@
 -- What was checked fits, and the area has room for it.
+use native.Mathlib.Omega.{arith}
 use borrow.Author.Needs.{needs}
 use Rattle.reading.proofs.Whole.{ask-whole, say-whole}
 use Rattle.reading.proofs.read_whole.Statement.{statement}
 use Rattle.reading.proofs.read_whole.Tie as tie
 
 read-expr-requires : tie.Need-read-expr-requires
-read-expr-requires c κs = ask-whole (c .before .before .before .before .before .pre)
+read-expr-requires c κs = ask-whole (omega arith) (c .before .before .before .before .before .before .pre)
 
 returns : tie.Need-returns
 returns c = say-whole (c .before .before .read-expr .ensures)

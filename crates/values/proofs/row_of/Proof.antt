@@ -1,6 +1,7 @@
 -- The atoms passed are the values of the terms passed.
 use Prim.Native.Nat.{_-_}
 use native.Mathlib.Omega.{arith}
+use lib.ListN.{take}
 use borrow.Author.Needs.{needs}
 use Rattle.values.proofs.Places.{row-width}
 use Rattle.values.proofs.Rows.{Rowing, rowing-start, rowing-next, rowing-end}
@@ -8,10 +9,10 @@ use Rattle.values.proofs.row_of.Statement.{statement}
 use Rattle.values.proofs.row_of.Tie as tie
 
 abbrev Inv-loop : tie.InvT-loop
-Inv-loop words at env width end atoms₀ j₀ atoms j = Rowing words at env atoms j
+Inv-loop words at values count width end atoms₀ j₀ atoms j = Rowing words at (take count values) atoms j
 
 abbrev μ-loop : tie.MeasureT-loop
-μ-loop words at env width end atoms₀ j₀ atoms j = end - j
+μ-loop words at values count width end atoms₀ j₀ atoms j = end - j
 
 mul-width : tie.Need-mul-width Inv-loop μ-loop
 mul-width c = let w = row-width (c .before .pre .1) in let fits = c .before .good in omega arith

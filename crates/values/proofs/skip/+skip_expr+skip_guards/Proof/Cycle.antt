@@ -11,7 +11,8 @@ use Rattle.values.proofs.skip.skip_guards.Kinds as skip-guards-kinds
 use Rattle.values.proofs.skip.+skip_expr+skip_guards.Lts-skip_guards as skip-guards-lts
 use Rattle.values.proofs.skip.skip_pattern.Reads as skip-pattern-reads
 use Rattle.values.proofs.skip.skip_row.Reads as skip-row-reads
-use Rattle.values.proofs.skip.skip_rows.Reads as skip-rows-reads
+use Rattle.values.proofs.skip.skip_leaf.Reads as skip-leaf-reads
+use Rattle.policy.proofs.is_node.Reads as is-node-reads
 
 abbrev pub μ-skip-expr : Measures 1 skip-expr-kinds.ps ℕ
 μ-skip-expr κs a = length (a .0 .now) - a .1 .0
@@ -36,7 +37,7 @@ skip-guards-below t =
 
 -- what `skip_expr` knows of the functions that it calls
 abbrev pub skip-expr-claims : ℕ → skip-expr-lts.Claims
-skip-expr-claims t = (skip-rows-reads.Asked, skip-rows-reads.Learnt, skip-expr-below t, skip-expr.Post, skip-guards-below t, skip-guards.Post)
+skip-expr-claims t = (is-node-reads.Asked, is-node-reads.Learnt, skip-leaf-reads.Asked, skip-leaf-reads.Learnt, skip-guards-below t, skip-guards.Post, skip-expr-below t, skip-expr.Post)
 
 -- what `skip_guards` knows of the functions that it calls
 abbrev pub skip-guards-claims : ℕ → skip-guards-lts.Claims
