@@ -1,11 +1,9 @@
--- The query call's way through the definitions: what is left to read, and that it reads on as the definition of reading does.
-use Prim.Native.Nat.{ℕ, suc, _+_, _*_, _≤_, _<_}
+-- The query call's way through the definitions: what is left to read, and that it is read on as the definition of reading does.
+use Prim.Native.Nat.{ℕ, suc, _+_, _-_, _*_, _≤_, _<_}
 use mathlib.Core.Path.{_≡_, refl, sym, _∙_, ap, subst}
 use mathlib.Core.List.{List, [], _∷_, _++_}
 use native.Mathlib.Omega.{arith}
-use native.Mathlib.Numerals.{add-one}
-use lib.ListN.{length, getD, drop, drop-of-length-le}
-use lib.Seq.{drop-cons}
+use lib.ListN.{length, getD}
 use Rattle.refusals.specs.Table.{queryPart}
 use Rattle.rows.specs.Sets.{RowSet}
 use Rattle.rows.specs.Layout.{setIn, setWords, put, written}
@@ -13,292 +11,273 @@ use Rattle.rows.proofs.Lists.{length-snoc}
 use Rattle.policy.specs.Syntax.{Expr}
 use Rattle.policy.specs.Decode.{parse, parsed}
 use Rattle.policy.specs.Polarity.{Known, Verdict}
-use Rattle.policy.specs.Table.{Entry, table, readTable}
+use Rattle.policy.specs.Table.{Entry, entryAt, entryWords, table}
 use Rattle.policy.specs.Judgement.{checked, check, knownOf}
-use Rattle.policy.specs.Part.{noEntry, partWords}
-use Rattle.table.proofs.PartAnswers.{table-sound, definition-part}
-use Rattle.policy.proofs.Judging.{AcceptedDefinition, Accepted, none, one, check-accepted}
-use Rattle.meaning.specs.Evidence.{Evidence}
-use Rattle.meaning.specs.Reading.{done, refused, read}
+use Rattle.policy.proofs.Judging.{AcceptedDefinition, Accepted, none, one, AcceptedPair, check-accepted}
+use Rattle.table.specs.Entries.{entryPlace, entriesFrom}
+use Rattle.table.proofs.PartAnswers.{table-sound, inside, Listed, listed-of, length-entries}
+use Rattle.meaning.specs.Reading.{done, refused}
 use Rattle.values.specs.Answers.{Filled, setAnswer, IfDone}
-use Rattle.leaves.specs.Areas.{setsIn}
-use Rattle.reading.specs.Readers.{From, AskWhole, SayWhole}
+use Rattle.values.specs.From.{From, setsIn, names, sets, SoundFrom}
 use Rattle.values.specs.declared.Read.{Read}
 use Rattle.values.specs.declared.Read.the-variants as read
+use Rattle.reading.specs.Readers.{reading, AskWhole, SayWhole}
 use Rattle.demands.specs.Query.{Outcome, answered, declined, readFrom, answerArea}
 use Rattle.answering.specs.Reply.{replyTo}
 use Rattle.answering.specs.declared.Progress.{Progress}
 use Rattle.answering.specs.declared.Progress.the-variants.{Done, Stopped}
 use Rattle.answering.specs.declared.Reply.the-variants.{Answered, Refused}
-use Rattle.answering.specs.Steps.{namesIn, Ready, Placed, goesOn, PlacedIf, ReadDefinitions, ReadAll}
-use Rattle.answering.proofs.Placing.{sets-length, placed-more, sets-more}
+use Rattle.answering.specs.Steps.{Ready, ReadyPolicy, goesOn, SoundIf, ReadDefinitions, ReadAll}
+use Rattle.answering.proofs.Placing.{sets-length, sound-more, sets-more}
 
--- ---- what is left to read when d definitions are read
+-- ---- what is left to read when d of n definitions are read
 
-pub record Left (policy : List ℕ) (d : ℕ) (rest : List Expr) : Type 0 where
-  pub entries : List Entry
-  pub listed : readTable policy ≡ table entries
-  pub xs : List Entry
-  pub ks : List Known
-  pub ls : List Known
-  pub accepted : Accepted policy xs ks rest ls
-  pub known : length ks ≡ d
-  pub left : drop d entries ≡ xs
+pub record Left (policy : List ℕ) (n d : ℕ) (rest : List Expr) : Type 0 where
+  pub before : List Known
+  pub after : List Known
+  pub accepted : Accepted policy (entriesFrom (n - d) policy (entryPlace d)) before rest after
+  pub count : length before ≡ d
 
-pub all-left : (policy query : List ℕ) (es : List Expr) (q : Expr) (v : Verdict) → check policy query ≡ checked es q v → Left policy 0 es
-all-left policy query es q v h =
-    let a = check-accepted policy query es q v h in
-    record { entries = a .entries; listed = a .listed; xs = a .entries; ks = []; ls = a .known; accepted = a .definitions; known = refl; left = refl }
+accepted-length : {policy : List ℕ} {xs : List Entry} {ks ls : List Known} {es : List Expr} → Accepted policy xs ks es ls → length ls ≡ length ks + length xs
+accepted-length (none {ks = ks}) = omega arith
+accepted-length (one {x = x} {ks = ks} {e = e} a others) = omega (arith, accepted-length others, length-snoc ks (knownOf x e ks))
+
+-- of a policy that passed with some query
+module _ (policy query : List ℕ) {n : ℕ} (counted : getD policy 1 0 ≡ n) {es : List Expr} {q : Expr} {v : Verdict} (passes : check policy query ≡ checked es q v) where
+  pair : AcceptedPair policy query es q v
+  pair = check-accepted policy query es q v passes
+
+  entries-are : pair .entries ≡ entriesFrom n policy 2
+  entries-are = table-sound policy (pair .entries) (pair .listed) .are ∙ ap (λ (m : ℕ). entriesFrom m policy 2) counted
+
+  table-listed : Listed policy n
+  table-listed = listed-of policy n (sym (pair .listed ∙ ap table entries-are))
+
+  all-left : Left policy n 0 es
+  all-left =
+      let e : n ≡ n - 0 = omega arith in
+      let are = entries-are ∙ ap (λ (m : ℕ). entriesFrom m policy 2) e in
+      record { before = []; after = pair .known; accepted = subst (λ (xs : List Entry). Accepted policy xs [] es (pair .known)) are (pair .definitions); count = refl }
+
+  -- the query is read with all definitions known
+  query-parses : parse n query ≡ parsed q
+  query-parses =
+      let e : length (pair .known) ≡ n = omega (arith, accepted-length (pair .definitions), ap length entries-are ∙ length-entries n policy 2) in
+      subst (λ (m : ℕ). parse m query ≡ parsed q) e (pair .asked .parses)
 
 -- the first of several
 record First (policy : List ℕ) (x : Entry) (xs : List Entry) (ks : List Known) (es : List Expr) (ls : List Known) : Type 0 where
   e : Expr
-  rest : List Expr
-  is : es ≡ e ∷ rest
+  others : List Expr
+  is : es ≡ e ∷ others
   accepted : AcceptedDefinition policy ks x e
-  others : Accepted policy xs (ks ++ (knownOf x e ks ∷ [])) rest ls
+  rest : Accepted policy xs (ks ++ (knownOf x e ks ∷ [])) others ls
 
-first-of : {policy : List ℕ} {ys : List Entry} {ks ls : List Known} {es : List Expr} → Accepted policy ys ks es ls → (x : Entry) (xs : List Entry) → ys ≡ x ∷ xs → First policy x xs ks es ls
-first-of none x xs h = let z : _≡_ {A = ℕ} 0 1 = cc in absurd (omega arith)
-first-of {policy} (one {x = y} {xs = ys} {ks = ks} {ls = ls} {e = e} {es = es} a others) x xs h =
-    let f : y ≡ x = cc in
-    let g : ys ≡ xs = cc in
-    record {
-      e = e;
-      rest = es;
-      is = refl;
-      accepted = subst (λ (z : Entry). AcceptedDefinition policy ks z e) f a;
-      others = subst (λ (z : Entry). Accepted policy xs (ks ++ (knownOf z e ks ∷ [])) es ls) f (subst (λ (zs : List Entry). Accepted policy zs (ks ++ (knownOf y e ks ∷ [])) es ls) g others);
-    }
+first-of : {policy : List ℕ} {x : Entry} {xs : List Entry} {ks ls : List Known} {es : List Expr} → Accepted policy (x ∷ xs) ks es ls → First policy x xs ks es ls
+first-of (one {e = e} {es = es} a others) = record { e = e; others = es; is = refl; accepted = a; rest = others }
 
-pub record Next (policy query : List ℕ) (d : ℕ) (rest : List Expr) : Type 0 where
-  pub e : Expr
-  pub others : List Expr
-  pub is : rest ≡ e ∷ others
-  pub parses : parse d (partWords policy query d) ≡ parsed e
-  pub left : Left policy (d + 1) others
+record Next (policy : List ℕ) (n d : ℕ) (rest : List Expr) : Type 0 where
+  e : Expr
+  others : List Expr
+  is : rest ≡ e ∷ others
+  parses : parse d (entryWords policy (entryAt policy (entryPlace d))) ≡ parsed e
+  left : Left policy n (d + 1) others
 
-pub next : (policy query : List ℕ) (d : ℕ) (rest : List Expr) → d < getD policy 1 0 → Left policy d rest → Next policy query d rest
-next policy query d rest h l =
-    let count = table-sound policy (l .entries) (l .listed) .count in
-    let inside : d < length (l .entries) = omega arith in
-    let x : Entry = getD (l .entries) d noEntry in
-    let cut : l .xs ≡ x ∷ drop (suc d) (l .entries) = sym (l .left) ∙ drop-cons (l .entries) d noEntry inside in
-    let f = first-of (l .accepted) x (drop (suc d) (l .entries)) cut in
+next : {policy : List ℕ} {n d : ℕ} {rest : List Expr} → d < n → Left policy n d rest → Next policy n d rest
+unfolding entriesFrom
+next {policy} {n} {d} {rest} h l =
+    let x : Entry = entryAt policy (entryPlace d) in
+    let m : n - d ≡ suc (n - (d + 1)) = omega arith in
+    let p : entryPlace d + 4 ≡ entryPlace (d + 1) = omega arith in
+    let f = first-of (subst (λ (k : ℕ). Accepted policy (entriesFrom k policy (entryPlace d)) (l .before) rest (l .after)) m (l .accepted)) in
+    let c = l .count in
     record {
       e = f .e;
-      others = f .rest;
+      others = f .others;
       is = f .is;
-      parses = subst (λ (n : ℕ). parse n (partWords policy query d) ≡ parsed (f .e)) (l .known)
-          (subst (λ (ws : List ℕ). parse (length (l .ks)) ws ≡ parsed (f .e)) (sym (definition-part policy query (l .entries) d (l .listed) inside)) (f .accepted .parses));
+      parses = subst (λ (k : ℕ). parse k (entryWords policy x) ≡ parsed (f .e)) c (f .accepted .parses);
       left = record {
-        entries = l .entries;
-        listed = l .listed;
-        xs = drop (suc d) (l .entries);
-        ks = l .ks ++ (knownOf x (f .e) (l .ks) ∷ []);
-        ls = l .ls;
-        accepted = f .others;
-        known = length-snoc (l .ks) (knownOf x (f .e) (l .ks)) ∙ ap suc (l .known) ∙ sym (add-one d);
-        left = ap (λ (n : ℕ). drop n (l .entries)) (add-one d);
+        before = l .before ++ (knownOf x (f .e) (l .before) ∷ []);
+        after = l .after;
+        accepted = subst (λ (k : ℕ). Accepted policy (entriesFrom (n - (d + 1)) policy k) (l .before ++ (knownOf x (f .e) (l .before) ∷ [])) (f .others) (l .after)) p (f .rest);
+        count = omega (arith, length-snoc (l .before) (knownOf x (f .e) (l .before)));
       };
     }
 
--- none is left
-none-of : {policy : List ℕ} {ys : List Entry} {ks ls : List Known} {es : List Expr} → Accepted policy ys ks es ls → ys ≡ [] → es ≡ []
-none-of none h = refl
-none-of (one a others) h = let z : _≡_ {A = ℕ} 0 1 = cc in absurd (omega arith)
+none-of : {policy : List ℕ} {ks ls : List Known} {es : List Expr} → Accepted policy [] ks es ls → es ≡ []
+none-of none = refl
 
-pub none-left : (policy : List ℕ) (d : ℕ) (rest : List Expr) → getD policy 1 0 ≤ d → Left policy d rest → rest ≡ []
-none-left policy d rest h l =
-    let count = table-sound policy (l .entries) (l .listed) .count in
-    none-of (l .accepted) (sym (l .left) ∙ drop-of-length-le (l .entries) {i = d} (omega arith))
-
--- the query is read with all definitions known
-accepted-length : {policy : List ℕ} {xs : List Entry} {ks ls : List Known} {es : List Expr} → Accepted policy xs ks es ls → length ls ≡ length ks + length xs
-accepted-length (none {ks = ks}) = omega arith
-accepted-length (one {x = x} {xs = xs} {ks = ks} {e = e} a others) = let l = accepted-length others in let m = length-snoc ks (knownOf x e ks) in omega arith
-
-pub query-parses : (policy query : List ℕ) (es : List Expr) (q : Expr) (v : Verdict) → check policy query ≡ checked es q v → parse (getD policy 1 0) query ≡ parsed q
-query-parses policy query es q v h =
-    let a = check-accepted policy query es q v h in
-    let count = table-sound policy (a .entries) (a .listed) .count in
-    let l = accepted-length (a .definitions) in
-    subst (λ (n : ℕ). parse n query ≡ parsed q) (let e : length (a .known) ≡ getD policy 1 0 = omega arith in e) (a .asked .parses)
-
-pub checked-header : (policy query : List ℕ) (es : List Expr) (q : Expr) (v : Verdict) → check policy query ≡ checked es q v → (2 ≤ length policy) × (getD policy 1 0 ≤ 16)
-checked-header policy query es q v h =
-    let a = check-accepted policy query es q v h in
-    let t = table-sound policy (a .entries) (a .listed) .header in
-    (t .two, t .count)
+none-left : {policy : List ℕ} {n d : ℕ} {rest : List Expr} → n ≤ d → Left policy n d rest → rest ≡ []
+unfolding entriesFrom
+none-left {policy} {n} {d} {rest} h l =
+    let m : n - d ≡ 0 = omega arith in
+    none-of (subst (λ (k : ℕ). Accepted policy (entriesFrom k policy (entryPlace d)) (l .before) rest (l .after)) m (l .accepted))
 
 -- ---- reading on
 
-read-done : (names : Evidence) (e : Expr) (others : List Expr) (q : Expr) (v : Verdict) (sets : List RowSet) (k : ℕ) (s : RowSet) (j : ℕ) → read names sets e [] k ≡ done s j →
-    readFrom names (e ∷ others) q v sets k ≡ readFrom names others q v (sets ++ (s ∷ [])) j
-unfolding readFrom
-read-done names e others q v sets k s j h = rw (h, readFrom)
+module _ (f : From) (e : Expr) (others : List Expr) (q : Expr) (v : Verdict) (k : ℕ) where
+  read-done : {s : RowSet} {j : ℕ} → reading f e [] k ≡ done s j → readFrom (names f) (e ∷ others) q v (sets f) k ≡ readFrom (names f) others q v (sets f ++ (s ∷ [])) j
+  unfolding readFrom
+  read-done h = rw (h, readFrom)
 
-read-refused : (names : Evidence) (e : Expr) (others : List Expr) (q : Expr) (v : Verdict) (sets : List RowSet) (k n : ℕ) → read names sets e [] k ≡ refused n →
-    readFrom names (e ∷ others) q v sets k ≡ declined n (length sets)
-unfolding readFrom
-read-refused names e others q v sets k n h = rw (h, readFrom)
+  read-refused : {n : ℕ} → reading f e [] k ≡ refused n → readFrom (names f) (e ∷ others) q v (sets f) k ≡ declined n (length (sets f))
+  unfolding readFrom
+  read-refused h = rw (h, readFrom)
 
--- d definitions are read, with so many draws
-pub record Rest (store policy : List ℕ) (es : List Expr) (q : Expr) (v : Verdict) (d draws : ℕ) (definitions : List ℕ) : Type 0 where
+module _ (f : From) (q : Expr) (v : Verdict) (k : ℕ) where
+  query-done : {s : RowSet} {j : ℕ} → reading f q [] k ≡ done s j → readFrom (names f) [] q v (sets f) k ≡ answered v j s
+  unfolding readFrom
+  query-done h = rw (h, readFrom)
+
+  query-declined : {n : ℕ} → reading f q [] k ≡ refused n → readFrom (names f) [] q v (sets f) k ≡ declined n queryPart
+  unfolding readFrom
+  query-declined h = rw (h, readFrom)
+
+pub done-filled : {f : From} {ws : List ℕ} {k : ℕ} {area : List ℕ} {r : Read} {total : ℕ} → SayWhole f ws k r area → r ≡ read.Done total → Filled area
+unfolding IfDone
+done-filled {area = area} say e = subst (λ (x : Read). IfDone Filled x area) e (say .filled)
+
+-- ---- the definitions
+
+pub ready-listed : {store policy query definitions scratch : List ℕ} {n : ℕ} → Ready store policy query definitions scratch → getD policy 1 0 ≡ n → Listed policy n
+ready-listed {policy = policy} {query = query} ready counted = table-listed policy query counted (ready .passes)
+
+module _ {store policy : List ℕ} {count : ℕ} {definitions scratch : List ℕ} (ready : ReadyPolicy store policy count definitions scratch) {d : ℕ} (more : d < count) where
+  listed : Listed policy count
+  listed = ready-listed (ready .ready) (ready .counted)
+
+  pub number-small : d ≤ 15
+  number-small = omega (arith, listed .few)
+
+  -- a definition has its words in the policy, and its place in the area
+  pub words-inside : (d ≤ 15) × (entryPlace d + 4 ≤ length policy) × inside policy (entryAt policy (entryPlace d))
+  words-inside = (number-small, omega (arith, listed .fits), listed .parts d more)
+
+  pub place-inside : {n : ℕ} → n ≡ length definitions → 642 * d + 642 ≤ n
+  place-inside e = let room = ready .ready .room in omega (arith, number-small)
+
+-- the definitions before number `f .known` are read, with so many draws
+pub record Rest (policy : List ℕ) (count : ℕ) (f : From) (draws : ℕ) (es : List Expr) (q : Expr) (v : Verdict) : Type 0 where
   pub rest : List Expr
-  pub left : Left policy d rest
-  pub goes : readFrom (namesIn store) es q v [] 0 ≡ readFrom (namesIn store) rest q v (setsIn d definitions) draws
+  pub left : Left policy count (f .known) rest
+  pub goes : readFrom (names f) es q v [] 0 ≡ readFrom (names f) rest q v (sets f) draws
 
-pub record Going (store policy query : List ℕ) (count d draws : ℕ) (definitions : List ℕ) : Type 0 where
-  pub few : d ≤ count
-  pub placed : Placed d definitions
-  pub means : (es : List Expr) (q : Expr) (v : Verdict) → check policy query ≡ checked es q v → Rest store policy es q v d draws definitions
+pub record ReadSoFar (policy : List ℕ) (count : ℕ) (f : From) (draws : ℕ) : Type 0 where
+  pub few : f .known ≤ count
+  pub sound : SoundFrom f
+  pub means : (query : List ℕ) (es : List Expr) (q : Expr) (v : Verdict) → check policy query ≡ checked es q v → Rest policy count f draws es q v
 
-module _ (store policy query : List ℕ) (count : ℕ) (is : getD policy 1 0 ≡ count) where
-  pub going-starts : (definitions : List ℕ) → Going store policy query count 0 0 definitions
-  unfolding setsIn
-  going-starts definitions = record {
-    few = omega arith;
-    placed = λ i h. absurd (omega arith);
-    means = λ es q v h. record { rest = es; left = all-left policy query es q v h; goes = refl };
-  }
+pub none-read : {store policy : List ℕ} {count : ℕ} {definitions scratch : List ℕ} → ReadyPolicy store policy count definitions scratch →
+    ReadSoFar policy count (record { store = store; defs = definitions; known = 0 }) 0
+unfolding setsIn
+none-read {policy = policy} ready = record {
+  few = omega arith;
+  sound = record { store = ready .ready .sound; defs = λ d h. absurd (omega arith) };
+  means = λ query es q v h. record { rest = es; left = all-left policy query (ready .counted) h; goes = refl };
+}
 
-  module _ (d draws : ℕ) (definitions : List ℕ) (going : Going store policy query count d draws definitions) where
-    pub asks : (scratch : List ℕ) → (definitions₀ scratch₀ : List ℕ) → Ready store policy query definitions₀ scratch₀ → d < count → length scratch ≡ length scratch₀ → (words : List ℕ) →
-        words ≡ partWords policy query d → AskWhole (record { store = store; defs = definitions; known = d }) words scratch
-    asks scratch definitions₀ scratch₀ ready h l words w =
-        let r = going .means (ready .es) (ready .q) (ready .v) (ready .passes) in
-        let n = next policy query d (r .rest) (omega arith) (r .left) in
-        let space = ready .space in
+module _ {policy : List ℕ} {count : ℕ} {f : From} {draws : ℕ} (before : ReadSoFar policy count f draws) where
+  module _ (more : f .known < count) {words : List ℕ} (is : words ≡ entryWords policy (entryAt policy (entryPlace (f .known)))) where
+    pub next-asked : {definitions₀ scratch₀ scratch : List ℕ} → ReadyPolicy (f .store) policy count definitions₀ scratch₀ → length scratch ≡ length scratch₀ → AskWhole f words scratch
+    next-asked ready size =
+        let n = next more (before .means (ready .query) (ready .ready .es) (ready .ready .q) (ready .ready .v) (ready .ready .passes) .left) in
+        let space = ready .ready .space in
         record {
-          sound = record { store = ready .sound; defs = going .placed };
+          sound = before .sound;
           e = n .e;
-          parses = subst (λ (ws : List ℕ). parse d ws ≡ parsed (n .e)) (sym w) (n .parses);
+          parses = rw is (n .parses);
           long = omega arith;
         }
 
-    module _ (words scratch : List ℕ) (is-part : words ≡ partWords policy query d) (inside : d < count) where
-      pub goes-on : (r : Read) → SayWhole (record { store = store; defs = definitions; known = d }) words draws r scratch → (total : ℕ) → r ≡ read.Done total →
-          642 * d + 642 ≤ length definitions → (after : List ℕ) → after ≡ put (642 * d) (setWords (setIn scratch)) definitions → Going store policy query count (d + 1) total after
-      unfolding IfDone setAnswer
-      goes-on r said total is-done room after e = let say = subst (λ (x : Read). SayWhole (record { store = store; defs = definitions; known = d }) words draws x scratch) is-done said in subst (λ (z : List ℕ). Going store policy query count (d + 1) total z) (sym e) (record {
+    module _ {r : Read} {scratch : List ℕ} (said : SayWhole f words draws r scratch) where
+      -- the next definition's reading comes to what the code answered
+      next-means : (query : List ℕ) (es : List Expr) (q : Expr) (v : Verdict) → check policy query ≡ checked es q v →
+          (e : Expr) × (others : List Expr) × (readFrom (names f) es q v [] 0 ≡ readFrom (names f) (e ∷ others) q v (sets f) draws) × (reading f e [] draws ≡ setAnswer r scratch) × Left policy count (f .known + 1) others
+      next-means query es q v h =
+          let b = before .means query es q v h in
+          let n = next more (b .left) in
+          (n .e, n .others, b .goes ∙ ap (λ (xs : List Expr). readFrom (names f) xs q v (sets f) draws) (n .is), said .means (n .e) (rw is (n .parses)), n .left)
+
+      pub next-read : {total : ℕ} {definitions : List ℕ} → r ≡ read.Done total → 642 * f .known + 642 ≤ length (f .defs) → definitions ≡ put (642 * f .known) (setWords (setIn scratch)) (f .defs) →
+          ReadSoFar policy count (record { store = f .store; defs = definitions; known = f .known + 1 }) total
+      unfolding setAnswer
+      next-read {total} is-done room e = subst (λ (z : List ℕ). ReadSoFar policy count (record { store = f .store; defs = z; known = f .known + 1 }) total) (sym e) (record {
         few = omega arith;
-        placed = placed-more definitions scratch d (going .placed) (say .filled) room;
-        means = λ es q v h.
-            let r = going .means es q v h in
-            let n = next policy query d (r .rest) (omega arith) (r .left) in
-            let is-read : read (namesIn store) (setsIn d definitions) (n .e) [] draws ≡ done (setIn scratch) total =
-            say .means (n .e) (subst (λ (ws : List ℕ). parse d ws ≡ parsed (n .e)) (sym is-part) (n .parses)) in
+        sound = sound-more (before .sound) (done-filled said is-done) room;
+        means = λ query es q v h.
+            let n = next-means query es q v h in
             record {
-              rest = n .others;
-              left = n .left;
-              goes = r .goes ∙ ap (λ (xs : List Expr). readFrom (namesIn store) xs q v (setsIn d definitions) draws) (n .is)
-                  ∙ read-done (namesIn store) (n .e) (n .others) q v (setsIn d definitions) draws (setIn scratch) total is-read
-                  ∙ ap (λ (sets : List RowSet). readFrom (namesIn store) (n .others) q v sets total) (sym (sets-more definitions scratch d (going .placed) (say .filled) room));
+              rest = n .1;
+              left = n .4;
+              goes = n .2 ∙ read-done f (n .0) (n .1) q v draws (n .3 ∙ ap (λ (x : Read). setAnswer x scratch) is-done)
+                  ∙ ap (λ (ss : List RowSet). readFrom (names f) (n .1) q v ss total) (sym (sets-more (before .sound) (done-filled said is-done) room));
             };
       })
 
-      pub stops : (r : Read) → SayWhole (record { store = store; defs = definitions; known = d }) words draws r scratch → (number : ℕ) → r ≡ read.Refused number →
-          ReadDefinitions store policy query count (Stopped number d) definitions
-      unfolding PlacedIf goesOn setAnswer
-      stops r said number is-refused = let say = subst (λ (x : Read). SayWhole (record { store = store; defs = definitions; known = d }) words draws x scratch) is-refused said in record {
-        placed = tt;
-        means = λ es q v h.
-            let r = going .means es q v h in
-            let n = next policy query d (r .rest) (omega arith) (r .left) in
-            let is-read : read (namesIn store) (setsIn d definitions) (n .e) [] draws ≡ refused number =
-            say .means (n .e) (subst (λ (ws : List ℕ). parse d ws ≡ parsed (n .e)) (sym is-part) (n .parses)) in
-            r .goes ∙ ap (λ (xs : List Expr). readFrom (namesIn store) xs q v (setsIn d definitions) draws) (n .is)
-            ∙ read-refused (namesIn store) (n .e) (n .others) q v (setsIn d definitions) draws number is-read
-            ∙ ap (declined number) (sets-length d definitions);
+      pub next-refused : {number : ℕ} → r ≡ read.Refused number → ReadDefinitions (record { store = f .store; defs = f .defs; known = count }) policy (Stopped number (f .known))
+      unfolding SoundIf goesOn setAnswer
+      next-refused {number} is-refused = record {
+        sound = tt;
+        means = λ query es q v h.
+            let n = next-means query es q v h in
+            n .2 ∙ read-refused f (n .0) (n .1) q v draws (n .3 ∙ ap (λ (x : Read). setAnswer x scratch) is-refused) ∙ ap (declined number) (sets-length (f .known) (f .defs));
       }
 
-    pub ends : count ≤ d → ReadDefinitions store policy query count (Done draws) definitions
-    unfolding PlacedIf goesOn
-    ends h =
-        let few = going .few in
-        let e : d ≡ count = omega arith in
-        record {
-          placed = subst (λ (n : ℕ). Placed n definitions) e (going .placed);
-          means = λ es q v p.
-              let r = going .means es q v p in
-              r .goes ∙ ap (λ (xs : List Expr). readFrom (namesIn store) xs q v (setsIn d definitions) draws) (none-left policy d (r .rest) (omega arith) (r .left))
-              ∙ ap (λ (n : ℕ). readFrom (namesIn store) [] q v (setsIn n definitions) draws) e;
-        }
-
-pub done-filled : {f : From} {ws : List ℕ} {k : ℕ} {area : List ℕ} {r : Read} → SayWhole f ws k r area → (total : ℕ) → r ≡ read.Done total → Filled area
-unfolding IfDone
-done-filled {area = area} say total e = subst (λ (x : Read). IfDone Filled x area) e (say .filled)
-
--- every definition has its place
-pub has-place : {store policy query definitions scratch : List ℕ} → Ready store policy query definitions scratch → (count d : ℕ) → getD policy 1 0 ≡ count → d < count →
-    642 * d + 642 ≤ length definitions
-has-place {policy = policy} {query = query} ready count d is h =
-    let t = checked-header policy query (ready .es) (ready .q) (ready .v) (ready .passes) in
-    let few = t .1 in
-    let room = ready .room in
-    omega arith
+  pub all-read : count ≤ f .known → ReadDefinitions (record { store = f .store; defs = f .defs; known = count }) policy (Done draws)
+  unfolding SoundIf goesOn
+  all-read h =
+      let few = before .few in
+      let e : f .known ≡ count = omega arith in
+      subst (λ (n : ℕ). ReadDefinitions (record { store = f .store; defs = f .defs; known = n }) policy (Done draws)) e (record {
+        sound = before .sound;
+        means = λ query es q v p.
+            let b = before .means query es q v p in
+            b .goes ∙ ap (λ (xs : List Expr). readFrom (names f) xs q v (sets f) draws) (none-left h (b .left));
+      })
 
 -- ---- the query, after the definitions
 
-end-done : (names : Evidence) (q : Expr) (v : Verdict) (sets : List RowSet) (k : ℕ) (s : RowSet) (j : ℕ) → read names sets q [] k ≡ done s j → readFrom names [] q v sets k ≡ answered v j s
-unfolding readFrom
-end-done names q v sets k s j h = rw (h, readFrom)
-
-end-refused : (names : Evidence) (q : Expr) (v : Verdict) (sets : List RowSet) (k n : ℕ) → read names sets q [] k ≡ refused n → readFrom names [] q v sets k ≡ declined n queryPart
-unfolding readFrom
-end-refused names q v sets k n h = rw (h, readFrom)
-
-module _ (store policy query : List ℕ) (count : ℕ) (is : getD policy 1 0 ≡ count) (progress : Progress) (definitions : List ℕ)
-    (said : ReadDefinitions store policy query count progress definitions) where
-  -- a refusal was met in a definition
-  pub says-stopped : (number part : ℕ) → progress ≡ Stopped number part → (verdict : ℕ) (area : List ℕ) → ReadAll store policy query verdict area (Refused number part) area
+module _ {f : From} {policy : List ℕ} {progress : Progress} (said : ReadDefinitions f policy progress) where
+  pub definition-refused : {query : List ℕ} {number part verdict : ℕ} {area : List ℕ} → progress ≡ Stopped number part → ReadAll (f .store) policy query verdict area (Refused number part) area
   unfolding goesOn replyTo answerArea
-  says-stopped number part e verdict area = record {
+  definition-refused {query} {number} {part} {area = area} e = record {
     means = λ es q v h w.
-        let o : readFrom (namesIn store) es q v [] 0 ≡ declined number part = said .means es q v h ∙ ap (λ (r : Progress). goesOn store q v count r definitions) e in
+        let o : readFrom (names f) es q v [] 0 ≡ declined number part = said .means query es q v h ∙ ap (goesOn f q v) e in
         (ap replyTo (sym o), ap (λ (x : Outcome). answerArea x area) (sym o));
   }
 
-  module _ (before : ℕ) (e : progress ≡ Done before) where
-    placed : Placed count definitions
-    unfolding PlacedIf
-    placed = subst (λ (r : Progress). PlacedIf count r definitions) e (said .placed)
-
-    goes : (es : List Expr) (q : Expr) (v : Verdict) → check policy query ≡ checked es q v →
-        readFrom (namesIn store) es q v [] 0 ≡ readFrom (namesIn store) [] q v (setsIn count definitions) before
-    unfolding goesOn
-    goes es q v h = said .means es q v h ∙ ap (λ (r : Progress). goesOn store q v count r definitions) e
-
-    pub asks-query : {definitions₀ scratch₀ : List ℕ} → Ready store policy query definitions₀ scratch₀ → (scratch : List ℕ) → length scratch ≡ length scratch₀ →
-        AskWhole (record { store = store; defs = definitions; known = count }) query scratch
-    asks-query ready scratch l =
+  module _ {before : ℕ} (is-done : progress ≡ Done before) (counted : getD policy 1 0 ≡ f .known) where
+    pub query-asked : {query definitions₀ scratch₀ scratch : List ℕ} → Ready (f .store) policy query definitions₀ scratch₀ → length scratch ≡ length scratch₀ → AskWhole f query scratch
+    unfolding SoundIf
+    query-asked {query} ready size =
         let space = ready .space in
         record {
-          sound = record { store = ready .sound; defs = placed };
+          sound = subst (SoundIf f) is-done (said .sound);
           e = ready .q;
-          parses = subst (λ (n : ℕ). parse n query ≡ parsed (ready .q)) is (query-parses policy query (ready .es) (ready .q) (ready .v) (ready .passes));
+          parses = query-parses policy query counted (ready .passes);
           long = omega arith;
         }
 
-    module _ (scratch : List ℕ) (r : Read) (answer : SayWhole (record { store = store; defs = definitions; known = count }) query before r scratch) where
-      reads : (es : List Expr) (q : Expr) (v : Verdict) → check policy query ≡ checked es q v → read (namesIn store) (setsIn count definitions) q [] before ≡ setAnswer r scratch
-      reads es q v h = answer .means q (subst (λ (n : ℕ). parse n query ≡ parsed q) is (query-parses policy query es q v h))
+    module _ {query : List ℕ} {r : Read} {scratch : List ℕ} (answer : SayWhole f query before r scratch) where
+      goes : (es : List Expr) (q : Expr) (v : Verdict) → check policy query ≡ checked es q v → readFrom (names f) es q v [] 0 ≡ readFrom (names f) [] q v (sets f) before
+      unfolding goesOn
+      goes es q v h = said .means query es q v h ∙ ap (goesOn f q v) is-done
 
-      pub says-refused : (number : ℕ) → r ≡ read.Refused number → (verdict : ℕ) (area : List ℕ) → ReadAll store policy query verdict area (Refused number queryPart) area
+      reads : {es : List Expr} {q : Expr} {v : Verdict} → check policy query ≡ checked es q v → reading f q [] before ≡ setAnswer r scratch
+      reads {q = q} h = answer .means q (query-parses policy query counted h)
+
+      pub query-refused : {number verdict : ℕ} {area : List ℕ} → r ≡ read.Refused number → ReadAll (f .store) policy query verdict area (Refused number queryPart) area
       unfolding setAnswer replyTo answerArea
-      says-refused number d verdict area = record {
+      query-refused {number} {area = area} e = record {
         means = λ es q v h w.
-            let o : readFrom (namesIn store) es q v [] 0 ≡ declined number queryPart =
-            goes es q v h ∙ end-refused (namesIn store) q v (setsIn count definitions) before number (reads es q v h ∙ ap (λ (x : Read). setAnswer x scratch) d) in
+            let o : readFrom (names f) es q v [] 0 ≡ declined number queryPart = goes es q v h ∙ query-declined f q v before (reads h ∙ ap (λ (x : Read). setAnswer x scratch) e) in
             (ap replyTo (sym o), ap (λ (x : Outcome). answerArea x area) (sym o));
       }
 
-      pub says-answered : (draws : ℕ) → r ≡ read.Done draws → (verdict : ℕ) (area now : List ℕ) → now ≡ written (setIn scratch) area → ReadAll store policy query verdict area (Answered verdict draws) now
+      pub query-answered : {draws verdict : ℕ} {area now : List ℕ} → r ≡ read.Done draws → now ≡ written (setIn scratch) area → ReadAll (f .store) policy query verdict area (Answered verdict draws) now
       unfolding setAnswer replyTo answerArea
-      says-answered draws d verdict area now n = record {
+      query-answered {draws} {area = area} e is = record {
         means = λ es q v h w.
-            let o : readFrom (namesIn store) es q v [] 0 ≡ answered v draws (setIn scratch) =
-            goes es q v h ∙ end-done (namesIn store) q v (setsIn count definitions) before (setIn scratch) draws (reads es q v h ∙ ap (λ (x : Read). setAnswer x scratch) d) in
-            (ap (λ (x : ℕ). Answered x draws) (sym w) ∙ ap replyTo (sym o), n ∙ ap (λ (x : Outcome). answerArea x area) (sym o));
+            let o : readFrom (names f) es q v [] 0 ≡ answered v draws (setIn scratch) = goes es q v h ∙ query-done f q v before (reads h ∙ ap (λ (x : Read). setAnswer x scratch) e) in
+            (ap (λ (x : ℕ). Answered x draws) (sym w) ∙ ap replyTo (sym o), is ∙ ap (λ (x : Outcome). answerArea x area) (sym o));
       }

@@ -2,37 +2,39 @@
 use Prim.Native.Nat.{ℕ, zero, suc, _+_, _-_, _*_, _≤_, _<_}
 use mathlib.Core.Path.{_≡_, refl, sym, _∙_, ap, subst}
 use mathlib.Core.Logic.{_⊎_, inl, inr}
+use mathlib.Core.Bool.{true}
 use mathlib.Core.List.{List, [], _∷_, _++_, append-assoc}
+use native.Mathlib.Nat.{eq-or-lt-of-le}
 use native.Mathlib.Omega.{arith}
-use lib.ListN.{length, take, drop, length-append, length-take, length-drop, take-append-drop}
-use lib.Seq.{length-take-le, take-take, drop-drop, drop-at, take-at, take-add, drop-append-le}
-use lib.Dec.{ltb}
-use borrow.Author.Tests.{ltb-true, ltb-false}
+use lib.ListN.{length, take, drop, length-drop, take-append-drop}
+use lib.Seq.{length-take-le, drop-drop, drop-at, drop-append-le}
 use borrow.Rule.Slice.PartMut.{putMid}
 use Rattle.rows.specs.Sets.{RowSet}
-use Rattle.rows.specs.Layout.{setRoom, setIn, setWords, put, written}
-use Rattle.rows.proofs.Case.{Case, isTrue, isFalse, split}
-use Rattle.values.specs.Answers.{Filled}
-use Rattle.leaves.specs.Areas.{setsIn}
+use Rattle.rows.specs.Layout.{setRoom, setIn, setWords, soundSet, put, written}
+use Rattle.rows.proofs.Put.{put-length, part-before}
 use Rattle.sets.proofs.Front.{SameFront, set-same}
 use Rattle.sets.proofs.Standing.{Stands, set-fits, copied-stands}
+use Rattle.values.specs.Answers.{Filled}
+use Rattle.values.specs.From.{From, setsIn, sets, SoundFrom}
 use Rattle.values.proofs.Answers.{lies}
-use Rattle.leaves.proofs.Areas.{filled-same}
-use Rattle.answering.specs.Steps.{Placed}
+use Rattle.steps.proofs.Areas.{filled-same}
 
 drop-split : (l k : ℕ) (ys : List ℕ) → l ≤ k → k ≤ length ys → drop l (take k ys) ++ drop k ys ≡ drop l ys
 drop-split l k ys h m = sym (drop-append-le l (take k ys) (drop k ys) (omega (arith, length-take-le k ys m))) ∙ ap (drop l) (take-append-drop k ys)
 
--- the words of a part, lent and given back with a set written to its front
-pub part-put : (a : ℕ) (S : RowSet) (xs : List ℕ) → a + 642 ≤ length xs → length (setWords S) ≤ 642 →
-    putMid a ((a + 642) - a) xs (written S (take ((a + 642) - a) (drop a xs))) ≡ put a (setWords S) xs
+-- a part of an area, lent and given back with a set written to its front
+pub part-put : (a : ℕ) (set area : List ℕ) {ys : List ℕ} → soundSet set ≡ true → a + 642 ≤ length area → ys ≡ written (setIn set) (take (a + 642 - a) (drop a area)) →
+    putMid a (a + 642 - a) area ys ≡ put a (setWords (setIn set)) area
 unfolding put written
-part-put a S xs h l =
-    let k : ℕ = (a + 642) - a in
-    let d = length-drop a xs in
-    ap (λ (z : List ℕ). take a xs ++ z)
-    (append-assoc (setWords S) (drop (length (setWords S)) (take k (drop a xs))) (drop k (drop a xs)) ∙
-    ap (λ (z : List ℕ). setWords S ++ z) (drop-split (length (setWords S)) k (drop a xs) (omega arith) (omega arith) ∙ drop-drop (length (setWords S)) a xs))
+part-put a set area {ys} sound h e =
+    let k : ℕ = a + 642 - a in
+    let ws : List ℕ = setWords (setIn set) in
+    let size = set-fits set sound in
+    let d = length-drop a area in
+    ap (λ (zs : List ℕ). putMid a (a + 642 - a) area zs) e
+    ∙ ap (λ (zs : List ℕ). take a area ++ zs)
+    (append-assoc ws (drop (length ws) (take k (drop a area))) (drop k (drop a area))
+    ∙ ap (λ (zs : List ℕ). ws ++ zs) (drop-split (length ws) k (drop a area) (omega arith) (omega arith) ∙ drop-drop (length ws) a area))
 
 -- ---- one more definition
 
@@ -62,67 +64,43 @@ sets-same (suc m) a b h =
         let k : 642 + 642 * d ≡ 642 * suc d = omega arith in
         ap setIn (drop-drop (642 * d) 642 b ∙ ap (λ (j : ℕ). drop j b) k) ∙ e ∙ ap setIn (sym (drop-drop (642 * d) 642 a ∙ ap (λ (j : ℕ). drop j a) k))
 
-module _ (definitions set : List ℕ) (d : ℕ) (placed : Placed d definitions) (filled : Filled set) (room : 642 * d + 642 ≤ length definitions) where
-  abbrev after : List ℕ
-  after = put (642 * d) (setWords (setIn set)) definitions
+-- the set of one definition more is put in its place
+abbrev withSet : From → List ℕ → From
+withSet f set = record { store = f .store; defs = put (642 * f .known) (setWords (setIn set)) (f .defs); known = f .known + 1 }
 
-  abbrev words : List ℕ
-  words = setWords (setIn set)
+module _ {f : From} (sound : SoundFrom f) {set : List ℕ} (filled : Filled set) (room : 642 * f .known + 642 ≤ length (f .defs)) where
+  fits : 642 * f .known + length (setWords (setIn set)) ≤ length (f .defs)
+  fits = omega (arith, set-fits set (filled .sound))
 
-  size : length words ≤ 642
-  size = set-fits set (filled .sound)
-
-  pub after-length : length after ≡ length definitions
-  unfolding put
-  after-length =
-      let s = size in
-      simp (length-append, length-take, length-drop) (omega arith)
-
-  front : take (642 * d) after ≡ take (642 * d) definitions
-  unfolding put
-  front = take-at (take (642 * d) definitions) _ (642 * d) (length-take-le (642 * d) definitions (omega arith))
-
-  behind : drop (642 * d) after ≡ written (setIn set) (drop (642 * d) definitions)
-  unfolding put written
-  behind =
-      drop-at (take (642 * d) definitions) _ (642 * d) (length-take-le (642 * d) definitions (omega arith))
-      ∙ ap (λ (z : List ℕ). words ++ z) (sym (drop-drop (length words) (642 * d) definitions))
-
-  part-of : (i : ℕ) (l : List ℕ) → i + 642 ≤ 642 * d → 642 * d ≤ length l → take 642 (drop i l) ≡ drop i (take (i + 642) (take (642 * d) l))
-  part-of i l h m =
-      sym (drop-at (take i l) (take 642 (drop i l)) i (length-take-le i l (omega arith))) ∙ ap (drop i) (sym (take-add i 642 l)) ∙ ap (drop i) (sym (take-take (i + 642) (642 * d) l h))
-
-  same : (i : ℕ) → i < d → SameFront (drop (642 * i) definitions) (drop (642 * i) after)
-  same i h =
-      let n = after-length in
-      let a = length-drop (642 * i) definitions in
-      let b = length-drop (642 * i) after in
-      let below : 642 * i + 642 ≤ 642 * d = omega arith in
+  same : (d : ℕ) → d < f .known → SameFront (drop (642 * d) (f .defs)) (drop (642 * d) (withSet f set .defs))
+  same d h =
+      let size = put-length (642 * f .known) (setWords (setIn set)) (f .defs) fits in
+      let a = length-drop (642 * d) (f .defs) in
+      let b = length-drop (642 * d) (withSet f set .defs) in
       record {
-        front = part-of (642 * i) definitions below (omega arith) ∙ ap (λ (l : List ℕ). drop (642 * i) (take (642 * i + 642) l)) (sym front) ∙ sym (part-of (642 * i) after below (omega arith));
+        front = sym (part-before (642 * f .known) (setWords (setIn set)) (f .defs) fits (642 * d) 642 (omega arith));
         first = omega arith;
         second = omega arith;
       }
 
-  stands : Stands (setIn set) (drop (642 * d) after)
-  stands = copied-stands set (filled .sound) (drop (642 * d) definitions) (omega (arith, length-drop (642 * d) definitions)) behind
+  stands : Stands (setIn set) (drop (642 * f .known) (withSet f set .defs))
+  unfolding put written
+  stands =
+      let at : ℕ = 642 * f .known in
+      let ws : List ℕ = setWords (setIn set) in
+      copied-stands set (filled .sound) (drop at (f .defs)) (omega (arith, length-drop at (f .defs)))
+      (drop-at (take at (f .defs)) _ at (length-take-le at (f .defs) (omega arith)) ∙ ap (λ (z : List ℕ). ws ++ z) (sym (drop-drop (length ws) at (f .defs))))
 
-  pub placed-more : Placed (d + 1) after
-  placed-more i h = go (split-below i h)
+  pub sound-more : SoundFrom (withSet f set)
+  sound-more = record { store = sound .store; defs = λ d h. lies-at d (eq-or-lt-of-le (omega arith)) }
     where
-      split-below : (i : ℕ) → i < d + 1 → (i < d) ⊎ (i ≡ d)
-      split-below i h = decide (split (ltb i d))
-        where
-          decide : Case (ltb i d) → (i < d) ⊎ (i ≡ d)
-          decide (isTrue e) = inl (ltb-true i d e)
-          decide (isFalse e) = let g = ltb-false i d e in inr (omega arith)
+      lies-at : (d : ℕ) → (d ≡ f .known) ⊎ (d < f .known) → Filled (drop (setRoom * d) (withSet f set .defs))
+      lies-at d (inl e) = subst (λ (j : ℕ). Filled (drop (642 * j) (withSet f set .defs))) (sym e) (lies stands)
+      lies-at d (inr h) = filled-same (same d h) (sound .defs d h)
 
-      go : (i < d) ⊎ (i ≡ d) → Filled (drop (setRoom * i) after)
-      go (inl l) = filled-same (same i l) (placed i l)
-      go (inr e) = subst (λ (j : ℕ). Filled (drop (642 * j) after)) (sym e) (lies stands)
-
-  pub sets-more : setsIn (d + 1) after ≡ setsIn d definitions ++ (setIn set ∷ [])
+  pub sets-more : sets (withSet f set) ≡ sets f ++ (setIn set ∷ [])
   sets-more =
-      ap (λ (n : ℕ). setsIn n after) (let e : d + 1 ≡ suc d = omega arith in e) ∙ sets-last d after
-      ∙ ap (λ (l : List RowSet). l ++ (setIn (drop (642 * d) after) ∷ [])) (sets-same d definitions after (λ i h. set-same (same i h) (placed i h .sound)))
-      ∙ ap (λ (s : RowSet). setsIn d definitions ++ (s ∷ [])) (stands .set)
+      let now : List ℕ = withSet f set .defs in
+      ap (λ (n : ℕ). setsIn n now) (let e : f .known + 1 ≡ suc (f .known) = omega arith in e) ∙ sets-last (f .known) now
+      ∙ ap (λ (l : List RowSet). l ++ (setIn (drop (642 * f .known) now) ∷ [])) (sets-same (f .known) (f .defs) now (λ d h. set-same (same d h) (sound .defs d h .sound)))
+      ∙ ap (λ (s : RowSet). sets f ++ (s ∷ [])) (stands .set)

@@ -2,15 +2,16 @@
 ghost use Prim.Native.Nat.{_*_, _+_, _≤_};
 ghost use mathlib.Core.Path.{_≡_};
 ghost use mathlib.Core.Bool.{true};
-ghost use lib.ListN.{length, getD};
+ghost use lib.ListN.{length};
 ghost use Rattle.rows.specs.Layout.{setRoom, setIn, setWords, soundSet, put};
-ghost use Rattle.answering.specs.Steps.{Ready, ReadDefinitions, ReadAll};
+ghost use Rattle.answering.specs.Steps.{Ready, ReadyPolicy, ReadDefinitions, ReadAll};
+use reading::Given;
 use reading::Read;
 use reading::read_whole;
 use refusals::QUERY_PART;
 use rows::SET_ROOM;
 use sets::copy;
-use table::parts::part;
+use table::definition_words;
 
 pub enum Reply {
     Answered { verdict: u32, draws: u32 },
@@ -34,28 +35,25 @@ fn place_set(definitions: &mut [u32], d: usize, set: &[u32])
 }
 
 // The definitions in file order, each read from its part of the policy and set in its place.
-fn read_definitions<'a>(
-    policy: &'a [u32],
-    query: &'a [u32],
-    store: &[u32],
+fn read_definitions(
+    policy: &[u32],
     count: usize,
+    store: &[u32],
     definitions: &mut [u32],
     scratch: &mut [u32],
 ) -> Progress
-    requires { ⌜ Ready (now store) (now policy) (now query) (now definitions) (now scratch) × (getD (now policy) 1 0 ≡ count) ⌝ }
-    ensures { λ r. ⌜ ReadDefinitions (now (store .entry)) (now (policy .entry)) (now (query .entry)) count r (now (definitions .exit)) ⌝ }
+    requires { ⌜ ReadyPolicy (now store) (now policy) count (now definitions) (now scratch) ⌝ }
+    ensures { λ r. ⌜ ReadDefinitions (record { store = now (store .entry); defs = now (definitions .exit); known = count }) (now (policy .entry)) r ⌝ }
 {
     let mut draws: u32 = 0;
     let mut d: usize = 0;
     while d < count {
-        let number = d as u32;
-        let words = part(policy, query, number);
-        match read_whole(words, store, definitions, d, draws, scratch) {
-            Read::Refused(n) => {
-                return Progress::Stopped {
-                    number: n,
-                    part: number,
-                };
+        let words = definition_words(policy, d);
+        let given = Given { known: d };
+        match read_whole(words, draws, scratch, given, store, definitions) {
+            Read::Refused(number) => {
+                let part = d as u32;
+                return Progress::Stopped { number, part };
             }
             Read::Done(total) => {
                 draws = total;
@@ -68,9 +66,9 @@ fn read_definitions<'a>(
 }
 
 // The definitions, then the query. Only an answer touches the answer area.
-pub fn read_all<'a>(
-    policy: &'a [u32],
-    query: &'a [u32],
+pub fn read_all(
+    policy: &[u32],
+    query: &[u32],
     store: &[u32],
     verdict: u32,
     answer: &mut [u32],
@@ -81,15 +79,15 @@ pub fn read_all<'a>(
     ensures { λ r. ⌜ ReadAll (now (store .entry)) (now (policy .entry)) (now (query .entry)) verdict (now (answer .entry)) r (now (answer .exit)) ⌝ }
 {
     let count = policy[1] as usize;
-    match read_definitions(policy, query, store, count, definitions, scratch) {
+    match read_definitions(policy, count, store, definitions, scratch) {
         Progress::Stopped { number, part } => Reply::Refused { number, part },
         Progress::Done(before) => match read_whole(
             query,
-            store,
-            definitions,
-            count,
             before,
             scratch,
+            Given { known: count },
+            store,
+            definitions,
         ) {
             Read::Refused(number) => Reply::Refused {
                 number,

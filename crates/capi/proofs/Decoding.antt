@@ -11,8 +11,8 @@ use Rattle.rows.specs.Name.{isName, isPolarity}
 use Rattle.policy.specs.Syntax.{Expr, Body}
 use Rattle.policy.specs.Decode.{Read, got, refused, Reader, after, need, word, wordWhere, countDraw, times, polarity, Tag, isAtom, isVar, isNew, noTag, tagOf}
 use Rattle.policy.specs.Decode.{termAs, anyAtom, term, issuer, width, row, rows, Pattern, slotAs, slots, guardOf, guardAs, body, codeOf, isCode, exprAs, expr}
-use Rattle.policy.specs.Decode.{Guard, isDraw, isSame, isDifferent, isAbsent, noGuard, Code, isFinite, isCofinite, isDefinition, isListed, isUnion}
-use Rattle.policy.specs.Decode.{isDifference, isComprehension, noCode, unparsed, noneLeft, parse}
+use Rattle.policy.specs.Leaf.{LeafCode, isFinite, isCofinite, isDefinition, isListed, noLeaf, leafAs}
+use Rattle.policy.specs.Decode.{Guard, isDraw, isSame, isDifferent, isAbsent, noGuard, Code, isLeaf, isUnion, isDifference, isComprehension, unparsed, noneLeft, parse}
 use Rattle.policy.proofs.Basics.{impossible}
 
 -- a reader that refuses with 5 at most
@@ -106,6 +106,18 @@ unfolding slots
 slots-low zero n = give-low ([], n)
 slots-low (suc w) n = after-low word _ word-low (λ t. slotAs-low n (λ m. slots w m) (λ m. slots-low w m) (tagOf t))
 
+leafAs-low : (known n : ℕ) (c : LeafCode) → Low (leafAs known n c)
+unfolding leafAs
+leafAs-low known n isFinite = after-low (rows n) _ (rows-low n) (λ rs. give-low _)
+leafAs-low known n isCofinite = after-low (rows n) _ (rows-low n) (λ rs. give-low _)
+leafAs-low known n isDefinition =
+    after-low (wordWhere notInScope (λ d. ltb d known)) _ (where-low notInScope (omega arith) (λ d. ltb d known)) (λ d. give-low _)
+leafAs-low known n isListed =
+    after-low (issuer n) _ (issuer-low n) (λ t.
+    after-low (wordWhere badWord isName) _ (where-low badWord (omega arith) isName) (λ m.
+    after-low polarity _ polarity-low (λ p. give-low _)))
+leafAs-low known n noLeaf = refuse-low badWord (omega arith)
+
 -- with readers of the expressions inside that do so
 module _ (inner : ℕ → Reader Expr) (inner-low : (m : ℕ) → Low (inner m)) where
   guardAs-low : (n : ℕ) (rest : ℕ → Reader Body) → ((m : ℕ) → Low (rest m)) → (g : Guard) → Low (guardAs inner n rest g)
@@ -131,20 +143,12 @@ module _ (inner : ℕ → Reader Expr) (inner-low : (m : ℕ) → Low (inner m))
 
   exprAs-low : (known n : ℕ) (c : Code) → Low (exprAs known inner n c)
   unfolding exprAs
-  exprAs-low known n isFinite = after-low (rows n) _ (rows-low n) (λ rs. give-low _)
-  exprAs-low known n isCofinite = after-low (rows n) _ (rows-low n) (λ rs. give-low _)
-  exprAs-low known n isDefinition =
-      after-low (wordWhere notInScope (λ d. ltb d known)) _ (where-low notInScope (omega arith) (λ d. ltb d known)) (λ d. give-low _)
-  exprAs-low known n isListed =
-      after-low (issuer n) _ (issuer-low n) (λ t.
-      after-low (wordWhere badWord isName) _ (where-low badWord (omega arith) isName) (λ m.
-      after-low polarity _ polarity-low (λ p. give-low _)))
+  exprAs-low known n (isLeaf c) = after-low (leafAs known n c) _ (leafAs-low known n c) (λ x. give-low _)
   exprAs-low known n isUnion = after-low (inner n) _ (inner-low n) (λ a. after-low (inner n) _ (inner-low n) (λ b. give-low _))
   exprAs-low known n isDifference = after-low (inner n) _ (inner-low n) (λ a. after-low (inner n) _ (inner-low n) (λ b. give-low _))
   exprAs-low known n isComprehension =
       after-low (wordWhere badWord (λ c. leb c 8)) _ (where-low badWord (omega arith) (λ c. leb c 8)) (λ c.
       after-low (body inner c n) _ (body-low c n) (λ b. give-low _))
-  exprAs-low known n noCode = refuse-low badWord (omega arith)
 
 expr-low : (known levels n : ℕ) → Low (expr known levels n)
 unfolding expr

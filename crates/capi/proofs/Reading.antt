@@ -12,10 +12,11 @@ use Rattle.refusals.specs.Table.{complementDrawn, tooManyRows, tooManyDraws}
 use Rattle.rows.specs.Ordered.{insert}
 use Rattle.rows.specs.Row.{Row, rowBefore}
 use Rattle.rows.specs.Sets.{RowSet, only, allBut, listing, mostRows, has, unite, subtract}
-use Rattle.policy.specs.Syntax.{Slot, Expr, finite, cofinite, definition, listed, union, difference, comprehension, Body, head, draw, same, different, absent}
+use Rattle.policy.specs.Leaf.{Leaf, finite, cofinite, definition, listed}
+use Rattle.policy.specs.Syntax.{Slot, Expr, leaf, union, difference, comprehension, Body, head, draw, same, different, absent}
 use Rattle.meaning.specs.Values.{Values, value, rowOf}
 use Rattle.meaning.specs.Evidence.{Evidence}
-use Rattle.meaning.specs.Reading.{Answer, done, refused, Reading, after, within, small, drawable, tick, rowsOf, match, onMatch, drawEach, read, gather}
+use Rattle.meaning.specs.Reading.{Answer, done, refused, Reading, after, within, small, drawable, tick, rowsOf, match, onMatch, drawEach, readLeaf, read, gather}
 use Rattle.meaning.proofs.Steps.{refused-number, not-refused, after-refused, either}
 
 -- a reading that is refused with 14 at most
@@ -70,14 +71,18 @@ module _ (rest : Values → List Row → Reading (List Row)) (rest-low : (vs : V
       after-low tick _ tick-low (λ u. after-low (onMatch rest found (match p vs x)) _ (match-low found (match p vs x)) (λ more. draws-low p vs xs more))
 
 module _ (names : Evidence) (sets : List RowSet) where
+  leaf-low : (x : Leaf) (vs : Values) → Low (readLeaf names sets x vs)
+  unfolding readLeaf
+  leaf-low (finite rs) vs = small-low (only (rowsOf vs rs))
+  leaf-low (cofinite rs) vs = small-low (allBut (rowsOf vs rs))
+  leaf-low (definition d) vs = give-low _
+  leaf-low (listed t n p) vs = small-low (names (value vs t) n p)
+
   mutual
     unfolding read
 
     pub read-low : (e : Expr) (vs : Values) → Low (read names sets e vs)
-    read-low (finite rs) vs = small-low (only (rowsOf vs rs))
-    read-low (cofinite rs) vs = small-low (allBut (rowsOf vs rs))
-    read-low (definition d) vs = give-low _
-    read-low (listed t n p) vs = small-low (names (value vs t) n p)
+    read-low (leaf x) vs = leaf-low x vs
     read-low (union a b) vs =
         after-low (read names sets a vs) _ (read-low a vs) (λ x. after-low (read names sets b vs) _ (read-low b vs) (λ y. small-low (unite x y)))
     read-low (difference a b) vs =

@@ -16,10 +16,11 @@ use Rattle.policy.specs.Judgement.{JudgementReply, verdict, refused, judge}
 use Rattle.judging.specs.Reply.{judgementOf}
 use Rattle.judging.specs.declared.Judgement.the-variants as judgement
 use Rattle.policy.proofs.Judging.{judge-checked}
+use Rattle.meaning.specs.Evidence.{heldIn}
 use Rattle.demands.specs.Query.{Outcome, declined, readFrom, definitionRoom, scratchRoom, roomy, Call, outcomeFrom, queryCall, answerArea}
 use Rattle.demands.specs.Refusal.{judged, unsound, short}
 use Rattle.answering.specs.Reply.{replyTo}
-use Rattle.answering.specs.Steps.{namesIn, Ready, ReadAll}
+use Rattle.answering.specs.Steps.{Ready, ReadAll}
 use Rattle.answering.specs.declared.Reply.{Reply}
 use Rattle.answering.specs.declared.Reply.the-variants.{Refused}
 use Rattle.engine.specs.Reply.{Replied}
@@ -61,7 +62,7 @@ module _ (store : List ℕ) (c : Call) (v : Verdict) (passes : judge (c .policy)
       unfolding outcomeFrom
       replies word w r answer said =
           let t = judge-checked (c .policy) (c .query) v .0 passes in
-          let o : queryCall store c ≡ readFrom (namesIn store) (t .0) (t .1) v [] 0 = call-reads store (namesIn store) sound refl c ∙ rw (t .2, room, outcomeFrom) in
+          let o : queryCall store c ≡ readFrom (heldIn store) (t .0) (t .1) v [] 0 = call-reads store (heldIn store) sound refl c ∙ rw (t .2, room, outcomeFrom) in
           let s = said .means (t .0) (t .1) v (t .2) w in
           record { reply = s .0 ∙ ap replyTo (sym o); area = s .1 ∙ ap (λ (x : Outcome). answerArea x (c .answer)) (sym o) }
 

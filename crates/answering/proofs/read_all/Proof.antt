@@ -1,68 +1,54 @@
 use mathlib.Core.Path.{refl}
 use native.Mathlib.Omega.{arith}
-use lib.ListN.{getD}
 use borrow.Author.Needs.{needs}
-use denote.Ref.{now}
-use Rattle.answering.proofs.Driving.{checked-header, done-filled, asks-query, says-stopped, says-refused, says-answered}
+use Rattle.answering.proofs.Driving.{done-filled, ready-listed, definition-refused, query-asked, query-refused, query-answered}
 use Rattle.answering.proofs.read_all.Statement.{statement}
 use Rattle.answering.proofs.read_all.Tie as tie
 
+-- where the call starts, from where the definitions are read
+abbrev start : tie.After-read-definitions → tie.Start
+start c = c .before .before .before .before .before .before .before .before .before .before
+
+-- where the definitions are read, from where their draws are known
+abbrev defined : tie.After-known-told2 → tie.After-read-definitions
+defined c = c .before .before .before .before .before .before .before
+
+-- where the definitions' draws are known, from where the query is read
+abbrev counted : tie.After-read-whole → tie.After-known-told2
+counted c = c .before .before .before
+
 shared-slice-read-count : tie.Need-shared-slice-read-count
-shared-slice-read-count c = checked-header (now (c .before .before .before .before .before .before .before .args .policy)) (now (c .before .before .before .before .before .before .before .args .query)) (c .before .before .before .before .before .before .before .pre .0 .es) (c .before .before .before .before .before .before .before .pre .0 .q) (c .before .before .before .before .before .before .before .pre .0 .v) (c .before .before .before .before .before .before .before .pre .0 .passes) .0
+shared-slice-read-count c = omega (arith, ready-listed (c .before .before .before .before .before .before .before .pre .0) refl .fits)
 
 cast-count : tie.Need-cast-count
-cast-count c = record { fits = (let t = checked-header (now (c .before .before .before .before .before .before .before .args .policy)) (now (c .before .before .before .before .before .before .before .args .query)) (c .before .before .before .before .before .before .before .pre .0 .es) (c .before .before .before .before .before .before .before .pre .0 .q) (c .before .before .before .before .before .before .before .pre .0 .v) (c .before .before .before .before .before .before .before .pre .0 .passes) in omega (arith, t .1)) }
-
-read-definitions-requires : tie.Need-read-definitions-requires
-read-definitions-requires c κs = search needs
-
-enum-known-number : tie.Need-enum-known-number
-enum-known-number c = search needs
-
-enum-known-before : tie.Need-enum-known-before
-enum-known-before c = search needs
+cast-count c = record { fits = omega (arith, ready-listed (c .before .before .before .before .before .before .before .pre .0) refl .few) }
 
 read-whole-requires : tie.Need-read-whole-requires
-read-whole-requires c κs = asks-query (now (c .before .before .before .before .before .before .before .before .before .before .before .before .before .before .before .before .before .before .before .args .store)) (now (c .before .before .before .before .before .before .before .before .before .before .before .before .before .before .before .before .before .before .before .args .policy)) (now (c .before .before .before .before .before .before .before .before .before .before .before .before .before .before .before .before .before .before .before .args .query)) (getD (now (c .before .before .before .before .before .before .before .before .before .before .before .before .before .before .before .before .before .before .before .args .policy)) 1 0) refl (c .before .before .before .before .before .before .before .before .before .read-definitions .result) (c .before .before .before .before .before .before .before .before .before .read-definitions .last .1 .1 .1 .1 .0) (c .before .before .before .before .before .before .before .before .before .read-definitions .ensures) (c .before .before .before .before2 .given .0 .0) (c .before .before .before .before2 .given .1) (c .before .before .before .before .before .before .before .before .before .before .before .before .before .before .before .before .before .before .before .pre .0) (c .before .before .before .before .before .before .before .before .before .read-definitions .last .1 .1 .1 .1 .1 .0) (c .before .before .before .before .before .before .before .before .before .read-definitions .kept .1 .1 .1 .1 .1 .0)
-
-enum-known-number-2 : tie.Need-enum-known-number-2
-enum-known-number-2 c = search needs
-
-enum-known-draws : tie.Need-enum-known-draws
-enum-known-draws c = search needs
+read-whole-requires c κs =
+    let told = c .before .before in
+    let defs = defined told in
+    query-asked (defs .read-definitions .ensures) (told .before .before2 .given .1) refl (start defs .pre .0) (defs .read-definitions .kept .1 .1 .1 .1 .0)
 
 copy-requires : tie.Need-copy-requires
-copy-requires c κs = (done-filled (c .before .before .before .before .before .before .before .read-whole .ensures) (c .before .before .before .draws .given .0 .0) (c .before .before .before .draws .given .1) .sound, c .before .before .before .before .before .before .before .before .before .before .before .before .before .before .before .before .before .before .before .before .before .before .before .before .before .before .before .pre .1)
-
-same-length : tie.Need-same-length
-same-length c = search needs
-
-same-length-2 : tie.Need-same-length-2
-same-length-2 c = search needs
+copy-requires c κs =
+    let read = c .before .before .before .before .before .before .before in
+    (done-filled (read .read-whole .ensures) (c .before .before .before .draws .given .1) .sound, start (defined (counted read)) .pre .1)
 
 returns : tie.Need-returns
-returns c = says-stopped (now (c .before .before .before .before .before .before .before .before .before .before .before .before .before .before .before .before .before .args .store)) (now (c .before .before .before .before .before .before .before .before .before .before .before .before .before .before .before .before .before .args .policy)) (now (c .before .before .before .before .before .before .before .before .before .before .before .before .before .before .before .before .before .args .query)) (getD (now (c .before .before .before .before .before .before .before .before .before .before .before .before .before .before .before .before .before .args .policy)) 1 0) refl (c .before .before .before .before .before .before .before .read-definitions .result) (c .before .before .before .before .before .before .before .read-definitions .last .1 .1 .1 .1 .0) (c .before .before .before .before .before .before .before .read-definitions .ensures) (c .before .number .given .0 .0) (c .before .number .given .0 .1 .0) (c .before .number .given .1) (c .before .before .before .before .before .before .before .before .before .before .before .before .before .before .before .before .before .args .verdict) (now (c .before .before .before .before .before .before .before .before .before .before .before .before .before .before .before .before .before .args .answer))
-
-same-length-3 : tie.Need-same-length-3
-same-length-3 c = search needs
-
-same-length-4 : tie.Need-same-length-4
-same-length-4 c = search needs
+returns c = definition-refused (c .before .before .before .before .before .before .before .read-definitions .ensures) (c .before .number .given .1)
 
 returns-2 : tie.Need-returns-2
-returns-2 c = says-refused (now (c .before .before .before .before .before .before .before .before .before .before .before .before .before .before .before .before .before .before .before .before .before .before .before .before .before .args .store)) (now (c .before .before .before .before .before .before .before .before .before .before .before .before .before .before .before .before .before .before .before .before .before .before .before .before .before .args .policy)) (now (c .before .before .before .before .before .before .before .before .before .before .before .before .before .before .before .before .before .before .before .before .before .before .before .before .before .args .query)) (getD (now (c .before .before .before .before .before .before .before .before .before .before .before .before .before .before .before .before .before .before .before .before .before .before .before .before .before .args .policy)) 1 0) refl (c .before .before .before .before .before .before .before .before .before .before .before .before .before .before .before .read-definitions .result) (c .before .before .before .before .before .before .before .before .before .before .before .before .before .before .before .read-definitions .last .1 .1 .1 .1 .0) (c .before .before .before .before .before .before .before .before .before .before .before .before .before .before .before .read-definitions .ensures) (c .before .before .before .before .before .before .before .before .before .before2 .given .0 .0) (c .before .before .before .before .before .before .before .before .before .before2 .given .1) (c .before .before .before .before .before .read-whole .last .1 .1 .1 .1 .1 .0) (c .before .before .before .before .before .read-whole .result) (c .before .before .before .before .before .read-whole .ensures) (c .before .number2 .given .0 .0) (c .before .number2 .given .1) (c .before .before .before .before .before .before .before .before .before .before .before .before .before .before .before .before .before .before .before .before .before .before .before .before .before .args .verdict) (now (c .before .before .before .before .before .before .before .before .before .before .before .before .before .before .before .before .before .before .before .before .before .before .before .before .before .args .answer))
-
-same-length-5 : tie.Need-same-length-5
-same-length-5 c = search needs
-
-same-length-6 : tie.Need-same-length-6
-same-length-6 c = search needs
-
-same-length-7 : tie.Need-same-length-7
-same-length-7 c = search needs
+returns-2 c =
+    let read = c .before .before .before .before .before in
+    let told = counted read in
+    query-refused (defined told .read-definitions .ensures) (told .before .before2 .given .1) refl (read .read-whole .ensures) (c .before .number2 .given .1)
 
 returns-3 : tie.Need-returns-3
-returns-3 c = says-answered (now (c .before .before .before .before .before .before .before .before .before .before .before .before .before .before .before .before .before .before .before .before .before .before .before .before .before .before .before .before .before .before .args .store)) (now (c .before .before .before .before .before .before .before .before .before .before .before .before .before .before .before .before .before .before .before .before .before .before .before .before .before .before .before .before .before .before .args .policy)) (now (c .before .before .before .before .before .before .before .before .before .before .before .before .before .before .before .before .before .before .before .before .before .before .before .before .before .before .before .before .before .before .args .query)) (getD (now (c .before .before .before .before .before .before .before .before .before .before .before .before .before .before .before .before .before .before .before .before .before .before .before .before .before .before .before .before .before .before .args .policy)) 1 0) refl (c .before .before .before .before .before .before .before .before .before .before .before .before .before .before .before .before .before .before .before .before .read-definitions .result) (c .before .before .before .before .before .before .before .before .before .before .before .before .before .before .before .before .before .before .before .before .read-definitions .last .1 .1 .1 .1 .0) (c .before .before .before .before .before .before .before .before .before .before .before .before .before .before .before .before .before .before .before .before .read-definitions .ensures) (c .before .before .before .before .before .before .before .before .before .before .before .before .before .before .before2 .given .0 .0) (c .before .before .before .before .before .before .before .before .before .before .before .before .before .before .before2 .given .1) (c .before .before .before .before .before .before .before .before .before .before .read-whole .last .1 .1 .1 .1 .1 .0) (c .before .before .before .before .before .before .before .before .before .before .read-whole .result) (c .before .before .before .before .before .before .before .before .before .before .read-whole .ensures) (c .before .before .before .before .before .before .draws .given .0 .0) (c .before .before .before .before .before .before .draws .given .1) (c .before .before .before .before .before .before .before .before .before .before .before .before .before .before .before .before .before .before .before .before .before .before .before .before .before .before .before .before .before .before .args .verdict) (now (c .before .before .before .before .before .before .before .before .before .before .before .before .before .before .before .before .before .before .before .before .before .before .before .before .before .before .before .before .before .before .args .answer)) (c .before .before .copy .last .1 .0) (c .before .before .copy .ensures)
+returns-3 c =
+    let read = c .before .before .before .before .before .before .before .before .before .before in
+    let told = counted read in
+    let draws = c .before .before .before .before .before .before .draws in
+    query-answered (defined told .read-definitions .ensures) (told .before .before2 .given .1) refl (read .read-whole .ensures) (draws .given .1) (c .before .before .copy .ensures)
 
 pub read-all-spec : {M : Type 1} → statement M
 read-all-spec =
@@ -70,20 +56,20 @@ read-all-spec =
     (tie.spec
     shared-slice-read-count
     cast-count
-    read-definitions-requires
-    enum-known-number
-    enum-known-before
+    (λ c κs. search needs)
+    (λ c. search needs)
+    (λ c. search needs)
     read-whole-requires
-    enum-known-number-2
-    enum-known-draws
+    (λ c. search needs)
+    (λ c. search needs)
     copy-requires
-    same-length
-    same-length-2
+    (λ c. search needs)
+    (λ c. search needs)
     returns
-    same-length-3
-    same-length-4
+    (λ c. search needs)
+    (λ c. search needs)
     returns-2
-    same-length-5
-    same-length-6
-    same-length-7
+    (λ c. search needs)
+    (λ c. search needs)
+    (λ c. search needs)
     returns-3)
