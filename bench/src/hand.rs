@@ -1,18 +1,26 @@
 //! Programs written by hand for one task each, from the same words to the same words.
 //!
-//! They test the store and make each draw, as document 01 asks of the engine. Those called `free` are the quickest way to the same rows: the store is
-//! trusted, and no draw is made that is not needed.
+//! Behind a test of the store they make each draw, as document 01 asks of the engine. The free ones are the quickest way to the same rows: the store is
+//! trusted, and no draw is made that is not needed. Where both are the same program, it stands here once.
 
-use crate::tasks::{LEFT, OBSERVATORY, RELEASED, RIGHT, SMALL, WITHDRAWN};
+use crate::tasks::{Asked, ARCHIVE, LEFT, OBSERVATORY, RELEASED, RIGHT, SMALL, TRUSTED, WITHDRAWN};
 use differential::evaluator::{MOST_CERTIFICATES, MOST_ROWS, STORE_WORDS};
 use std::hint::black_box;
 
 type Words8 = [u32; 8];
 
-/// Eight words as four numbers, which compare as the words do.
+/// Writes the answer's words and gives the draws; nothing where the query is refused.
+pub type Program = fn(&Asked, &mut [u32]) -> Option<u32>;
+
+/// Two words as a number, which compares as the words do.
+fn pair(first: u32, second: u32) -> u64 {
+    u64::from(first) << 32 | u64::from(second)
+}
+
+/// Eight words as four numbers, likewise.
 fn packed(record: &Words8) -> [u64; 4] {
-    let pair = |place: usize| u64::from(record[place]) << 32 | u64::from(record[place + 1]);
-    [pair(0), pair(2), pair(4), pair(6)]
+    let [key, name, polarity, width, a, b, c, d] = *record;
+    [pair(key, name), pair(polarity, width), pair(a, b), pair(c, d)]
 }
 
 /// Spelled out, which is quicker than the order of arrays.
@@ -61,16 +69,18 @@ pub fn sound(store: &[u32]) -> bool {
     true
 }
 
-fn of_name(store: &[u32], name: u32, polarity: u32) -> &[Words8] {
-    let wanted = [OBSERVATORY, name, polarity];
-    let records = records(store);
-    let start = records.partition_point(|record| record[..3] < wanted[..]);
-    let length = records[start..].partition_point(|record| record[..3] == wanted[..]);
-    &records[start..start + length]
+/// The program behind a test of the store.
+pub fn tested(program: Program) -> impl Fn(&Asked, &mut [u32]) -> Option<u32> {
+    move |asked, answer| sound(&asked.store).then(|| program(asked, answer)).flatten()
 }
 
-fn rows_of_name(store: &[u32], name: u32, polarity: u32) -> Option<&[Words8]> {
-    Some(of_name(store, name, polarity)).filter(|rows| rows.len() <= MOST_ROWS)
+fn rows_of_name(asked: &Asked, issuer: u32, name: u32, polarity: u32) -> Option<&[Words8]> {
+    let wanted = [issuer, name, polarity];
+    let records = records(&asked.store);
+    let start = records.partition_point(|record| record[..3] < wanted[..]);
+    let near = &records[start..records.len().min(start + MOST_ROWS + 1)];
+    let length = near.partition_point(|record| record[..3] == wanted[..]);
+    (length <= MOST_ROWS).then(|| &near[..length])
 }
 
 /// Lays a table out as it grows.
@@ -96,46 +106,87 @@ impl<'a> Answer<'a> {
     }
 }
 
+fn lay_out(rows: impl IntoIterator<Item = [u32; 5]>, answer: &mut [u32]) {
+    let mut answer = Answer::new(answer);
+    rows.into_iter().for_each(|row| answer.push(row));
+    answer.close();
+}
+
 fn row(record: &Words8) -> [u32; 5] {
     [record[3], record[4], record[5], record[6], record[7]]
 }
 
-/// Both lists are in order, so that one pass over them is enough; each released row is a draw all the same.
-fn common(released: &[Words8], kept: &[Words8], answer: &mut [u32]) -> u32 {
-    let mut answer = Answer::new(answer);
-    let mut kept = kept.iter().map(row).peekable();
-    for row in released.iter().map(row).filter(|row| row[0] == 1) {
-        while kept.next_if(|other| *other < row).is_some() {}
-        if kept.next_if_eq(&row).is_some() {
-            answer.push(row);
-        }
+fn row_of_atom(atom: u32) -> [u32; 5] {
+    [1, atom, 0, 0, 0]
+}
+
+/// Those of the rows that have one atom, which come first.
+fn atoms(rows: &[Words8]) -> impl Iterator<Item = u32> + '_ {
+    rows.iter().take_while(|record| record[3] == 1).map(|record| record[4])
+}
+
+/// The atoms drawn that are among the others, or those that are not. All are in order, so that one pass is enough.
+fn compared<'a>(drawn: &'a [Words8], others: impl Iterator<Item = u32> + 'a, among: bool) -> impl Iterator<Item = u32> + 'a {
+    let mut others = others.peekable();
+    atoms(drawn).filter(move |atom| {
+        while others.next_if(|other| other < atom).is_some() {}
+        others.next_if_eq(atom).is_some() == among
+    })
+}
+
+/// How many are released, and those of them that are not withdrawn.
+fn public_of(asked: &Asked, observatory: u32) -> Option<(u32, impl Iterator<Item = u32> + '_)> {
+    let released = rows_of_name(asked, observatory, RELEASED, 0)?;
+    let not_withdrawn = rows_of_name(asked, observatory, WITHDRAWN, 1)?;
+    Some((released.len() as u32, compared(released, atoms(not_withdrawn), true)))
+}
+
+pub fn public(asked: &Asked, answer: &mut [u32]) -> Option<u32> {
+    let (draws, public) = public_of(asked, OBSERVATORY)?;
+    lay_out(public.map(row_of_atom), answer);
+    Some(draws)
+}
+
+/// The policy's one definition is a literal.
+pub fn embargo(asked: &Asked, answer: &mut [u32]) -> Option<u32> {
+    let released = rows_of_name(asked, OBSERVATORY, RELEASED, 0)?;
+    let embargoed = literal(&asked.policy[6..]);
+    lay_out(compared(released, embargoed.into_iter(), false).map(row_of_atom), answer);
+    Some(released.len() as u32)
+}
+
+fn sorted<const WIDTH: usize>(mut rows: Vec<[u32; WIDTH]>, answer: &mut [u32]) {
+    rows.sort_unstable();
+    rows.dedup();
+    let laid_out = |atoms: [u32; WIDTH]| {
+        let mut row = [0; 5];
+        row[0] = WIDTH as u32;
+        row[1..=WIDTH].copy_from_slice(&atoms);
+        row
+    };
+    lay_out(rows.into_iter().map(laid_out), answer);
+}
+
+pub fn delegation(asked: &Asked, answer: &mut [u32]) -> Option<u32> {
+    let trusted = rows_of_name(asked, ARCHIVE, TRUSTED, 0)?;
+    let mut draws = trusted.len() as u32;
+    let mut observations = Vec::with_capacity(MOST_CERTIFICATES);
+    for observatory in atoms(trusted) {
+        let (released, public) = public_of(asked, observatory)?;
+        draws += released;
+        observations.extend(public.map(|observation| [observation]));
     }
-    answer.close();
-    released.len() as u32
+    sorted(observations, answer);
+    Some(draws)
 }
 
-pub fn public(store: &[u32], answer: &mut [u32]) -> Option<u32> {
-    sound(store).then(|| public_free(store, answer)).flatten()
-}
-
-pub fn public_free(store: &[u32], answer: &mut [u32]) -> Option<u32> {
-    Some(common(rows_of_name(store, RELEASED, 0)?, rows_of_name(store, WITHDRAWN, 1)?, answer))
-}
-
-fn sorted(mut pairs: Vec<[u32; 2]>, answer: &mut [u32]) {
-    pairs.sort_unstable();
-    pairs.dedup();
-    let mut answer = Answer::new(answer);
-    pairs.iter().for_each(|[x, z]| answer.push([2, *x, *z, 0, 0]));
-    answer.close();
+fn left_and_right(asked: &Asked) -> Option<[&[Words8]; 2]> {
+    Some([rows_of_name(asked, OBSERVATORY, LEFT, 0)?, rows_of_name(asked, OBSERVATORY, RIGHT, 0)?])
 }
 
 /// Each right row is drawn for each left one.
-pub fn join(store: &[u32], answer: &mut [u32]) -> Option<u32> {
-    if !sound(store) {
-        return None;
-    }
-    let (left, right) = (rows_of_name(store, LEFT, 0)?, rows_of_name(store, RIGHT, 0)?);
+pub fn join(asked: &Asked, answer: &mut [u32]) -> Option<u32> {
+    let [left, right] = left_and_right(asked)?;
     let mut pairs = Vec::with_capacity(MOST_ROWS);
     let mut draws = 0;
     for l in left {
@@ -152,12 +203,13 @@ pub fn join(store: &[u32], answer: &mut [u32]) -> Option<u32> {
 }
 
 /// The right rows are in order of the shared atom.
-pub fn join_free(store: &[u32], answer: &mut [u32]) -> Option<u32> {
-    let (left, right) = (rows_of_name(store, LEFT, 0)?, rows_of_name(store, RIGHT, 0)?);
+pub fn join_free(asked: &Asked, answer: &mut [u32]) -> Option<u32> {
+    let [left, right] = left_and_right(asked)?;
     let mut pairs = Vec::with_capacity(MOST_ROWS);
     for l in left.iter().filter(|l| l[3] == 2) {
-        let start = right.partition_point(|r| [r[3], r[4]] < [2, l[5]]);
-        pairs.extend(right[start..].iter().take_while(|r| [r[3], r[4]] == [2, l[5]]).map(|r| [l[4], r[5]]));
+        let shared = pair(2, l[5]);
+        let start = right.partition_point(|r| pair(r[3], r[4]) < shared);
+        pairs.extend(right[start..].iter().take_while(|r| pair(r[3], r[4]) == shared).map(|r| [l[4], r[5]]));
     }
     sorted(pairs, answer);
     Some((left.len() * (1 + right.len())) as u32)
@@ -182,38 +234,57 @@ fn literals(query: &[u32]) -> [Vec<u32>; 3] {
     })
 }
 
-fn constant(query: &[u32], answer: &mut [u32]) {
-    let mut answer = Answer::new(answer);
-    answer.push([1, query[query.len() - 1], 0, 0, 0]);
-    answer.close();
+fn constant(asked: &Asked) -> u32 {
+    asked.query[asked.query.len() - 1]
 }
 
-/// Each row is drawn and bound; the head's row is found once.
-pub fn draws(query: &[u32], answer: &mut [u32]) -> u32 {
-    let [first, second, third] = literals(query);
+/// Each row is drawn and bound. `head` gives the place of the head's row in the answer and its atom; each round of the last loop has the rows in order, so
+/// that one is new if its place is past those found.
+fn draws(asked: &Asked, answer: &mut [u32], head: impl Fn(usize, u32) -> (usize, u32)) -> Option<u32> {
+    let [first, second, third] = literals(&asked.query);
+    let mut answer = Answer::new(answer);
     let mut draws = 0;
-    let mut found = false;
     for &x in &first {
         draws += 1;
         for &y in &second {
             draws += 1;
-            for &z in &third {
+            for (place, &z) in third.iter().enumerate() {
                 draws += 1;
                 black_box((x, y, z));
-                if !black_box(found) {
-                    constant(query, answer);
-                    found = true;
+                let (place, atom) = head(place, z);
+                if black_box(place) >= answer.count {
+                    answer.push(row_of_atom(atom));
                 }
             }
         }
     }
-    draws
+    answer.close();
+    Some(draws)
 }
 
-pub fn draws_free(query: &[u32], answer: &mut [u32]) -> u32 {
-    let [first, second, third] = literals(query).map(|numbers| numbers.len() as u32);
-    constant(query, answer);
+pub fn draws_constant(asked: &Asked, answer: &mut [u32]) -> Option<u32> {
+    let atom = constant(asked);
+    draws(asked, answer, |_, _| (0, atom))
+}
+
+pub fn draws_last(asked: &Asked, answer: &mut [u32]) -> Option<u32> {
+    draws(asked, answer, |place, z| (place, z))
+}
+
+fn count_draws(literals: [Vec<u32>; 3]) -> u32 {
+    let [first, second, third] = literals.map(|numbers| numbers.len() as u32);
     first * (1 + second * (1 + third))
+}
+
+pub fn draws_constant_free(asked: &Asked, answer: &mut [u32]) -> Option<u32> {
+    lay_out([row_of_atom(constant(asked))], answer);
+    Some(count_draws(literals(&asked.query)))
+}
+
+pub fn draws_last_free(asked: &Asked, answer: &mut [u32]) -> Option<u32> {
+    let literals = literals(&asked.query);
+    lay_out(literals[2].iter().copied().map(row_of_atom), answer);
+    Some(count_draws(literals))
 }
 
 /// Puts the record in its place; false if it was there.
@@ -231,14 +302,8 @@ pub fn file(store: &mut [u32], record: &Words8) -> bool {
     sound(store) && sound_record(record) && (store[0] as usize) < MOST_CERTIFICATES && file_free(store, record)
 }
 
-pub fn small(store: &[u32], answer: &mut [u32]) -> Option<u32> {
-    sound(store).then(|| small_free(store, answer)).flatten()
-}
-
-pub fn small_free(store: &[u32], answer: &mut [u32]) -> Option<u32> {
-    let rows = rows_of_name(store, SMALL, 0)?;
-    let mut answer = Answer::new(answer);
-    rows.iter().for_each(|record| answer.push(row(record)));
-    answer.close();
+pub fn small(asked: &Asked, answer: &mut [u32]) -> Option<u32> {
+    let rows = rows_of_name(asked, OBSERVATORY, SMALL, 0)?;
+    lay_out(rows.iter().map(row), answer);
     Some(0)
 }

@@ -1,8 +1,8 @@
-//! The library beside a straightforward evaluator, hand-tuned programs and SQLite, on five tasks.
+//! The library beside a straightforward evaluator, hand-tuned programs and SQLite, on eight tasks.
 //!
 //!     cargo run --release --offline [-- ROUNDS]
 //!
-//! Prints a table of medians, with ratios to the hand-tuned program, and draws it to docs/benchmark.svg.
+//! Prints a table of medians, with ratios to the hand-tuned program and what each program leaves out, and draws it to docs/benchmark.svg.
 
 mod hand;
 mod measure;
@@ -13,8 +13,13 @@ mod tasks;
 
 use differential::engine::{Engine, Lent};
 use differential::evaluator::{Areas, Evaluator, Record, STORE_WORDS};
+use hand::Program;
 use measure::{measure, Measured};
+#[cfg(sqlite)]
+use sqlite::{Database, Statement};
+use std::collections::BTreeSet;
 use std::rc::Rc;
+use tasks::Asked;
 
 /// What a run found: how many rows, and the sum of their atoms.
 #[derive(Clone, Copy, PartialEq, Eq, Debug, Default)]
@@ -31,9 +36,11 @@ impl Outcome {
     }
 }
 
+type Run = Box<dyn FnMut() -> Outcome>;
+
 pub struct Contestant {
     pub name: &'static str,
-    pub run: Box<dyn FnMut() -> Outcome>,
+    pub run: Run,
 }
 
 fn contestant(name: &'static str, run: impl FnMut() -> Outcome + 'static) -> Contestant {
@@ -50,7 +57,25 @@ pub const STRAIGHTFORWARD: &str = "straightforward";
 pub const HAND: &str = "hand-tuned";
 pub const FREE: &str = "hand-tuned, free";
 pub const SQLITE: &str = "SQLite";
-pub const CONTESTANTS: [&str; 5] = [LIBRARY, STRAIGHTFORWARD, HAND, FREE, SQLITE];
+
+/// A kind of program, and what it does not do of what document 01 asks.
+pub struct Column {
+    pub name: &'static str,
+    pub colour: &'static str,
+    pub leaves_out: &'static str,
+}
+
+const COLUMNS: [Column; 5] = [
+    Column { name: LIBRARY, colour: "#1b6ca8", leaves_out: "nothing" },
+    Column { name: STRAIGHTFORWARD, colour: "#9aa5b1", leaves_out: "nothing" },
+    Column { name: HAND, colour: "#2f9e44", leaves_out: "judging, limits but for a name's 128 rows" },
+    Column { name: FREE, colour: "#a9d8b0", leaves_out: "the same, testing store and certificates, draws that are not needed" },
+    Column {
+        name: SQLITE,
+        colour: "#e8890c",
+        leaves_out: "judging, limits, testing store and certificates, counting draws, draws that an index spares",
+    },
+];
 
 /// The engines behind the C interface.
 fn engines() -> Vec<(&'static str, Rc<dyn Engine>)> {
@@ -70,101 +95,96 @@ impl Lendable {
         Lendable { answer: vec![0; answer], definitions: vec![0; definitions], scratch: vec![0; scratch] }
     }
 
-    fn ask(&mut self, engine: &dyn Engine, policy: &[u32], query: &[u32], store: &[u32]) -> Outcome {
+    fn ask(&mut self, engine: &dyn Engine, asked: &Asked, draws: u32) -> Outcome {
         let lent = Lent { answer: &mut self.answer, definitions: &mut self.definitions, scratch: &mut self.scratch };
-        let reply = engine.query(policy, query, store, lent);
-        assert_eq!(reply & 0xFF, 0, "the query is answered");
+        let reply = engine.query(&asked.policy, &asked.query, &asked.store, lent);
+        assert_eq!((reply & 0xFF, reply >> 32), (0, draws.into()), "the query is answered, after these draws");
         Outcome::of(&self.answer)
     }
 }
 
-/// A query task for the engines and two programs by hand, which write the answer's words.
-fn query_task(
-    name: &'static str,
-    policy: Vec<u32>,
-    query: Vec<u32>,
-    store: &[u32],
-    hand: impl Fn(&[u32], &[u32], &mut [u32]) + 'static,
-    free: impl Fn(&[u32], &[u32], &mut [u32]) + 'static,
-) -> Task {
+/// A program by hand as a contestant's run.
+fn by_hand(asked: &Rc<Asked>, draws: u32, program: impl Fn(&Asked, &mut [u32]) -> Option<u32>) -> impl FnMut() -> Outcome {
+    let (asked, mut answer) = (Rc::clone(asked), vec![0; Areas::LEAST.answer]);
+    move || {
+        assert_eq!(program(&asked, &mut answer), Some(draws), "the draws of a sound store");
+        Outcome::of(&answer)
+    }
+}
+
+/// A query task for the engines and two programs by hand, the first of which stands behind a test of the store.
+fn query_task(name: &'static str, asked: Asked, draws: u32, hand: Program, free: Program) -> Task {
+    let asked = Rc::new(asked);
     let mut contestants = Vec::new();
     for (name, engine) in engines() {
-        let (policy, query, store, mut areas) = (policy.clone(), query.clone(), store.to_vec(), Lendable::new());
-        contestants.push(contestant(name, move || areas.ask(engine.as_ref(), &policy, &query, &store)));
+        let (asked, mut areas) = (Rc::clone(&asked), Lendable::new());
+        contestants.push(contestant(name, move || areas.ask(engine.as_ref(), &asked, draws)));
     }
-    let by_hand = |program: Box<dyn Fn(&[u32], &[u32], &mut [u32])>| {
-        let (query, store, mut answer) = (query.clone(), store.to_vec(), vec![0; Areas::LEAST.answer]);
-        move || {
-            program(&query, &store, &mut answer);
-            Outcome::of(&answer)
-        }
-    };
-    contestants.push(contestant(HAND, by_hand(Box::new(hand))));
-    contestants.push(contestant(FREE, by_hand(Box::new(free))));
+    contestants.push(contestant(HAND, by_hand(&asked, draws, hand::tested(hand))));
+    contestants.push(contestant(FREE, by_hand(&asked, draws, free)));
     Task { name, contestants }
+}
+
+/// Files them all into an empty store.
+fn filing(records: &[Record], mut file: impl FnMut(&mut [u32], &Record) -> bool) -> impl FnMut() -> Outcome {
+    let (records, mut store) = (records.to_vec(), vec![0; STORE_WORDS]);
+    move || {
+        store[0] = 0;
+        let filed = records.iter().filter(|record| file(&mut store, record)).count();
+        Outcome { rows: filed as u64, sum: 0 }
+    }
 }
 
 fn filing_task(records: &[Record]) -> Task {
     let mut contestants = Vec::new();
-    let all = |mut file: Box<dyn FnMut(&mut [u32], &Record) -> bool>| {
-        let (records, mut store) = (records.to_vec(), vec![0; STORE_WORDS]);
-        move || {
-            store[0] = 0;
-            let filed = records.iter().filter(|record| file(&mut store, record)).count();
-            Outcome { rows: filed as u64, sum: 0 }
-        }
-    };
     for (name, engine) in engines() {
-        contestants.push(contestant(name, all(Box::new(move |store, record| engine.file(store, record) == 0))));
+        contestants.push(contestant(name, filing(records, move |store, record| engine.file(store, record) == 0)));
     }
-    contestants.push(contestant(HAND, all(Box::new(hand::file))));
-    contestants.push(contestant(FREE, all(Box::new(hand::file_free))));
+    contestants.push(contestant(HAND, filing(records, hand::file)));
+    contestants.push(contestant(FREE, filing(records, hand::file_free)));
     Task { name: "d: 2,000 certificates filed in random order", contestants }
 }
 
 fn tasks() -> Vec<Task> {
-    let certificates = tasks::certificates();
-    let store = tasks::full_store(&certificates);
+    let (certificates, delegations) = (tasks::certificates(), tasks::delegations());
     let filed = tasks::in_random_order(&certificates);
-    let nothing = || tasks::EMPTY_POLICY.to_vec();
-    let draws = |expected: u32, found: Option<u32>| assert_eq!(found, Some(expected), "the draws of a sound store");
+    let asked = |policy: &[u32], query: Vec<u32>| Asked { policy: policy.to_vec(), query, store: tasks::store_of(&certificates) };
+    let alone = |query: Vec<u32>| asked(tasks::EMPTY_POLICY, query);
     let mut tasks = vec![
         query_task(
             "a: released and not withdrawn, a full store",
-            tasks::policy_p(),
-            tasks::QUERY_Q.to_vec(),
-            &store,
-            move |_, store, answer| draws(128, hand::public(store, answer)),
-            move |_, store, answer| draws(128, hand::public_free(store, answer)),
+            asked(&tasks::policy_p(), tasks::QUERY_Q.to_vec()),
+            128,
+            hand::public,
+            hand::public,
         ),
-        query_task(
-            "b: join of two names of 100 rows",
-            nothing(),
-            tasks::join_query(),
-            &store,
-            move |_, store, answer| draws(10_100, hand::join(store, answer)),
-            move |_, store, answer| draws(10_100, hand::join_free(store, answer)),
-        ),
-        query_task(
-            "c: 990,100 draws",
-            nothing(),
-            tasks::draws_query(),
-            &store,
-            |query, _, answer| assert_eq!(hand::draws(query, answer), 990_100),
-            |query, _, answer| assert_eq!(hand::draws_free(query, answer), 990_100),
-        ),
+        query_task("b: join of two names of 100 rows", alone(tasks::join_query()), 10_100, hand::join, hand::join_free),
+        query_task("c: 990,100 draws", alone(tasks::draws_query(tasks::CONSTANT)), 990_100, hand::draws_constant, hand::draws_constant_free),
         filing_task(&filed),
+        query_task("e: a small query on a full store", alone(tasks::small_query()), 0, hand::small, hand::small),
         query_task(
-            "e: a small query on a full store",
-            nothing(),
-            tasks::small_query(),
-            &store,
-            move |_, store, answer| draws(0, hand::small(store, answer)),
-            move |_, store, answer| draws(0, hand::small_free(store, answer)),
+            "f: 990,100 draws, another head row at each",
+            alone(tasks::draws_query(tasks::LAST)),
+            990_100,
+            hand::draws_last,
+            hand::draws_last_free,
+        ),
+        query_task(
+            "g: delegation to 40 observatories, 840 draws",
+            Asked { store: tasks::store_of(&delegations), ..alone(tasks::delegation_query()) },
+            840,
+            hand::delegation,
+            hand::delegation,
+        ),
+        query_task(
+            "h: absent from a definition of 128 rows",
+            asked(&tasks::embargo_policy(), tasks::embargo_query()),
+            128,
+            hand::embargo,
+            hand::embargo,
         ),
     ];
-    #[cfg(sqlite)]
-    for (task, run) in tasks.iter_mut().zip(sqlite_runs(&certificates, filed)) {
+    for (task, run) in tasks.iter_mut().zip(sqlite_runs(certificates, delegations, filed)) {
         task.contestants.push(Contestant { name: SQLITE, run });
     }
     tasks
@@ -172,20 +192,28 @@ fn tasks() -> Vec<Task> {
 
 /// In the order of the tasks. The databases live as long as the program.
 #[cfg(sqlite)]
-fn sqlite_runs(certificates: &std::collections::BTreeSet<Record>, filed: Vec<Record>) -> [Box<dyn FnMut() -> Outcome>; 5] {
-    use sqlite::Database;
-    let held: &'static Database = Box::leak(Box::new(Database::holding(certificates.iter().copied())));
-    let empty: &'static Database = Box::leak(Box::new(Database::holding([])));
-    let literals: &'static Database = Box::leak(Box::new(Database::of_literals()));
-    let (mut public, mut join, mut draws, mut small) = (held.public(), held.join(), literals.draws(), held.small());
+fn sqlite_runs(certificates: BTreeSet<Record>, delegations: BTreeSet<Record>, filed: Vec<Record>) -> [Run; 8] {
+    let kept = |database: Database| -> &'static Database { Box::leak(Box::new(database)) };
+    let (held, delegations, empty) = (kept(Database::holding(certificates)), kept(Database::holding(delegations)), kept(Database::holding([])));
+    let literals = kept(Database::of_literals());
+    held.hold("embargoed", tasks::embargoed());
+    let answered = |mut statement: Statement<'static>, columns| -> Run { Box::new(move || statement.run(&[], columns)) };
     let (mut insert, mut transaction) = (empty.insert(), empty.transaction());
     [
-        Box::new(move || public.run(&[], 1)),
-        Box::new(move || join.run(&[], 2)),
-        Box::new(move || draws.run(&[], 1)),
+        answered(held.public(), 1),
+        answered(held.join(), 2),
+        answered(literals.draws_constant(), 1),
         Box::new(move || empty.file_all(&mut insert, &mut transaction, &filed)),
-        Box::new(move || small.run(&[], 4)),
+        answered(held.small(), 4),
+        answered(literals.draws_last(), 1),
+        answered(delegations.delegation(), 1),
+        answered(held.embargo(), 1),
     ]
+}
+
+#[cfg(not(sqlite))]
+fn sqlite_runs(_: BTreeSet<Record>, _: BTreeSet<Record>, _: Vec<Record>) -> [Run; 0] {
+    []
 }
 
 /// Three digits, in the unit that fits.
@@ -219,13 +247,22 @@ fn cell(measured: &Measured, contestant: &str) -> String {
     format!("{} ({})", readable(seconds), ratio(seconds / hand))
 }
 
+/// Those that took part.
+pub fn columns(measured: &[Measured]) -> Vec<Column> {
+    COLUMNS.into_iter().filter(|column| measured.iter().any(|task| task.seconds(column.name).is_some())).collect()
+}
+
+fn print_line(first: &str, cells: impl Iterator<Item = String>) {
+    println!("| {first} | {} |", cells.collect::<Vec<_>>().join(" | "));
+}
+
 fn print_table(measured: &[Measured]) {
-    let present: Vec<&str> = CONTESTANTS.into_iter().filter(|name| measured[0].seconds(name).is_some()).collect();
-    println!("| task | {} |", present.join(" | "));
-    println!("|---|{}", "---|".repeat(present.len()));
+    let columns = columns(measured);
+    print_line("task", columns.iter().map(|column| column.name.into()));
+    println!("|---|{}", "---|".repeat(columns.len()));
+    print_line("*leaves out*", columns.iter().map(|column| format!("*{}*", column.leaves_out)));
     for task in measured {
-        let cells: Vec<String> = present.iter().map(|name| cell(task, name)).collect();
-        println!("| {} | {} |", task.task, cells.join(" | "));
+        print_line(task.task, columns.iter().map(|column| cell(task, column.name)));
     }
 }
 

@@ -1,10 +1,9 @@
 //! The figures as bars on a logarithmic scale, in SVG.
 
 use crate::measure::Measured;
-use crate::{ratio, readable, CONTESTANTS, HAND};
+use crate::{cell, columns, readable, Column};
 use std::fmt::Write;
 
-const COLOURS: [&str; 5] = ["#1b6ca8", "#9aa5b1", "#2f9e44", "#a9d8b0", "#e8890c"];
 const WIDTH: f64 = 900.0;
 const NAMES: f64 = 150.0;
 const FIGURES: f64 = 160.0;
@@ -30,11 +29,12 @@ impl Scale {
 }
 
 pub fn draw(measured: &[Measured]) -> String {
-    let scale = Scale::of(measured);
+    let (scale, columns) = (Scale::of(measured), columns(measured));
     let mut body = String::new();
-    let mut y = MARGIN;
+    let mut y = draw_group(&mut body, "what each leaves out of document 01", MARGIN, &columns, |column| Some((BAR, column.leaves_out.into())));
     for task in measured {
-        y = draw_task(&mut body, task, &scale, y);
+        let bar = |column: &Column| task.seconds(column.name).map(|seconds| (scale.length(seconds).max(1.0), cell(task, column.name)));
+        y = draw_group(&mut body, task.task, y, &columns, bar);
     }
     let height = y + TITLE + MARGIN;
     let foot =
@@ -46,17 +46,16 @@ pub fn draw(measured: &[Measured]) -> String {
     )
 }
 
-/// Gives the height where the next task starts.
-fn draw_task(body: &mut String, task: &Measured, scale: &Scale, top: f64) -> f64 {
-    text(body, MARGIN, top + TITLE / 2.0, "task", task.task);
-    let hand = task.seconds(HAND).expect("every task has a hand-tuned program");
+/// A title, and for each column a bar with words behind it. Gives the height where the next group starts.
+fn draw_group(body: &mut String, title: &str, top: f64, columns: &[Column], bar: impl Fn(&Column) -> Option<(f64, String)>) -> f64 {
+    text(body, MARGIN, top + TITLE / 2.0, "task", title);
     let mut y = top + TITLE;
-    for (name, colour) in CONTESTANTS.into_iter().zip(COLOURS) {
-        let Some(seconds) = task.seconds(name) else { continue };
-        let length = scale.length(seconds).max(1.0);
-        text(body, MARGIN, y + BAR / 2.0, "name", name);
-        writeln!(body, "<rect x=\"{NAMES}\" y=\"{y}\" width=\"{length:.1}\" height=\"{}\" fill=\"{colour}\"/>", BAR - 3.0).expect("strings take all");
-        text(body, NAMES + length + 6.0, y + BAR / 2.0, "figure", &format!("{} ({})", readable(seconds), ratio(seconds / hand)));
+    for column in columns {
+        let Some((length, words)) = bar(column) else { continue };
+        text(body, MARGIN, y + BAR / 2.0, "name", column.name);
+        let (height, colour) = (BAR - 3.0, column.colour);
+        writeln!(body, "<rect x=\"{NAMES}\" y=\"{y}\" width=\"{length:.1}\" height=\"{height}\" fill=\"{colour}\"/>").expect("strings take all");
+        text(body, NAMES + length + 6.0, y + BAR / 2.0, "figure", &words);
         y += BAR;
     }
     y + MARGIN

@@ -1,9 +1,10 @@
 //! As much of SQLite's C interface as the tasks need, and the tasks as SQL: in memory, indexed by the primary key, prepared once.
 
-use crate::tasks::{LEFT, OBSERVATORY, RELEASED, RIGHT, SIZES, SMALL, WITHDRAWN};
+use crate::tasks::{ARCHIVE, LEFT, OBSERVATORY, RELEASED, RIGHT, SIZES, SMALL, TRUSTED, WITHDRAWN};
 use crate::Outcome;
 use differential::evaluator::Record;
 use std::ffi::{c_char, c_int, c_void, CStr, CString};
+use std::fmt::Display;
 use std::ptr::null_mut;
 
 type Handle = *mut c_void;
@@ -27,6 +28,19 @@ const DONE: c_int = 101;
 pub fn version() -> String {
     // SAFETY: SQLite gives a string that lasts.
     unsafe { CStr::from_ptr(sqlite3_libversion()) }.to_string_lossy().into_owned()
+}
+
+/// That a certificate is of this name and width.
+fn of_name(certificate: &str, key: impl Display, name: u32, polarity: u32, width: u32) -> String {
+    let conditions = [format!("key = {key}"), format!("name = {name}"), format!("polarity = {polarity}"), format!("width = {width}")];
+    conditions.map(|condition| format!("{certificate}.{condition}")).join(" AND ")
+}
+
+/// That a certificate `r` says that a row is released, and another of the same key that it is not withdrawn.
+fn public(key: impl Display) -> String {
+    let released = of_name("r", &key, RELEASED, 0, 1);
+    let not_withdrawn = of_name("w", &key, WITHDRAWN, 1, 1);
+    format!("{released} AND EXISTS (SELECT 1 FROM certificate w WHERE {not_withdrawn} AND w.a = r.a AND w.b = 0 AND w.c = 0 AND w.d = 0)")
 }
 
 pub struct Database(Handle);
@@ -76,13 +90,18 @@ impl Database {
     pub fn of_literals() -> Database {
         let database = Database::open();
         for (table, size) in ["first", "second", "third"].iter().zip(SIZES) {
-            database.run(&format!("CREATE TABLE {table} (n INTEGER PRIMARY KEY)"));
-            let mut insert = database.prepare(&format!("INSERT INTO {table} VALUES (?1)"));
-            for n in 0..size {
-                insert.run(&[n], 0);
-            }
+            database.hold(table, 0..size);
         }
         database
+    }
+
+    /// A literal as a table.
+    pub fn hold(&self, table: &str, numbers: impl Iterator<Item = u32>) {
+        self.run(&format!("CREATE TABLE {table} (n INTEGER PRIMARY KEY)"));
+        let mut insert = self.prepare(&format!("INSERT INTO {table} VALUES (?1)"));
+        for n in numbers {
+            insert.run(&[n], 0);
+        }
     }
 
     pub fn insert(&self) -> Statement<'_> {
@@ -103,23 +122,34 @@ impl Database {
     }
 
     pub fn public(&self) -> Statement<'_> {
+        self.prepare(&format!("SELECT r.a FROM certificate r WHERE {} ORDER BY r.a", public(OBSERVATORY)))
+    }
+
+    pub fn delegation(&self) -> Statement<'_> {
+        let trusted = of_name("t", ARCHIVE, TRUSTED, 0, 1);
+        self.prepare(&format!("SELECT DISTINCT r.a FROM certificate t, certificate r WHERE {trusted} AND {} ORDER BY r.a", public("t.a")))
+    }
+
+    /// The definition is a table, `embargoed`.
+    pub fn embargo(&self) -> Statement<'_> {
+        let released = of_name("r", OBSERVATORY, RELEASED, 0, 1);
         self.prepare(&format!(
-            "SELECT r.a FROM certificate r WHERE r.key = {OBSERVATORY} AND r.name = {RELEASED} AND r.polarity = 0 AND r.width = 1
-             AND EXISTS (SELECT 1 FROM certificate w WHERE w.key = {OBSERVATORY} AND w.name = {WITHDRAWN} AND w.polarity = 1
-                         AND w.width = 1 AND w.a = r.a AND w.b = 0 AND w.c = 0 AND w.d = 0) ORDER BY r.a"
+            "SELECT r.a FROM certificate r WHERE {released} AND NOT EXISTS (SELECT 1 FROM embargoed WHERE embargoed.n = r.a) ORDER BY r.a"
         ))
     }
 
     pub fn join(&self) -> Statement<'_> {
-        self.prepare(&format!(
-            "SELECT DISTINCT l.a, r.b FROM certificate l, certificate r WHERE l.key = {OBSERVATORY} AND l.name = {LEFT} AND l.polarity = 0
-             AND l.width = 2 AND r.key = {OBSERVATORY} AND r.name = {RIGHT} AND r.polarity = 0 AND r.width = 2 AND r.a = l.b ORDER BY 1, 2"
-        ))
+        let (left, right) = (of_name("l", OBSERVATORY, LEFT, 0, 2), of_name("r", OBSERVATORY, RIGHT, 0, 2));
+        self.prepare(&format!("SELECT DISTINCT l.a, r.b FROM certificate l, certificate r WHERE {left} AND {right} AND r.a = l.b ORDER BY 1, 2"))
     }
 
     /// The constant head, from every binding.
-    pub fn draws(&self) -> Statement<'_> {
+    pub fn draws_constant(&self) -> Statement<'_> {
         self.prepare("SELECT min(7), count(*) FROM first, second, third")
+    }
+
+    pub fn draws_last(&self) -> Statement<'_> {
+        self.prepare("SELECT DISTINCT third.n FROM first, second, third ORDER BY third.n")
     }
 
     pub fn small(&self) -> Statement<'_> {

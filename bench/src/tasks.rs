@@ -4,6 +4,7 @@ use differential::evaluator::{key, Record, Row, MOST_CERTIFICATES, STORE_WORDS};
 use differential::random::Random;
 use std::collections::BTreeSet;
 
+pub const ARCHIVE: u32 = key(0);
 pub const OBSERVATORY: u32 = key(1);
 pub const RELEASED: u32 = 1;
 pub const WITHDRAWN: u32 = 2;
@@ -12,6 +13,15 @@ pub const LEFT: u32 = 3;
 pub const RIGHT: u32 = 4;
 /// A name of a few rows.
 pub const SMALL: u32 = 5;
+/// The archive's list of the observatories that it trusts.
+pub const TRUSTED: u32 = 6;
+
+/// What a query is asked of.
+pub struct Asked {
+    pub policy: Vec<u32>,
+    pub query: Vec<u32>,
+    pub store: Vec<u32>,
+}
 
 pub const EMPTY_POLICY: &[u32] = &[1, 0];
 
@@ -29,31 +39,60 @@ pub fn join_query() -> Vec<u32> {
     [vec![7, 2], draw(LEFT, [2, 0, 2, 1]), draw(RIGHT, [1, 1, 2, 2]), vec![2, 1, 0, 1, 2]].concat()
 }
 
+fn literal(numbers: impl ExactSizeIterator<Item = u32>) -> Vec<u32> {
+    let count = numbers.len() as u32;
+    [1, count].into_iter().chain(numbers.flat_map(|n| [1, 0, n])).collect()
+}
+
 /// The sizes of the literals that 990,100 draws are made from.
 pub const SIZES: [u32; 3] = [100, 100, 98];
 
-pub fn draws_query() -> Vec<u32> {
-    let mut words = vec![7, 3];
-    for (size, variable) in SIZES.into_iter().zip(0..) {
-        words.extend([1, 1, size]);
-        words.extend((0..size).flat_map(|n| [1, 0, n]));
-        words.extend([1, 2, variable]);
-    }
-    words.extend([1, 0, 7]);
-    words
+/// Heads of one term: a constant, and the last variable drawn.
+pub const CONSTANT: [u32; 2] = [0, 7];
+pub const LAST: [u32; 2] = [1, 2];
+
+pub fn draws_query(head: [u32; 2]) -> Vec<u32> {
+    let draw = |(size, variable): (u32, u32)| [vec![1], literal(0..size), vec![1, 2, variable]].concat();
+    let draws = SIZES.into_iter().zip(0..).flat_map(draw);
+    [7, 3].into_iter().chain(draws).chain([1]).chain(head).collect()
 }
 
 pub fn small_query() -> Vec<u32> {
     vec![4, 0, OBSERVATORY, SMALL, 0]
 }
 
-fn certificate(name: u32, polarity: u32, row: &[u32]) -> Record {
+/// Released by an observatory that the archive trusts, and not withdrawn by the same.
+pub fn delegation_query() -> Vec<u32> {
+    let trusted = [1, 4, 0, ARCHIVE, TRUSTED, 0, 1, 2, 0];
+    let released = [1, 4, 1, 0, RELEASED, 0, 1, 2, 1];
+    let not_withdrawn = [4, 1, 1, 1, 4, 1, 0, WITHDRAWN, 1];
+    [&[7, 3], &trusted[..], &released, &not_withdrawn, &[1, 1, 1]].concat()
+}
+
+/// What a curator holds back: 128 rows, half of them among those released.
+pub fn embargoed() -> impl ExactSizeIterator<Item = u32> {
+    (0..128).map(|n| 14 * n)
+}
+
+/// The embargo is declared −, so that absence from it is +.
+pub fn embargo_policy() -> Vec<u32> {
+    let definition = literal(embargoed());
+    [vec![1, 1, 11, 1, 6, definition.len() as u32], definition].concat()
+}
+
+/// Released, and absent from the embargo.
+pub fn embargo_query() -> Vec<u32> {
+    vec![7, 2, 1, 4, 0, OBSERVATORY, RELEASED, 0, 1, 2, 0, 4, 1, 1, 0, 3, 0, 1, 1, 0]
+}
+
+fn certificate(issuer: u32, name: u32, polarity: u32, row: &[u32]) -> Record {
     let [width, a, b, c, d] = Row::new(row).words();
-    [OBSERVATORY, name, polarity, width, a, b, c, d]
+    [issuer, name, polarity, width, a, b, c, d]
 }
 
 /// 2,000 certificates: 128 released rows, 100 of them not withdrawn, 100 left and 100 right, four of a small name, and others.
 pub fn certificates() -> BTreeSet<Record> {
+    let certificate = |name, polarity, row: &[u32]| certificate(OBSERVATORY, name, polarity, row);
     let mut all: BTreeSet<Record> = (0..128).map(|n| certificate(RELEASED, 0, &[7 * n])).collect();
     all.extend((14..114).map(|n| certificate(WITHDRAWN, 1, &[7 * n])));
     all.extend((0..100).map(|n| certificate(LEFT, 0, &[n, 1_000 + (37 * n) % 100])));
@@ -65,7 +104,21 @@ pub fn certificates() -> BTreeSet<Record> {
     all
 }
 
-pub fn full_store(certificates: &BTreeSet<Record>) -> Vec<u32> {
+/// 1,640 certificates: 40 trusted observatories, each with 20 of 100 observations released and 20 not withdrawn, 10 in both lists.
+pub fn delegations() -> BTreeSet<Record> {
+    let mut all = BTreeSet::new();
+    for n in 0..40 {
+        let observatory = key(1 + n);
+        let observed = |place: u32| (37 * n + 3 * place) % 100;
+        all.insert(certificate(ARCHIVE, TRUSTED, 0, &[observatory]));
+        all.extend((0..20).map(|place| certificate(observatory, RELEASED, 0, &[observed(place)])));
+        let even = (0..40).map(observed).filter(|observation| observation % 2 == 0);
+        all.extend(even.map(|observation| certificate(observatory, WITHDRAWN, 1, &[observation])));
+    }
+    all
+}
+
+pub fn store_of(certificates: &BTreeSet<Record>) -> Vec<u32> {
     let mut store = vec![certificates.len() as u32];
     store.extend(certificates.iter().flatten());
     store.resize(STORE_WORDS, 0);
