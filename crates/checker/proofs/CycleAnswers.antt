@@ -27,7 +27,7 @@ use Rattle.terms.specs.declared.GuardRead as GuardRead
 use Rattle.terms.specs.declared.GuardRead.the-variants as guardRead
 use Rattle.terms.specs.declared.PatternRead as PatternRead
 use Rattle.terms.specs.declared.PatternRead.the-variants as patternRead
-use Rattle.policy.proofs.LeafDecoding.{no-node, code-bounds, no-code}
+use Rattle.policy.proofs.LeafDecoding.{no-node, not-node, code-bounds, no-code}
 use Rattle.policy.proofs.Guard.{the-type}
 use Rattle.terms.proofs.Answering.{Got, Lost, got-of, lost-of, tested-first, same-rule}
 use Rattle.terms.proofs.TermAnswers.{guard-found}
@@ -86,7 +86,7 @@ module _ {ws : List ℕ} {at : ℕ} (n k : ℕ) (ks : List Known) where
 leaf-facts : (ks : List Known) (inner : ℕ → Reader Expr) (n code : ℕ) → (code ≡ 5 → ⊥) → (code ≡ 6 → ⊥) → (code ≡ 7 → ⊥) → (us : List ℕ) (k : ℕ) →
     codeFacts ks inner n code us k ≡ leafFacts ks n code us k
 unfolding codeFacts leafFacts keeping exprAs
-leaf-facts ks inner n code u d c us k = rw (no-node code u d c) (kept-give (factsOf ks) leaf (leafAs (length ks) n (leafOf code) us k))
+leaf-facts ks inner n code u d c us k = rw (no-node code (not-node code u d c)) (kept-give (factsOf ks) leaf (leafAs (length ks) n (leafOf code) us k))
 
 -- a comprehension's code, and the count of its guards
 counted : (n k : ℕ) (ks : List Known) (inner : ℕ → Reader Expr) (code : ℕ) → code ≡ 7 → (us : List ℕ) →

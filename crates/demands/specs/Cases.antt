@@ -9,7 +9,7 @@ use Rattle.rows.specs.Sets.{only, allBut}
 use Rattle.certificates.specs.Filing.{storeAt}
 use Rattle.policy.specs.Polarity.{exact, lower, upper}
 use Rattle.policy.specs.Judged.{k1, P, Q, none as noDefinitions}
-use Rattle.demands.specs.Query.{Outcome, answered, declined, Call, queryCall}
+use Rattle.demands.specs.Query.{Outcome, answered, declined, queryCall}
 
 -- "An empty store is a sound one with the count 0, whatever words follow."
 unfoldable pub emptyStore : List ℕ

@@ -5,17 +5,14 @@ use mathlib.Core.List.{List, [], _∷_, _++_}
 use lib.Dec.{leb}
 use lib.ListN.{length}
 use Rattle.refusals.specs.Table.{badStore, shortArea, queryPart, noPart}
-use Rattle.rows.specs.Ordered.{same, lists, keep, insert, join, common, without, wordsBefore}
-use Rattle.rows.specs.Row.{rowBefore}
-use Rattle.rows.specs.Sets.{RowSet, has, unite, subtract, listing}
+use Rattle.rows.specs.Sets.{RowSet}
 use Rattle.rows.specs.Layout.{setRoom, written}
-use Rattle.certificates.specs.Certificate.{Certificate}
 use Rattle.certificates.specs.Store.{soundStore, certificates}
 use Rattle.policy.specs.Syntax.{Expr}
 use Rattle.policy.specs.Polarity.{Verdict}
-use Rattle.policy.specs.Judgement.{Checked, checked, unchecked, check}
+use Rattle.policy.specs.Judgement.{checked, unchecked, check}
 use Rattle.meaning.specs.Evidence.{Evidence, namesHeld}
-use Rattle.meaning.specs.Reading.{Answer, done, refused, read}
+use Rattle.meaning.specs.Reading.{done, refused, read}
 
 -- the verdict, the draws and the set; or the refusal's number and part
 pub data Outcome : Type 0 where

@@ -50,6 +50,16 @@ pub row-in-atom : (ws : List ℕ) (j : ℕ) → j < getD ws 0 0 → getD (rowIn 
 unfolding rowIn
 row-in-atom ws j h = getD-take (getD ws 0 0) (drop 1 ws) j 0 h ∙ getD-drop 1 ws j 0
 
+-- the row whose five words stand at a place
+pub row-at-length : (ws : List ℕ) (at : ℕ) → at + 5 ≤ length ws → getD ws at 0 ≤ 4 → length (rowIn (fiveAt ws at)) ≡ getD ws at 0
+row-at-length ws at room few = let e = five-width ws at in row-in-length (fiveAt ws at) (five-length ws at room) (omega arith) ∙ e
+
+pub row-at-atom : (ws : List ℕ) (at j : ℕ) → getD ws at 0 ≤ 4 → j < getD ws at 0 → getD (rowIn (fiveAt ws at)) j 0 ≡ getD ws (at + 1 + j) 0
+row-at-atom ws at j few h =
+    let e = five-width ws at in
+    let s : at + (1 + j) ≡ at + 1 + j = omega arith in
+    row-in-atom (fiveAt ws at) j (omega arith) ∙ five-at ws at (1 + j) (omega arith) ∙ ap (λ (k : ℕ). getD ws k 0) s
+
 pub sound-narrow : (ws : List ℕ) (at : ℕ) → soundRow (fiveAt ws at) ≡ true → getD ws at 0 ≤ 4
 sound-narrow ws at e = let s = sound-width (fiveAt ws at) e .few in omega (arith, five-width ws at)
 
@@ -250,13 +260,7 @@ module _ (r : Held.Row) (ws : List ℕ) (at : ℕ) (room : at + 5 ≤ length ws)
   mine-width = held-length r four few
 
   their-width : length (rowIn (fiveAt ws at)) ≡ getD ws at 0
-  their-width = let e = five-width ws at in row-in-length (fiveAt ws at) (five-length ws at room) (omega arith) ∙ e
-
-  their-atom : (j : ℕ) → j < getD ws at 0 → getD (rowIn (fiveAt ws at)) j 0 ≡ getD ws (at + 1 + j) 0
-  their-atom j h =
-      let e = five-width ws at in
-      let s : at + (1 + j) ≡ at + 1 + j = omega arith in
-      row-in-atom (fiveAt ws at) j (omega arith) ∙ five-at ws at (1 + j) (omega arith) ∙ ap (λ (k : ℕ). getD ws k 0) s
+  their-width = row-at-length ws at room narrow
 
   pub compare-narrower : r .width < getD ws at 0 → orderOf (rowOf r) (rowIn (fiveAt ws at)) ≡ Before
   compare-narrower h = order-before _ _ (narrower _ _ (omega (arith, mine-width, their-width)))
@@ -277,7 +281,7 @@ module _ (r : Held.Row) (ws : List ℕ) (at : ℕ) (room : at + 5 ≤ length ws)
         here = held-atom r j h
 
         there : getD (rowIn (fiveAt ws at)) j 0 ≡ getD ws (at + 1 + j) 0
-        there = their-atom j (omega arith)
+        there = row-at-atom ws at j narrow (omega arith)
 
         pub compare-less : getD (r .atoms) j 0 < getD ws (at + 1 + j) 0 → orderOf (rowOf r) (rowIn (fiveAt ws at)) ≡ Before
         compare-less l = order-before _ _ (agree-before _ _ j a (omega (arith, mine-width)) (omega (arith, here, there)))

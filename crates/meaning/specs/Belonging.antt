@@ -10,7 +10,7 @@ use Rattle.rows.specs.Ordered.{_∈_}
 use Rattle.rows.specs.Row.{Row, IsRow, isKey}
 use Rattle.rows.specs.Name.{Polarity, plus, minus}
 use Rattle.policy.specs.Leaf.{Leaf, finite, cofinite, definition, listed}
-use Rattle.policy.specs.Syntax.{Term, Slot, old, new, Expr, leaf, union, difference, comprehension, Body, head, draw, same, different, absent}
+use Rattle.policy.specs.Syntax.{Slot, old, new, Expr, leaf, union, difference, comprehension, Body, head, draw, same, different, absent}
 use Rattle.policy.specs.Words.{fresh}
 use Rattle.meaning.specs.Values.{Values, value, rowOf}
 use Rattle.meaning.specs.World.{World}

@@ -3,7 +3,7 @@ use Prim.Native.Nat.{ℕ}
 use mathlib.Core.Bool.{Bool, true, false, _&&_}
 use mathlib.Core.List.{List, [], _∷_}
 use lib.Dec.{eqb}
-use Rattle.rows.specs.Ordered.{insert, wordsBefore}
+use Rattle.rows.specs.Ordered.{insert}
 use Rattle.rows.specs.Row.{Row, isKey, rowBefore}
 use Rattle.rows.specs.Name.{Polarity, plus, minus, samePolarity}
 use Rattle.rows.specs.Sets.{RowSet, only, allBut}

@@ -1,12 +1,12 @@
 -- Document 01, "Reading": the set that an expression is read as, with the draws counted and refusals 12, 13 and 14 where they are first met.
-use Prim.Native.Nat.{ℕ, zero, suc, _+_}
-use mathlib.Core.Bool.{Bool, true, false}
+use Prim.Native.Nat.{ℕ, _+_}
+use mathlib.Core.Bool.{true, false}
 use mathlib.Core.List.{List, [], _∷_, _++_}
 use mathlib.Core.Option.{Option, none, some}
 use lib.Dec.{leb, ltb, eqb}
 use lib.ListN.{length, getD}
 use Rattle.refusals.specs.Table.{complementDrawn, tooManyRows, tooManyDraws}
-use Rattle.rows.specs.Ordered.{insert, wordsBefore}
+use Rattle.rows.specs.Ordered.{insert}
 use Rattle.rows.specs.Row.{Row, rowBefore}
 use Rattle.rows.specs.Sets.{RowSet, only, allBut, listing, mostRows, has, unite, subtract}
 use Rattle.policy.specs.Leaf.{Leaf, finite, cofinite, definition, listed}

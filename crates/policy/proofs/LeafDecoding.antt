@@ -5,13 +5,13 @@ use mathlib.Core.Bool.{false, _&&_}
 use mathlib.Core.List.{List}
 use native.Mathlib.Omega.{arith}
 use lib.Dec.{T, leb, ltb, ltb→lt, lt→ltb}
-use borrow.Author.Tests.{le-leb, lt-leb}
+use borrow.Author.Tests.{le-leb, lt-leb, leb-true}
 use Rattle.refusals.specs.Table.{badWord, notInScope}
 use Rattle.rows.specs.Name.{isName}
-use Rattle.rows.proofs.Case.{iff-refl}
+use Rattle.rows.proofs.Case.{Case, isTrue, isFalse, split, iff-refl, never}
 use Rattle.policy.specs.Leaf.{Leaf, finite, cofinite, definition, listed, leafCode, leafRest, FitLeaf, LeafCode, isFinite, isCofinite, isDefinition, isListed, noLeaf, leafOf, lastCode, someLeaf, leafAs}
 use Rattle.policy.specs.Syntax.{Expr}
-use Rattle.policy.specs.Decode.{refused, Reader, wordWhere, Code, isLeaf, isUnion, isDifference, isComprehension, codeOf, someCode, isCode, exprAs}
+use Rattle.policy.specs.Decode.{refused, Reader, wordWhere, Code, isLeaf, isUnion, isDifference, isComprehension, codeOf, isNode, someCode, isCode, exprAs}
 use Rattle.policy.proofs.Basics.{impossible}
 use Rattle.policy.proofs.Format.{Format, plain, oneWord, Made, made, Takes, Returns, Reads, refuse-takes, then-takes, last-takes, then-returns, last-returns}
 use Rattle.policy.proofs.Leaves.{where-reads, polarity-reads, issuer-reads, rows-reads}
@@ -53,17 +53,26 @@ leaf-coded (definition d) = refl
 leaf-coded (listed t m p) = refl
 
 -- a code that is no node's is a leaf's, or none
-pub no-node : (c : ℕ) → (c ≡ 5 → ⊥) → (c ≡ 6 → ⊥) → (c ≡ 7 → ⊥) → codeOf c ≡ isLeaf (leafOf c)
-unfolding codeOf
-no-node zero u d p = refl
-no-node (suc zero) u d p = refl
-no-node (suc (suc zero)) u d p = refl
-no-node (suc (suc (suc zero))) u d p = refl
-no-node (suc (suc (suc (suc zero)))) u d p = refl
-no-node (suc (suc (suc (suc (suc zero))))) u d p = absurd (u refl)
-no-node (suc (suc (suc (suc (suc (suc zero)))))) u d p = absurd (d refl)
-no-node (suc (suc (suc (suc (suc (suc (suc zero))))))) u d p = absurd (p refl)
-no-node (suc (suc (suc (suc (suc (suc (suc (suc c)))))))) u d p = refl
+pub no-node : (c : ℕ) → isNode c ≡ false → codeOf c ≡ isLeaf (leafOf c)
+unfolding isNode codeOf
+no-node zero e = refl
+no-node (suc zero) e = refl
+no-node (suc (suc zero)) e = refl
+no-node (suc (suc (suc zero))) e = refl
+no-node (suc (suc (suc (suc zero)))) e = refl
+no-node (suc (suc (suc (suc (suc zero))))) e = never refl e
+no-node (suc (suc (suc (suc (suc (suc zero)))))) e = never refl e
+no-node (suc (suc (suc (suc (suc (suc (suc zero))))))) e = never refl e
+no-node (suc (suc (suc (suc (suc (suc (suc (suc c)))))))) e = refl
+
+-- the nodes are union, difference and comprehension
+pub not-node : (c : ℕ) → (c ≡ 5 → ⊥) → (c ≡ 6 → ⊥) → (c ≡ 7 → ⊥) → isNode c ≡ false
+unfolding isNode
+not-node c u d p = go (split (leb 5 c))
+  where
+    go : Case (leb 5 c) → (leb 5 c && leb c 7) ≡ false
+    go (isTrue f) = let h = leb-true 5 c f in rw (f, lt-leb c 7 (omega arith))
+    go (isFalse f) = rw f
 
 past-last : (c : ℕ) → lastCode < c → false ≡ (leb 1 c && leb c lastCode)
 past-last c h = rw (le-leb 1 c (omega arith), lt-leb c lastCode h)

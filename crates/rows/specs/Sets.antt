@@ -2,7 +2,7 @@
 use Prim.Native.Nat.{ℕ}
 use mathlib.Core.Bool.{Bool, not}
 use mathlib.Core.List.{List}
-use Rattle.rows.specs.Ordered.{same, lists, insert, join, keep, common, without, wordsBefore}
+use Rattle.rows.specs.Ordered.{same, lists, join, common, without}
 use Rattle.rows.specs.Row.{Row, rowBefore}
 
 pub data RowSet : Type 0 where

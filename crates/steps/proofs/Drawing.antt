@@ -98,7 +98,7 @@ drawn-room free area f = let l = f .long in omega (arith, length-drop free area)
 
 -- ---- the loop: what the rows left lead to from here, all lead to from the start
 
-pub record Drawing (ws : List ℕ) (at : ℕ) (first : List ℕ) (count k : ℕ) (area : List ℕ) (free i listed : ℕ) (values : List ℕ) (used j : ℕ) : Type 0 where
+pub record Seeking (ws : List ℕ) (at : ℕ) (first : List ℕ) (count k : ℕ) (area : List ℕ) (free i listed : ℕ) (values : List ℕ) (used j : ℕ) : Type 0 where
   pub filled : Filled (drop free area)
   pub all : length (rowsIn (drop free area)) ≡ listed
   pub ahead : i ≤ j
@@ -106,9 +106,9 @@ pub record Drawing (ws : List ℕ) (at : ℕ) (first : List ℕ) (count k : ℕ)
   pub means : (p : List Slot) → StandsPattern count ws at p → (rest : Values → List Row → Reading (List Row)) (found : List Row) →
       drawEach rest p (take count first) (drop i (rowsIn (drop free area))) found k ≡ drawEach rest p (take count first) (drop j (rowsIn (drop free area))) found used
 
-pub drawing-start : {ws : List ℕ} {at : ℕ} {values : List ℕ} {count k : ℕ} {area : List ℕ} {free i listed : ℕ} → Filled (drop free area) → listed ≡ getD area (free + 1) 0 →
-    Drawing ws at values count k area free i listed values k i
-drawing-start {area} {free} f e = record {
+pub seeking-start : {ws : List ℕ} {at : ℕ} {values : List ℕ} {count k : ℕ} {area : List ℕ} {free i listed : ℕ} → Filled (drop free area) → listed ≡ getD area (free + 1) 0 →
+    Seeking ws at values count k area free i listed values k i
+seeking-start {area} {free} f e = record {
   filled = f;
   all = rows-count (drop free area) ∙ getD-drop free area 1 0 ∙ sym e;
   ahead = omega arith;
@@ -117,10 +117,10 @@ drawing-start {area} {free} f e = record {
 }
 
 module _ {ws : List ℕ} {at : ℕ} {first : List ℕ} {count k : ℕ} {area : List ℕ} {free i listed : ℕ} {values : List ℕ} {used j : ℕ}
-    (d : Drawing ws at first count k area free i listed values used j) where
-  pub drawing-end : listed ≤ j → SayDrawn ws at first count (rowsIn (drop free area)) i k (Drawn.the-variants.End used) values
+    (d : Seeking ws at first count k area free i listed values used j) where
+  pub seeking-end : listed ≤ j → SayDrawn ws at first count (rowsIn (drop free area)) i k (Drawn.the-variants.End used) values
   unfolding drawnAnswer Among InScope drawEach
-  drawing-end h = record {
+  seeking-end h = record {
     unchanged = d .unchanged;
     among = tt;
     scope = λ p s. tt;
@@ -155,9 +155,9 @@ module _ {ws : List ℕ} {at : ℕ} {first : List ℕ} {count k : ℕ} {area : L
         ap (λ (k : ℕ). rowIn (take 5 (drop k area))) row-place ∙ ap (λ (ws : List ℕ). rowIn (take 5 ws)) (sym (drop-drop (2 + 5 * j) free area))
         ∙ sym (row-at (drop free area) j count-here)
 
-    pub drawing-limit : {n : ℕ} → tick used ≡ refused n → SayDrawn ws at first count (rowsIn (drop free area)) i k (Drawn.the-variants.Refused n) values
+    pub seeking-limit : {n : ℕ} → tick used ≡ refused n → SayDrawn ws at first count (rowsIn (drop free area)) i k (Drawn.the-variants.Refused n) values
     unfolding drawnAnswer Among InScope
-    drawing-limit many = record {
+    seeking-limit many = record {
       unchanged = d .unchanged;
       among = tt;
       scope = λ p s. tt;
@@ -173,9 +173,9 @@ module _ {ws : List ℕ} {at : ℕ} {first : List ℕ} {count k : ℕ} {area : L
           ap (λ (x : Row). match p (take count first) x) (sym row-is)
           ∙ ap (λ (vs : Values). match p vs (rowIn (fiveAt area (free + 2 + 5 * j)))) (sym (d .unchanged .front)) ∙ said .means p s
 
-      pub drawing-miss : m .ok ≡ false → Drawing ws at first count k area free i listed later one (j + 1)
+      pub seeking-miss : m .ok ≡ false → Seeking ws at first count k area free i listed later one (j + 1)
       unfolding matchedAs onMatch after
-      drawing-miss ko =
+      seeking-miss ko =
           let a = d .ahead in
           record {
             filled = d .filled;
@@ -185,9 +185,9 @@ module _ {ws : List ℕ} {at : ℕ} {first : List ℕ} {count k : ℕ} {area : L
             means = λ p s rest found. d .means p s rest found ∙ draw-one rest p (take count first) (rowsIn (drop free area)) found used j inside-rows drawn none (matched s ∙ rw ko);
           }
 
-      pub drawing-hit : m .ok ≡ true → SayDrawn ws at first count (rowsIn (drop free area)) i k (Drawn.the-variants.Matches (j + 1) one (m .count)) later
+      pub seeking-hit : m .ok ≡ true → SayDrawn ws at first count (rowsIn (drop free area)) i k (Drawn.the-variants.Matches (j + 1) one (m .count)) later
       unfolding matchedAs onMatch drawnAnswer Among InScope
-      drawing-hit ok =
+      seeking-hit ok =
           let a = d .ahead in
           let l = inside-rows in
           record {

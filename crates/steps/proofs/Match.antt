@@ -12,7 +12,7 @@ use lib.Seq.{drop-cons}
 use borrow.Author.Tests.{eq-eqb, ne-eqb}
 use Rattle.rows.specs.Row.{Row}
 use Rattle.rows.specs.Layout.{rowIn, fiveAt}
-use Rattle.layout.proofs.RowLaws.{five-length, five-width, five-at, row-in-length, row-in-atom}
+use Rattle.layout.proofs.RowLaws.{row-at-length, row-at-atom}
 use Rattle.policy.specs.Syntax.{Term, Slot, old, new}
 use Rattle.policy.specs.Words.{termWords, slotWords, fresh}
 use Rattle.policy.specs.Held.{termOf}
@@ -195,18 +195,8 @@ pub record Fits (ws : List ℕ) (at : ℕ) (area : List ℕ) (row : ℕ) : Type 
   pub long : length (rowIn (fiveAt area row)) ≡ getD ws at 0
   pub atom : (j : ℕ) → j < getD ws at 0 → getD (rowIn (fiveAt area row)) j 0 ≡ getD area (row + 1 + j) 0
 
-row-long : (area : List ℕ) (row : ℕ) → row + 5 ≤ length area → getD area row 0 ≤ 4 → length (rowIn (fiveAt area row)) ≡ getD area row 0
-row-long area row room few = let e = five-width area row in row-in-length (fiveAt area row) (five-length area row room) (omega arith) ∙ e
-
 pub same-width : (ws : List ℕ) (at : ℕ) (area : List ℕ) (row : ℕ) → row + 5 ≤ length area → getD area row 0 ≤ 4 → getD area row 0 ≡ getD ws at 0 → Fits ws at area row
-same-width ws at area row room few e =
-    let w = five-width area row in
-    record {
-      long = row-long area row room few ∙ e;
-      atom = λ j h.
-          let s : row + (1 + j) ≡ row + 1 + j = omega arith in
-          row-in-atom (fiveAt area row) j (omega arith) ∙ five-at area row (1 + j) (omega arith) ∙ ap (λ (k : ℕ). getD area k 0) s;
-    }
+same-width ws at area row room few e = record { long = row-at-length area row room few ∙ e; atom = λ j h. row-at-atom area row j few (omega arith) }
 
 -- rows of another width do not match
 pub other-width : {ws : List ℕ} {at : ℕ} {values : List ℕ} {count : ℕ} (area : List ℕ) (row : ℕ) → row + 5 ≤ length area → getD area row 0 ≤ 4 → (getD area row 0 ≡ getD ws at 0 → ⊥) →
@@ -216,7 +206,7 @@ other-width {values} {count} area row room few h = record {
   unchanged = unchanged-self;
   means = λ p s.
       let w = pattern-wide s .width in
-      match-short p (take count values) (rowIn (fiveAt area row)) (λ e. h (sym (row-long area row room few) ∙ sym e ∙ sym w));
+      match-short p (take count values) (rowIn (fiveAt area row)) (λ e. h (sym (row-at-length area row room few) ∙ sym e ∙ sym w));
   scope = λ p s e. let w : _≡_ {A = ℕ} 0 1 = cc in absurd (omega arith);
 }
 

@@ -14,15 +14,15 @@ use Rattle.values.proofs.Places.{at-word, at-next, at-long, term-length
 -- ---- a leaf by its code
 
 -- P of a leaf with this code
-unfoldable Given : (Leaf → Type 0) → LeafCode → Type 0
-Given P isFinite = (rs : List (List Term)) → P (finite rs)
-Given P isCofinite = (rs : List (List Term)) → P (cofinite rs)
-Given P isDefinition = (d : ℕ) → P (definition d)
-Given P isListed = (t : Term) (k : ℕ) (p : Polarity) → P (listed t k p)
-Given P noLeaf = ⊥
+unfoldable ForCode : (Leaf → Type 0) → LeafCode → Type 0
+ForCode P isFinite = (rs : List (List Term)) → P (finite rs)
+ForCode P isCofinite = (rs : List (List Term)) → P (cofinite rs)
+ForCode P isDefinition = (d : ℕ) → P (definition d)
+ForCode P isListed = (t : Term) (k : ℕ) (p : Polarity) → P (listed t k p)
+ForCode P noLeaf = ⊥
 
-by-code : (P : Leaf → Type 0) (x : Leaf) → Given P (leafOf (leafCode x)) → P x
-unfolding Given leafOf leafCode
+by-code : (P : Leaf → Type 0) (x : Leaf) → ForCode P (leafOf (leafCode x)) → P x
+unfolding ForCode leafOf leafCode
 by-code P (finite rs) g = g rs
 by-code P (cofinite rs) g = g rs
 by-code P (definition d) g = g d
@@ -33,15 +33,15 @@ module _ {m n : ℕ} {ws : List ℕ} {at : ℕ} {x : Leaf} (P : Leaf → Type 0)
   unfolding leafWords
   code-at = at-word (s .words)
 
-  on-code : (c : ℕ) → getD ws at 0 ≡ c → Given P (leafOf c) → P x
-  on-code c h g = by-code P x (subst (λ (k : ℕ). Given P (leafOf k)) (sym h ∙ code-at) g)
+  on-code : (c : ℕ) → getD ws at 0 ≡ c → ForCode P (leafOf c) → P x
+  on-code c h g = by-code P x (subst (λ (k : ℕ). ForCode P (leafOf k)) (sym h ∙ code-at) g)
 
   pub on-definition : getD ws at 0 ≡ 3 → ((d : ℕ) → P (definition d)) → P x
-  unfolding Given leafOf
+  unfolding ForCode leafOf
   on-definition h g = on-code 3 h g
 
   pub on-listed : getD ws at 0 ≡ 4 → ((t : Term) (k : ℕ) (p : Polarity) → P (listed t k p)) → P x
-  unfolding Given leafOf
+  unfolding ForCode leafOf
   on-listed h g = on-code 4 h g
 
   -- neither 3 nor 4

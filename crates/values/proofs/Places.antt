@@ -1,5 +1,5 @@
 -- What stands at a place, taken apart: the words that it begins with, and what stands inside it.
-use Prim.Native.Nat.{ℕ, zero, suc, _+_, _-_, _*_, _≤_, _<_}
+use Prim.Native.Nat.{ℕ, _+_, _-_, _*_, _≤_, _<_}
 use mathlib.Core.Path.{_≡_, refl, sym, ap, subst, _∙_}
 use mathlib.Core.Logic.{_⊎_, inl, inr}
 use mathlib.Core.Bool.{true, false}
@@ -9,13 +9,13 @@ use lib.ListN.{length, drop, getD, length-append, length-drop}
 use lib.Seq.{drop-drop, drop-append-seam, getD-drop}
 use lib.Dec.{leb, eqb}
 use borrow.Author.Tests.{leb-true, eqb-true, eqb-false}
-use Rattle.rows.proofs.Case.{Case, isTrue, isFalse, split, and-true, never}
-use Rattle.policy.specs.Leaf.{Leaf, leafCode, leafWords, LeafCode}
+use Rattle.rows.proofs.Case.{Case, isTrue, isFalse, split, and-true}
+use Rattle.policy.specs.Leaf.{Leaf, leafCode, leafWords}
 use Rattle.policy.specs.Syntax.{Term, atom, var, Slot, old, new, Expr, leaf, union, difference, comprehension, Body, head, draw, same, different, absent}
 use Rattle.policy.specs.Words.{termWords, each, termRowWords, slotWords, fresh, guardCount, exprWords, bodyWords}
 use Rattle.policy.specs.WellFormed.{FitSlots, Fit}
 use Rattle.policy.specs.Decode.{Code, isLeaf, isUnion, isDifference, isComprehension, codeOf, isNode}
-use Rattle.policy.proofs.LeafDecoding.{leaf-coded}
+use Rattle.policy.proofs.LeafDecoding.{leaf-coded, no-node}
 use Rattle.values.specs.Values.{termHeld, guardHeld}
 use Rattle.values.specs.Places.{At, patternWords, StandsRow, StandsPattern, StandsLeaf, Stands, StandsBody, StandsTwo, StandsDraw, StandsAbsent, SomeRow, SomePattern, IsGuard}
 use Rattle.policy.specs.declared.Term as Held-term
@@ -95,35 +95,18 @@ code-at n (difference a b) h = at-word h
 code-at n (comprehension b) h = at-word h
 
 -- P of an expression with this code
-unfoldable Given : (Expr → Type 0) → Code → Type 0
-Given P (isLeaf l) = (x : Leaf) → P (leaf x)
-Given P isUnion = (a b : Expr) → P (union a b)
-Given P isDifference = (a b : Expr) → P (difference a b)
-Given P isComprehension = (b : Body) → P (comprehension b)
+unfoldable ForCode : (Expr → Type 0) → Code → Type 0
+ForCode P (isLeaf l) = (x : Leaf) → P (leaf x)
+ForCode P isUnion = (a b : Expr) → P (union a b)
+ForCode P isDifference = (a b : Expr) → P (difference a b)
+ForCode P isComprehension = (b : Body) → P (comprehension b)
 
-by-code : (P : Expr → Type 0) (e : Expr) → Given P (codeOf (exprCode e)) → P e
-unfolding Given exprCode codeOf
-by-code P (leaf x) g = subst (Given P) (leaf-coded x) g x
+by-code : (P : Expr → Type 0) (e : Expr) → ForCode P (codeOf (exprCode e)) → P e
+unfolding ForCode exprCode codeOf
+by-code P (leaf x) g = subst (ForCode P) (leaf-coded x) g x
 by-code P (union a b) g = g a b
 by-code P (difference a b) g = g a b
 by-code P (comprehension b) g = g b
-
--- a code that is no node's is a leaf's, if it is any
-record NoNode (c : ℕ) : Type 0 where
-  code : LeafCode
-  is : codeOf c ≡ isLeaf code
-
-no-node : (c : ℕ) → isNode c ≡ false → NoNode c
-unfolding isNode codeOf
-no-node zero e = record { code = _; is = refl }
-no-node (suc zero) e = record { code = _; is = refl }
-no-node (suc (suc zero)) e = record { code = _; is = refl }
-no-node (suc (suc (suc zero))) e = record { code = _; is = refl }
-no-node (suc (suc (suc (suc zero)))) e = record { code = _; is = refl }
-no-node (suc (suc (suc (suc (suc zero))))) e = never refl e
-no-node (suc (suc (suc (suc (suc (suc zero)))))) e = never refl e
-no-node (suc (suc (suc (suc (suc (suc (suc zero))))))) e = never refl e
-no-node (suc (suc (suc (suc (suc (suc (suc (suc n)))))))) e = record { code = _; is = refl }
 
 -- a node's code that is not a comprehension's is a union's or a difference's
 pub union-or-difference : (c : ℕ) → isNode c ≡ true → (c ≡ 7 → ⊥) → (c ≡ 5) ⊎ (c ≡ 6)
@@ -135,23 +118,23 @@ union-or-difference c e z = let h = and-true (leb 5 c) (leb c 7) e in go (split 
     go (isFalse f) l k = let n = eqb-false c 5 f in inr (omega arith)
 
 module _ {m n : ℕ} {ws : List ℕ} {at : ℕ} {e : Expr} (P : Expr → Type 0) (s : Stands m n ws at e) where
-  on-code : (c : ℕ) → getD ws at 0 ≡ c → Given P (codeOf c) → P e
-  on-code c h g = by-code P e (subst (λ (k : ℕ). Given P (codeOf k)) (sym h ∙ code-at n e (s .words)) g)
+  on-code : (c : ℕ) → getD ws at 0 ≡ c → ForCode P (codeOf c) → P e
+  on-code c h g = by-code P e (subst (λ (k : ℕ). ForCode P (codeOf k)) (sym h ∙ code-at n e (s .words)) g)
 
   pub on-leaf : isNode (getD ws at 0) ≡ false → ((x : Leaf) → P (leaf x)) → P e
-  unfolding Given
-  on-leaf h g = let l = no-node (getD ws at 0) h in on-code (getD ws at 0) refl (subst (Given P) (sym (l .is)) g)
+  unfolding ForCode
+  on-leaf h g = on-code (getD ws at 0) refl (subst (ForCode P) (sym (no-node (getD ws at 0) h)) g)
 
   pub on-union : getD ws at 0 ≡ 5 → ((a b : Expr) → P (union a b)) → P e
-  unfolding Given codeOf
+  unfolding ForCode codeOf
   on-union h g = on-code 5 h g
 
   pub on-difference : getD ws at 0 ≡ 6 → ((a b : Expr) → P (difference a b)) → P e
-  unfolding Given codeOf
+  unfolding ForCode codeOf
   on-difference h g = on-code 6 h g
 
   pub on-comprehension : getD ws at 0 ≡ 7 → ((b : Body) → P (comprehension b)) → P e
-  unfolding Given codeOf
+  unfolding ForCode codeOf
   on-comprehension h g = on-code 7 h g
 
 -- ---- what stands inside an expression

@@ -7,12 +7,12 @@ use borrow.Author.Needs.{needs}
 use Rattle.meaning.specs.Reading.{done, tick}
 use Rattle.values.proofs.Lent.{bound-after}
 use Rattle.values.proofs.Answers.{ticks, ticks-no-more}
-use Rattle.steps.proofs.Drawing.{Drawing, drawn-room, drawing-start, row-inside, row-narrow, drawing-limit, drawing-miss, drawing-hit, drawing-end}
+use Rattle.steps.proofs.Drawing.{Seeking, drawn-room, seeking-start, row-inside, row-narrow, seeking-limit, seeking-miss, seeking-hit, seeking-end}
 use Rattle.steps.proofs.draw_next.Statement.{statement}
 use Rattle.steps.proofs.draw_next.Tie as tie
 
 abbrev Inv-loop : tie.InvT-loop
-Inv-loop words at values₀ count draws area free i listed used₀ j₀ values used j = Drawing words at values₀ count draws area free i listed values used j
+Inv-loop words at values₀ count draws area free i listed used₀ j₀ values used j = Seeking words at values₀ count draws area free i listed values used j
 
 abbrev μ-loop : tie.MeasureT-loop
 μ-loop words at values₀ count draws area free i listed used₀ j₀ values used j = listed - j
@@ -46,14 +46,14 @@ shared-slice-read-wide : tie.Need-shared-slice-read-wide Inv-loop μ-loop
 shared-slice-read-wide c = let r = room (c .before .before .before) in omega arith
 
 loop-holds : tie.Need-loop-holds Inv-loop μ-loop
-loop-holds c = drawing-start (c .before .before .before .before .pre .2) (c .wide .ensures)
+loop-holds c = seeking-start (c .before .before .before .before .pre .2) (c .wide .ensures)
 
 -- ---- a row
 
 returns : tie.Need-returns Inv-loop μ-loop
 returns c =
     let t = c .before .before .before .before in
-    drawing-limit (t .before .loop .inv) (t .loop-test .taken) (ticks-no-more (t .before .loop .used) (c .before .before .before .tick .ensures) (c .before .n .given .1))
+    seeking-limit (t .before .loop .inv) (t .loop-test .taken) (ticks-no-more (t .before .loop .used) (c .before .before .before .tick .ensures) (c .before .n .given .1))
 
 add-row : tie.Need-add-row Inv-loop μ-loop
 add-row c = let r = row (c .before .before .before .before) in let good = entry (c .before .before .before .before .before) .good in omega arith
@@ -72,15 +72,15 @@ match-row-requires c κs =
     (bound-after (d .unchanged) (pre .0), pre .1, row-inside d (t .loop-test .taken), row-narrow d (t .loop-test .taken))
 
 returns-2 : tie.Need-returns-2 Inv-loop μ-loop
-returns-2 c = let t = turn (c .before) in drawing-hit (t .before .loop .inv) (t .loop-test .taken) (one (c .before)) (c .before .match-row .ensures) (c .if1 .taken)
+returns-2 c = let t = turn (c .before) in seeking-hit (t .before .loop .inv) (t .loop-test .taken) (one (c .before)) (c .before .match-row .ensures) (c .if1 .taken)
 
 loop-again : tie.Need-loop-again Inv-loop μ-loop
-loop-again c = let t = turn (c .before) in drawing-miss (t .before .loop .inv) (t .loop-test .taken) (one (c .before)) (c .before .match-row .ensures) (c .if1 .left)
+loop-again c = let t = turn (c .before) in seeking-miss (t .before .loop .inv) (t .loop-test .taken) (one (c .before)) (c .before .match-row .ensures) (c .if1 .left)
 
 -- ---- after the loop
 
 returns-3 : tie.Need-returns-3 Inv-loop μ-loop
-returns-3 c = drawing-end (c .before .loop .inv) (c .loop-test .left)
+returns-3 c = seeking-end (c .before .loop .inv) (c .loop-test .left)
 
 pub draw-next-spec : {M : Type 1} → statement M
 draw-next-spec =
