@@ -134,7 +134,9 @@ fn read_guards(
     ensures { λ r. ⌜ SayBody (from given (now (store .entry)) (now (defs .entry))) (now (words .entry)) at left (now (values .entry)) count draws free (now (area .entry)) r (now (values .exit)) (now (area .exit)) ⌝ }
 {
     if left == 0 {
-        return insert_head(words, at, values, count, draws, area);
+        // Named, so that the answer's two parts are not written apart where calls write theirs, and read back together: see `row_of`.
+        let gathered = insert_head(words, at, values, count, draws, area);
+        return gathered;
     }
     let guard = guard_at(words, at);
     match guard {

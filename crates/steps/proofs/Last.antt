@@ -2,51 +2,30 @@
 use Prim.Native.Nat.{ℕ, _+_, _*_, _≤_, _<_}
 use mathlib.Core.Path.{_≡_, sym, ap, subst, _∙_}
 use mathlib.Core.Bool.{Bool, true, false}
-use mathlib.Core.List.{List, [], _∷_}
+use mathlib.Core.List.{List, []}
 use native.Mathlib.Omega.{arith}
-use lib.ListN.{length, drop, getD, length-drop}
-use lib.Seq.{drop-cons, getD-drop, set-getD}
+use lib.ListN.{length, getD}
 use Rattle.rows.specs.Ordered.{_∈_}
 use Rattle.rows.specs.Row.{Row, rowBefore}
 use Rattle.rows.specs.Layout.{rowIn, fiveAt, rowsIn}
-use Rattle.layout.specs.Values.{wordsOf}
 use Rattle.rows.proofs.Order.{row-order}
 use Rattle.rows.proofs.Place.{getD-∈, insert-known}
 use Rattle.rows.proofs.LayoutLaws.{row-at}
-use Rattle.layout.proofs.RowLaws.{five-length, five-width, five-at, loaded-row}
+use Rattle.layout.proofs.RowLaws.{row-at-length, row-at-atom, Agree, agree-start, agree-next, agree-end}
 use Rattle.sets.proofs.SetWords.{size, sound-ascending}
-use Rattle.policy.specs.Held.{termOf}
-use Rattle.policy.specs.declared.Term as Held-term
-use Rattle.meaning.specs.Values.{Values, value, rowOf}
+use Rattle.policy.specs.Syntax.{Term}
+use Rattle.meaning.specs.Values.{Values, rowOf}
 use Rattle.meaning.specs.Reading.{within}
-use Rattle.values.specs.Places.{SomeRow, IsTerm}
+use Rattle.values.specs.Places.{StandsRow}
+use Rattle.values.specs.Rows.{SayAtom}
 use Rattle.values.specs.Answers.{Filled, IfDone}
 use Rattle.values.specs.declared.Read.the-variants.{Done}
-use Rattle.values.proofs.Places.{row-width}
-use Rattle.values.proofs.Rows.{Rowing, rowing-start, rowing-next, rowing-end}
+use Rattle.values.proofs.Places.{row-wide}
+use Rattle.values.proofs.Rows.{row-of-length}
 use Rattle.steps.specs.Areas.{Gathering}
 use Rattle.steps.specs.Steps.{rowsAnswer, SayIs, SayKnown, SayHead}
 use Rattle.steps.proofs.Areas.{kept-self}
 use Rattle.steps.proofs.Inserting.{within-few}
-
--- ---- a row in the words, atom by atom
-
-abbrev pub atomsAt : List ℕ → ℕ → List ℕ
-atomsAt set place = drop 1 (fiveAt set place)
-
-module _ (set : List ℕ) (place : ℕ) where
-  four-atoms : place + 5 ≤ length set → length (atomsAt set place) ≡ 4
-  four-atoms room = omega (arith, length-drop 1 (fiveAt set place), five-length set place room)
-
-  atom-at : (j : ℕ) → j < 4 → getD (atomsAt set place) j 0 ≡ getD set (place + 1 + j) 0
-  atom-at j h =
-      let e : place + (1 + j) ≡ place + 1 + j = omega arith in
-      getD-drop 1 (fiveAt set place) j 0 ∙ five-at set place (1 + j) (omega arith) ∙ ap (λ (k : ℕ). getD set k 0) e
-
-  width-first : place + 5 ≤ length set → getD set place 0 ∷ atomsAt set place ≡ fiveAt set place
-  width-first room =
-      let l = five-length set place room in
-      ap (λ (w : ℕ). w ∷ atomsAt set place) (sym (five-width set place)) ∙ sym (drop-cons (fiveAt set place) 0 0 (omega arith))
 
 -- a no claims nothing
 module _ {ws : List ℕ} {at : ℕ} {vs : Values} where
@@ -56,23 +35,26 @@ module _ {ws : List ℕ} {at : ℕ} {vs : Values} where
   pub none-known : {set : List ℕ} → SayKnown ws at vs set false
   none-known = record { means = λ n ts s e. let z : _≡_ {A = ℕ} 0 1 = cc in absurd (omega arith) }
 
-module _ {ws : List ℕ} {at : ℕ} {vs : Values} (some : SomeRow ws at) (set : List ℕ) (place : ℕ) (room : place + 5 ≤ length set) where
-  pub same-start : Rowing ws at vs (atomsAt set place) 0
-  same-start = rowing-start (four-atoms set place room)
+-- ---- a row in the words, atom by atom
 
-  module _ {j : ℕ} (iv : Rowing ws at vs (atomsAt set place) j) where
-    pub same-next : {x : Held-term.Term} → j < getD ws at 0 → IsTerm ws (at + 1 + 2 * j) x → value vs (termOf x) ≡ getD set (place + 1 + j) 0 → Rowing ws at vs (atomsAt set place) (j + 1)
-    same-next less i e =
-        let w = row-width some .few in
-        subst (λ (l : List ℕ). Rowing ws at vs l (j + 1)) (set-getD (atomsAt set place) j 0) (rowing-next some iv less i (atom-at set place j (omega arith) ∙ sym e))
+-- the first j of the terms come to the first j atoms of x, which has as many in all
+pub record ComesTo (ws : List ℕ) (at : ℕ) (vs : Values) (x : Row) (j : ℕ) : Type 0 where
+  means : (n : ℕ) (ts : List Term) → StandsRow n ws at ts → Agree (rowOf vs ts) x j
 
-    pub same-end : getD ws at 0 ≤ j → getD set place 0 ≡ getD ws at 0 → SayIs ws at vs (rowIn (fiveAt set place)) true
-    unfolding wordsOf
-    same-end all e = record {
-      means = λ n ts s h.
-          sym (rowing-end some iv all .means n ts s)
-          ∙ loaded-row (record { width = getD ws at 0; atoms = atomsAt set place }) set place (ap (λ (w : ℕ). w ∷ atomsAt set place) (sym e) ∙ width-first set place room);
+module _ {ws : List ℕ} {at : ℕ} {vs : Values} (set : List ℕ) (place : ℕ) (few : getD set place 0 ≤ 4) (alike : getD set place 0 ≡ getD ws at 0) where
+  pub comes-start : place + 5 ≤ length set → ComesTo ws at vs (rowIn (fiveAt set place)) 0
+  comes-start room = record { means = λ n ts s. let w = row-wide s .width in agree-start _ _ (omega (arith, row-of-length vs ts, row-at-length set place room few)) }
+
+  module _ {j : ℕ} (iv : ComesTo ws at vs (rowIn (fiveAt set place)) j) where
+    pub comes-next : j < getD ws at 0 → SayAtom ws at vs j (getD set (place + 1 + j) 0) → ComesTo ws at vs (rowIn (fiveAt set place)) (j + 1)
+    comes-next less a = record {
+      means = λ n ts s.
+          let w = row-wide s .width in
+          agree-next _ _ j (iv .means n ts s) (omega (arith, row-of-length vs ts)) (a .means n ts s ∙ sym (row-at-atom set place j few (omega arith)));
     }
+
+    pub comes-end : getD ws at 0 ≤ j → SayIs ws at vs (rowIn (fiveAt set place)) true
+    comes-end all = record { means = λ n ts s h. let w = row-wide s .width in agree-end _ _ j (iv .means n ts s) (omega (arith, row-of-length vs ts)) }
 
 -- ---- one of the rows listed
 

@@ -16,9 +16,9 @@ use sets::Inserted;
 use sets::has;
 use sets::insert;
 use values::Read;
+use values::atom_of;
 use values::row_of;
 use values::slot_at;
-use values::term_at;
 use values::tick;
 use values::value_of;
 
@@ -75,8 +75,7 @@ fn is_row(
     let end = wide(width);
     let mut j: usize = 0;
     while j < end {
-        let term = term_at(words, at + 1 + 2 * j);
-        if value_of(values, count, term) != set[place + 1 + j] {
+        if atom_of(words, at, values, count, j) != set[place + 1 + j] {
             return false;
         }
         j += 1;

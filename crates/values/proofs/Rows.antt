@@ -1,11 +1,10 @@
 -- A row of terms: the row that they come to, atom by atom.
 use Prim.Native.Nat.{ℕ, zero, suc, _+_, _*_, _≤_, _<_}
-use mathlib.Core.Path.{_≡_, refl, sym, ap, subst, _∙_}
-use mathlib.Core.List.{List, [], _∷_, _++_}
-use native.Mathlib.Numerals.{add-one}
+use mathlib.Core.Path.{_≡_, refl, sym, subst, _∙_}
+use mathlib.Core.List.{List, [], _∷_}
 use native.Mathlib.Omega.{arith}
-use lib.ListN.{length, take, getD, set, length-map, length-set, List·getD-map}
-use lib.Seq.{take-suc, take-suc-set, take-all}
+use lib.ListN.{length, take, getD, length-map, List·getD-map, List·getD-eq-default}
+use Rattle.rows.specs.Row.{Row}
 use Rattle.rows.specs.Layout.{rowIn}
 use Rattle.layout.specs.Values as held
 use Rattle.layout.specs.Values.{wordsOf}
@@ -14,8 +13,8 @@ use Rattle.policy.specs.Words.{termWords, each, termRowWords}
 use Rattle.meaning.specs.Values.{Values, value, rowOf}
 use Rattle.policy.specs.Held.{termOf}
 use Rattle.values.specs.Places.{At, StandsRow, SomeRow, IsTerm}
-use Rattle.values.specs.Rows.{SayRow}
-use Rattle.values.proofs.Places.{at-next, at-skip, at-front, term-length, row-wide}
+use Rattle.values.specs.Rows.{SayAtom, SayRow}
+use Rattle.values.proofs.Places.{at-next, at-skip, at-front, term-length, row-wide, row-width}
 use Rattle.values.proofs.Held.{held-value}
 use Rattle.policy.specs.declared.Term as Held-term
 
@@ -36,52 +35,41 @@ nth-value : (vs : Values) (ts : List Term) (j : ℕ) → j < length ts → getD 
 unfolding rowOf value
 nth-value vs ts j h = List·getD-map (value vs) ts j (atom 0)
 
-row-of-length : (vs : Values) (ts : List Term) → length (rowOf vs ts) ≡ length ts
+pub row-of-length : (vs : Values) (ts : List Term) → length (rowOf vs ts) ≡ length ts
 unfolding rowOf
 row-of-length vs ts = length-map ts (value vs)
 
--- the first j atoms are there
-pub record Rowing (ws : List ℕ) (at : ℕ) (vs : Values) (atoms : List ℕ) (j : ℕ) : Type 0 where
-  pub within : j ≤ getD ws at 0
-  pub four : length atoms ≡ 4
-  pub means : (n : ℕ) (ts : List Term) → StandsRow n ws at ts → take j atoms ≡ take j (rowOf vs ts)
+module _ {ws : List ℕ} {at : ℕ} {vs : Values} {j : ℕ} where
+  pub term-atom : {x : Held-term.Term} → j < getD ws at 0 → IsTerm ws (at + 1 + 2 * j) x → SayAtom ws at vs j (value vs (termOf x))
+  term-atom less i = record {
+    means = λ n ts s.
+        let w = row-wide s .width in
+        let t : Term = getD ts j (atom 0) in
+        nth-value vs ts j (omega arith) ∙ sym (held-value vs t (i .is t (term-here j s (omega arith))));
+  }
 
-pub rowing-start : {ws : List ℕ} {at : ℕ} {vs : Values} {atoms : List ℕ} → length atoms ≡ 4 → Rowing ws at vs atoms 0
-rowing-start four = record { within = omega arith; four = four; means = λ n ts s. refl }
+  pub no-atom : getD ws at 0 ≤ j → SayAtom ws at vs j 0
+  no-atom all = record { means = λ n ts s. let w = row-wide s .width in List·getD-eq-default (rowOf vs ts) 0 (omega (arith, row-of-length vs ts)) }
 
-module _ {ws : List ℕ} {at : ℕ} {vs : Values} (some : SomeRow ws at) {atoms : List ℕ} {j : ℕ} (iv : Rowing ws at vs atoms j) where
-  pub rowing-next : {x : Held-term.Term} {a : ℕ} → j < getD ws at 0 → IsTerm ws (at + 1 + 2 * j) x → a ≡ value vs (termOf x) → Rowing ws at vs (set atoms j a) (j + 1)
-  rowing-next {x} {a} less i e =
-      let w = row-wide (some .here) in
-      let width = w .width in
-      let few = w .few in
-      let four = iv .four in
-      record {
-        within = omega arith;
-        four = length-set atoms j a ∙ four;
-        means = λ n ts s.
-            let wt = row-wide s .width in
-            let l = row-of-length vs ts in
-            let t : Term = getD ts j (atom 0) in
-            let v : getD (rowOf vs ts) j 0 ≡ a = nth-value vs ts j (omega arith) ∙ sym (held-value vs t (i .is t (term-here j s (omega arith)))) ∙ sym e in
-            rw (add-one) (take-suc-set atoms j a (omega arith) ∙ ap (λ (u : List ℕ). u ++ (a ∷ [])) (iv .means n ts s)
-            ∙ ap (λ (y : ℕ). take j (rowOf vs ts) ++ (y ∷ [])) (sym v) ∙ sym (take-suc (rowOf vs ts) j 0 (omega arith)));
-      }
+four-atoms : (xs : Row) → length xs ≤ 4 → take (length xs) (getD xs 0 0 ∷ getD xs 1 0 ∷ getD xs 2 0 ∷ getD xs 3 0 ∷ []) ≡ xs
+four-atoms [] h = refl
+four-atoms (a ∷ []) h = refl
+four-atoms (a ∷ b ∷ []) h = refl
+four-atoms (a ∷ b ∷ c ∷ []) h = refl
+four-atoms (a ∷ b ∷ c ∷ d ∷ []) h = refl
+four-atoms (a ∷ b ∷ c ∷ d ∷ e ∷ xs) h = absurd (omega arith)
 
-  pub rowing-end : getD ws at 0 ≤ j → SayRow ws at vs (record { width = getD ws at 0; atoms = atoms })
-  unfolding held.rowOf wordsOf rowIn
-  rowing-end all =
-      let w = row-wide (some .here) in
-      let width = w .width in
-      let low = w .some in
-      let few = w .few in
-      let within = iv .within in
-      let e : j ≡ getD ws at 0 = omega arith in
-      record {
-        some = omega arith;
-        few = omega arith;
-        means = λ n ts s.
-            let wt = row-wide s .width in
-            let l = row-of-length vs ts in
-            subst (λ (k : ℕ). take k atoms ≡ take k (rowOf vs ts)) e (iv .means n ts s) ∙ take-all (getD ws at 0) (rowOf vs ts) (omega arith);
-      }
+pub row-of-atoms : {ws : List ℕ} {at : ℕ} {vs : Values} {a b c d : ℕ} → SomeRow ws at → SayAtom ws at vs 0 a → SayAtom ws at vs 1 b → SayAtom ws at vs 2 c → SayAtom ws at vs 3 d →
+    SayRow ws at vs (record { width = getD ws at 0; atoms = a ∷ b ∷ c ∷ d ∷ [] })
+unfolding held.rowOf wordsOf rowIn
+row-of-atoms {ws} {at} {vs} some a b c d =
+    let w = row-width some in
+    record {
+      some = w .some;
+      few = w .few;
+      means = λ n ts s.
+          let width = row-wide s .width in
+          let l = row-of-length vs ts in
+          let e : getD ws at 0 ≡ length (rowOf vs ts) = width ∙ sym l in
+          rw (e, sym (a .means n ts s), sym (b .means n ts s), sym (c .means n ts s), sym (d .means n ts s)) (four-atoms (rowOf vs ts) (omega (arith, row-wide s .few)));
+    }

@@ -10,7 +10,7 @@ ghost use Rattle.meaning.specs.Reading.{tick};
 ghost use Rattle.meaning.specs.Values.{value};
 ghost use Rattle.values.specs.Values.{Bound, passing};
 ghost use Rattle.values.specs.Places.{IsTerm, IsSlot, IsGuard, SomeRow, SomeGuard};
-ghost use Rattle.values.specs.Rows.{SayRow};
+ghost use Rattle.values.specs.Rows.{SayAtom, SayRow};
 ghost use Rattle.values.specs.Answers.{ticked, testedAnswer};
 ghost use Rattle.meaning.specs.Reading.{done};
 use layout::row::Row;
@@ -134,22 +134,31 @@ pub fn passes(values: &[u32; 16], count: usize, guard: Guard) -> bool
     }
 }
 
-// The row that the terms come to.
+// What term `j` of a row of terms comes to; 0 behind the last.
+pub fn atom_of(words: &[u32], at: usize, values: &[u32; 16], count: usize, j: usize) -> u32
+    requires { ⌜ Bound (now values) count × SomeRow (now words) at ⌝ }
+    ensures { λ r. ⌜ SayAtom (now (words .entry)) at (take count (now (values .entry))) j r ⌝ }
+{
+    let width = words[at];
+    if wide(width) <= j {
+        return 0;
+    }
+    let term = term_at(words, at + 1 + 2 * j);
+    value_of(values, count, term)
+}
+
+// The row that the terms come to. Its atoms are not written one by one: a processor waits where words written apart are read back together.
 pub fn row_of(words: &[u32], at: usize, values: &[u32; 16], count: usize) -> Row
     requires { ⌜ Bound (now values) count × SomeRow (now words) at ⌝ }
     ensures { λ r. ⌜ SayRow (now (words .entry)) at (take count (now (values .entry))) r ⌝ }
 {
     let width = words[at];
-    let end = wide(width);
-    let mut atoms = [0u32; 4];
-    let mut j: usize = 0;
-    while j < end {
-        let term = term_at(words, at + 1 + 2 * j);
-        atoms[j] = value_of(values, count, term);
-        j += 1;
-    }
+    let a = atom_of(words, at, values, count, 0);
+    let b = atom_of(words, at, values, count, 1);
+    let c = atom_of(words, at, values, count, 2);
+    let d = atom_of(words, at, values, count, 3);
     Row {
         width: width,
-        atoms: atoms,
+        atoms: [a, b, c, d],
     }
 }
