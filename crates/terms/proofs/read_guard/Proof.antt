@@ -6,14 +6,23 @@ use borrow.Author.Needs.{needs}
 use Rattle.terms.proofs.read_guard.Statement.{statement}
 use Rattle.terms.proofs.read_guard.Tie as tie
 
-word-between-requires : tie.Need-word-between-requires
-word-between-requires c κs = search needs
+-- ---- places
 
-enum-known-n : tie.Need-enum-known-n
-enum-known-n c = search needs
+-- from where the code is told
+abbrev worded : tie.After-code → tie.After-word-between
+worded k = k .before .before
 
-enum-known-code : tie.Need-enum-known-code
-enum-known-code c = search needs
+abbrev start : tie.After-code → tie.Start
+start k = k .before .before .before .before
+
+-- from where a comparison's first term is read, and its second
+abbrev coded : tie.After-read-term → tie.After-code
+coded r = r .before .before .before .before
+
+abbrev first : tie.After-read-term2 → tie.After-read-term
+first s = s .before .before .before .before
+
+-- ---- answers
 
 add-t16 : tie.Need-add-t16
 add-t16 c = omega (arith, word-found (c .before .before .before .before .word-between .ensures) (c .before .before .code .given .1) .within)
@@ -30,57 +39,65 @@ returns-2 c = let a = c .before .before .before .before .before .before .before 
 add-read-term : tie.Need-add-read-term
 add-read-term c = omega (arith, word-found (c .before .before .before .before .before .word-between .ensures) (c .before .before .before .code .given .1) .within)
 
-read-term-requires : tie.Need-read-term-requires
-read-term-requires c κs = search needs
-
-enum-known-n-2 : tie.Need-enum-known-n-2
-enum-known-n-2 c = search needs
-
-enum-known-x : tie.Need-enum-known-x
-enum-known-x c = search needs
-
-read-term-requires-2 : tie.Need-read-term-requires-2
-read-term-requires-2 c κs = search needs
-
-enum-known-n-3 : tie.Need-enum-known-n-3
-enum-known-n-3 c = search needs
-
-enum-known-y : tie.Need-enum-known-y
-enum-known-y c = search needs
-
 returns-3 : tie.Need-returns-3
-returns-3 c = let a = c .before .before .before .before .before .args in guard-uncoded (a .words .now) (a .at) (a .variables) (c .before .before .before .word-between .ensures) (c .before .n .given .1)
+returns-3 c =
+    let w = c .before .before .before in
+    let a = w .before .before .args in
+    guard-uncoded (a .words .now) (a .at) (a .variables) (w .word-between .ensures) (c .before .n .given .1)
 
 returns-4 : tie.Need-returns-4
-returns-4 c = let a = c .before .before .before .before .before .before .before .before .before .before .before .args in guard-first (a .words .now) (a .at) (a .variables) (c .before .before .before .before .before .before .before .before .before .word-between .ensures) (c .before .before .before .before .before .before .before .code .given .1) (c .before .before .before .before .before .if1 .left) (c .before .before .before .before .if2 .left) (c .before .before .before .read-term .ensures) (c .before .n2 .given .1)
+returns-4 c =
+    let r = c .before .before .before in
+    let k = coded r in
+    let a = start k .args in
+    guard-first (a .words .now) (a .at) (a .variables) (worded k .word-between .ensures) (k .code .given .1) (r .before .before .if1 .left) (r .before .if2 .left)
+    (r .read-term .ensures) (c .before .n2 .given .1)
 
 returns-5 : tie.Need-returns-5
-returns-5 c = let a = c .before .before .before .before .before .before .before .before .before .before .before .before .before .before .before .args in guard-second (a .words .now) (a .at) (a .variables) (c .before .before .before .before .before .before .before .before .before .before .before .before .before .word-between .ensures) (c .before .before .before .before .before .before .before .before .before .before .before .code .given .1) (c .before .before .before .before .before .before .before .before .before .if1 .left) (c .before .before .before .before .before .before .before .before .if2 .left) (c .before .before .before .before .before .before .before .read-term .ensures) (c .before .before .before .before .before .x .given .1) (c .before .before .before .read-term2 .ensures) (c .before .n3 .given .1)
+returns-5 c =
+    let s = c .before .before .before in
+    let r = first s in
+    let k = coded r in
+    let a = start k .args in
+    guard-second (a .words .now) (a .at) (a .variables) (worded k .word-between .ensures) (k .code .given .1) (r .before .before .if1 .left) (r .before .if2 .left)
+    (r .read-term .ensures) (s .before .before .x .given .1) (s .read-term2 .ensures) (c .before .n3 .given .1)
 
 returns-6 : tie.Need-returns-6
-returns-6 c = let a = c .before .before .before .before .before .before .before .before .before .before .before .before .before .before .before .before .args in guard-same (a .words .now) (a .at) (a .variables) (c .before .before .before .before .before .before .before .before .before .before .before .before .before .before .word-between .ensures) (c .before .before .before .before .before .before .before .before .before .before .before .before .code .given .1) (c .before .before .before .before .before .before .before .before .before .before .if1 .left) (c .before .before .before .before .before .before .before .before .before .if2 .left) (c .before .before .before .before .before .before .before .before .read-term .ensures) (c .before .before .before .before .before .before .x .given .1) (c .before .before .before .before .read-term2 .ensures) (c .before .before .y .given .1) (c .if3 .taken)
+returns-6 c =
+    let s = c .before .before .before .before in
+    let r = first s in
+    let k = coded r in
+    let a = start k .args in
+    guard-same (a .words .now) (a .at) (a .variables) (worded k .word-between .ensures) (k .code .given .1) (r .before .before .if1 .left) (r .before .if2 .left)
+    (r .read-term .ensures) (s .before .before .x .given .1) (s .read-term2 .ensures) (c .before .before .y .given .1) (c .if3 .taken)
 
 returns-7 : tie.Need-returns-7
-returns-7 c = let a = c .before .before .before .before .before .before .before .before .before .before .before .before .before .before .before .before .args in guard-different (a .words .now) (a .at) (a .variables) (c .before .before .before .before .before .before .before .before .before .before .before .before .before .before .word-between .ensures) (c .before .before .before .before .before .before .before .before .before .before .before .before .code .given .1) (c .before .before .before .before .before .before .before .before .before .before .if1 .left) (c .before .before .before .before .before .before .before .before .before .if2 .left) (c .before .before .before .before .before .before .before .before .read-term .ensures) (c .before .before .before .before .before .before .x .given .1) (c .before .before .before .before .read-term2 .ensures) (c .before .before .y .given .1) (c .if3 .left)
+returns-7 c =
+    let s = c .before .before .before .before in
+    let r = first s in
+    let k = coded r in
+    let a = start k .args in
+    guard-different (a .words .now) (a .at) (a .variables) (worded k .word-between .ensures) (k .code .given .1) (r .before .before .if1 .left) (r .before .if2 .left)
+    (r .read-term .ensures) (s .before .before .x .given .1) (s .read-term2 .ensures) (c .before .before .y .given .1) (c .if3 .left)
 
 pub read-guard-spec : {M : Type 1} → statement M
 read-guard-spec =
     tie.close
     (tie.spec
-    word-between-requires
-    enum-known-n
-    enum-known-code
+    (λ c κs. search needs)
+    (λ c. search needs)
+    (λ c. search needs)
     add-t16
     returns
     add-t18
     returns-2
     add-read-term
-    read-term-requires
-    enum-known-n-2
-    enum-known-x
-    read-term-requires-2
-    enum-known-n-3
-    enum-known-y
+    (λ c κs. search needs)
+    (λ c. search needs)
+    (λ c. search needs)
+    (λ c κs. search needs)
+    (λ c. search needs)
+    (λ c. search needs)
     returns-3
     returns-4
     returns-5

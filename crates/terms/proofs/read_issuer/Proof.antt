@@ -4,29 +4,22 @@ use borrow.Author.Needs.{needs}
 use Rattle.terms.proofs.read_issuer.Statement.{statement}
 use Rattle.terms.proofs.read_issuer.Tie as tie
 
-read-term-requires : tie.Need-read-term-requires
-read-term-requires c κs = search needs
-
-enum-known-n : tie.Need-enum-known-n
-enum-known-n c = search needs
-
-enum-known-t : tie.Need-enum-known-t
-enum-known-t c = search needs
-
-enum-known-t-2 : tie.Need-enum-known-t-2
-enum-known-t-2 c = search needs
-
-enum-told : tie.Need-enum-told
-enum-told c = search needs
-
 returns : tie.Need-returns
 returns c = let a = c .before .before .before .before .before .args in issuer-refused (a .words .now) (a .at) (a .variables) (c .before .before .before .read-term .ensures) (c .before .n .given .1)
 
 returns-2 : tie.Need-returns-2
-returns-2 c = let a = c .before .before .before .before .before .before .before .before .before .args in issuer-number (a .words .now) (a .at) (a .variables) (c .before .before .before .before .before .before .before .read-term .ensures) (c .before .before .before .before .before .t .given .1) (c .before .before .t2 .given .1) (c .if1 .taken)
+returns-2 c =
+    let t = c .before .before .before .before .before in
+    let r = t .before .before in
+    let a = r .before .before .args in
+    issuer-number (a .words .now) (a .at) (a .variables) (r .read-term .ensures) (t .t .given .1) (c .before .before .t2 .given .1) (c .if1 .taken)
 
 returns-3 : tie.Need-returns-3
-returns-3 c = let a = c .before .before .before .before .before .before .before .before .before .args in issuer-key (a .words .now) (a .at) (a .variables) (c .before .before .before .before .before .before .before .read-term .ensures) (c .before .before .before .before .before .t .given .1) (c .before .before .t2 .given .1) (c .if1 .left)
+returns-3 c =
+    let t = c .before .before .before .before .before in
+    let r = t .before .before in
+    let a = r .before .before .args in
+    issuer-key (a .words .now) (a .at) (a .variables) (r .read-term .ensures) (t .t .given .1) (c .before .before .t2 .given .1) (c .if1 .left)
 
 returns-4 : tie.Need-returns-4
 returns-4 c = let a = c .before .before .before .before .before .before .before .args in issuer-variable (a .words .now) (a .at) (a .variables) (c .before .before .before .before .before .read-term .ensures) (c .before .before .before .t .given .1) (c .enum-told .given .1)
@@ -35,11 +28,11 @@ pub read-issuer-spec : {M : Type 1} → statement M
 read-issuer-spec =
     tie.close
     (tie.spec
-    read-term-requires
-    enum-known-n
-    enum-known-t
-    enum-known-t-2
-    enum-told
+    (λ c κs. search needs)
+    (λ c. search needs)
+    (λ c. search needs)
+    (λ c. search needs)
+    (λ c. search needs)
     returns
     returns-2
     returns-3

@@ -3,7 +3,6 @@ use Rattle.terms.proofs.RowAnswers.{Matching, matching-new, matching-ol
 use native.Mathlib.Omega.{arith}
 use Rattle.terms.proofs.Answering.{word-found}
 use Rattle.terms.proofs.TermAnswers.{slot-found, slot-lost}
-use Rattle.terms.proofs.RowAnswers.{Matching, matching-new, matching-few, matching-lost, pattern-starts, pattern-refused, pattern-done}
 use borrow.Author.Needs.{needs}
 use Rattle.terms.proofs.read_pattern.Statement.{statement}
 use Rattle.terms.proofs.read_pattern.Tie as tie
@@ -14,14 +13,16 @@ Inv-loop words at variables width next₀ count₀ left₀ next count left = Mat
 abbrev μ-loop : tie.MeasureT-loop
 μ-loop words at variables width next₀ count₀ left₀ next count left = left
 
-word-between-requires : tie.Need-word-between-requires Inv-loop μ-loop
-word-between-requires c κs = search needs
+-- ---- places
 
-enum-known-n : tie.Need-enum-known-n Inv-loop μ-loop
-enum-known-n c = search needs
+abbrev entry : tie.At-loop Inv-loop μ-loop → tie.Start Inv-loop μ-loop
+entry l = l .before .before .before .before .before .before
 
-enum-known-width : tie.Need-enum-known-width Inv-loop μ-loop
-enum-known-width c = search needs
+-- from where a slot is told
+abbrev slotted : tie.After-s Inv-loop μ-loop → tie.After-read-slot Inv-loop μ-loop
+slotted s = s .before .before
+
+-- ---- answers
 
 add-next : tie.Need-add-next Inv-loop μ-loop
 add-next c = omega (arith, word-found (c .before .before .before .word-between .ensures) (c .before .width .given .1) .within)
@@ -29,41 +30,36 @@ add-next c = omega (arith, word-found (c .before .before .before .word-between .
 loop-holds : tie.Need-loop-holds Inv-loop μ-loop
 loop-holds c = let a = c .before .before .before .before .before .args in pattern-starts (a .words .now) (a .at) (a .variables) (c .before .before .before .word-between .ensures) (c .before .width .given .1)
 
-sub-left : tie.Need-sub-left Inv-loop μ-loop
-sub-left c = search needs
-
-read-slot-requires : tie.Need-read-slot-requires Inv-loop μ-loop
-read-slot-requires c κs = search needs
-
-enum-known-n-2 : tie.Need-enum-known-n-2 Inv-loop μ-loop
-enum-known-n-2 c = search needs
-
 returns : tie.Need-returns Inv-loop μ-loop
-returns c = let a = c .before .before .before .before .before .before .before .before .before .before .before .args in matching-lost (a .words .now) (a .at) (a .variables) (c .before .before .before .before .before .loop .inv) (c .before .before .before .before .loop-test .taken) (slot-lost (c .before .before .before .read-slot .ensures) (c .before .n2 .given .1))
-
-enum-known-s : tie.Need-enum-known-s Inv-loop μ-loop
-enum-known-s c = search needs
-
-enum-told : tie.Need-enum-told Inv-loop μ-loop
-enum-told c = search needs
+returns c =
+    let r = c .before .before .before in
+    let l = r .before .before in
+    let a = entry l .args in
+    matching-lost (a .words .now) (a .at) (a .variables) (l .loop .inv) (r .before .loop-test .taken) (slot-lost (r .read-slot .ensures) (c .before .n2 .given .1))
 
 add-count : tie.Need-add-count Inv-loop μ-loop
-add-count c = let a = c .before .before .before .before .before .before .before .before .before .before .before .before .before .args in omega (arith, matching-few (a .words .now) (a .at) (a .variables) (c .before .before .before .before .before .before .before .loop .inv) (c .before .before .before .before .before .before .loop-test .taken) (slot-found (c .before .before .before .before .before .read-slot .ensures) (c .before .before .before .s .given .1)) (c .enum-told .given .1))
-
-loop-less : tie.Need-loop-less Inv-loop μ-loop
-loop-less c = search needs
+add-count c =
+    let s = c .before .before .before in
+    let r = slotted s in
+    let l = r .before .before in
+    let a = entry l .args in
+    omega (arith, matching-few (a .words .now) (a .at) (a .variables) (l .loop .inv) (r .before .loop-test .taken) (slot-found (r .read-slot .ensures) (s .s .given .1)) (c .enum-told .given .1))
 
 loop-again : tie.Need-loop-again Inv-loop μ-loop
-loop-again c = let a = c .before .before .before .before .before .before .before .before .before .before .before .before .before .args in matching-new (a .words .now) (a .at) (a .variables) (c .before .before .before .before .before .before .before .loop .inv) (c .before .before .before .before .before .before .loop-test .taken) (slot-found (c .before .before .before .before .before .read-slot .ensures) (c .before .before .before .s .given .1)) (c .enum-told .given .1)
-
-enum-told-2 : tie.Need-enum-told-2 Inv-loop μ-loop
-enum-told-2 c = search needs
-
-loop-less-2 : tie.Need-loop-less-2 Inv-loop μ-loop
-loop-less-2 c = search needs
+loop-again c =
+    let s = c .before .before .before in
+    let r = slotted s in
+    let l = r .before .before in
+    let a = entry l .args in
+    matching-new (a .words .now) (a .at) (a .variables) (l .loop .inv) (r .before .loop-test .taken) (slot-found (r .read-slot .ensures) (s .s .given .1)) (c .enum-told .given .1)
 
 loop-again-2 : tie.Need-loop-again-2 Inv-loop μ-loop
-loop-again-2 c = let a = c .before .before .before .before .before .before .before .before .before .before .before .before .before .args in matching-old (a .words .now) (a .at) (a .variables) (c .before .before .before .before .before .before .before .loop .inv) (c .before .before .before .before .before .before .loop-test .taken) (slot-found (c .before .before .before .before .before .read-slot .ensures) (c .before .before .before .s .given .1)) (c .enum-told2 .given .1)
+loop-again-2 c =
+    let s = c .before .before .before in
+    let r = slotted s in
+    let l = r .before .before in
+    let a = entry l .args in
+    matching-old (a .words .now) (a .at) (a .variables) (l .loop .inv) (r .before .loop-test .taken) (slot-found (r .read-slot .ensures) (s .s .given .1)) (c .enum-told2 .given .1)
 
 returns-2 : tie.Need-returns-2 Inv-loop μ-loop
 returns-2 c = let a = c .before .before .before .before .before .args in pattern-refused (a .words .now) (a .at) (a .variables) (c .before .before .before .word-between .ensures) (c .before .n .given .1)
@@ -77,22 +73,22 @@ read-pattern-spec =
     (tie.spec
     Inv-loop
     μ-loop
-    word-between-requires
-    enum-known-n
-    enum-known-width
+    (λ c κs. search needs)
+    (λ c. search needs)
+    (λ c. search needs)
     add-next
     loop-holds
-    sub-left
-    read-slot-requires
-    enum-known-n-2
+    (λ c. search needs)
+    (λ c κs. search needs)
+    (λ c. search needs)
     returns
-    enum-known-s
-    enum-told
+    (λ c. search needs)
+    (λ c. search needs)
     add-count
-    loop-less
+    (λ c. search needs)
     loop-again
-    enum-told-2
-    loop-less-2
+    (λ c. search needs)
+    (λ c. search needs)
     loop-again-2
     returns-2
     returns-3)

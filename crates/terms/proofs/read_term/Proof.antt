@@ -7,35 +7,14 @@ use Rattle.terms.proofs.read_term.Tie as tie
 returns : tie.Need-returns
 returns c = let a = c .before .args in term-none (a .words .now) (a .at) (a .variables) (c .if1 .taken)
 
-mul-tag : tie.Need-mul-tag
-mul-tag c = search needs
-
-shared-slice-read-tag : tie.Need-shared-slice-read-tag
-shared-slice-read-tag c = search needs
-
 returns-2 : tie.Need-returns-2
 returns-2 c = let a = c .before .before .before .args in term-tag (a .words .now) (a .at) (a .variables) (c .before .before .if1 .left) (c .if2 .taken)
-
-add-second : tie.Need-add-second
-add-second c = search needs
 
 returns-3 : tie.Need-returns-3
 returns-3 c = let a = c .before .before .before .before .args in term-cut (a .words .now) (a .at) (a .variables) (c .before .before .before .if1 .left) (c .if3 .taken)
 
-mul-word : tie.Need-mul-word
-mul-word c = search needs
-
-shared-slice-read-word : tie.Need-shared-slice-read-word
-shared-slice-read-word c = search needs
-
-add-t13 : tie.Need-add-t13
-add-t13 c = search needs
-
 returns-4 : tie.Need-returns-4
 returns-4 c = let a = c .before .before .before .before .before .before .args in term-atom (a .words .now) (a .at) (a .variables) (c .before .before .if3 .left) (c .if4 .taken)
-
-add-t16 : tie.Need-add-t16
-add-t16 c = search needs
 
 returns-5 : tie.Need-returns-5
 returns-5 c = let a = c .before .before .before .before .before .before .before .args in term-variable (a .words .now) (a .at) (a .variables) (c .before .before .before .if3 .left) (c .before .before .before .before .if2 .left) (c .before .if4 .left) (c .if5 .taken)
@@ -48,15 +27,15 @@ read-term-spec =
     tie.close
     (tie.spec
     returns
-    mul-tag
-    shared-slice-read-tag
+    (λ c. search needs)
+    (λ c. search needs)
     returns-2
-    add-second
+    (λ c. search needs)
     returns-3
-    mul-word
-    shared-slice-read-word
-    add-t13
+    (λ c. search needs)
+    (λ c. search needs)
+    (λ c. search needs)
     returns-4
-    add-t16
+    (λ c. search needs)
     returns-5
     returns-6)
