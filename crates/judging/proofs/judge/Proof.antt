@@ -5,31 +5,19 @@ use borrow.Author.Needs.{needs}
 use Rattle.judging.proofs.judge.Statement.{statement}
 use Rattle.judging.proofs.judge.Tie as tie
 
-read-table-requires : tie.Need-read-table-requires
-read-table-requires c κs = search needs
-
-enum-known-number : tie.Need-enum-known-number
-enum-known-number c = search needs
-
-enum-known-count : tie.Need-enum-known-count
-enum-known-count c = search needs
-
 judge-all-requires : tie.Need-judge-all-requires
 judge-all-requires c κs = table-read (c .before .before .before .before .before .before .args .policy .now) _ _ (c .before .before .before .read-table .ensures) (c .before .count .given .1)
 
 returns : tie.Need-returns
 returns c = judge-untabled (c .before .before .before .before .before .before .args .policy .now) (c .before .before .before .before .before .before .args .query .now) (c .before .before .before .read-table .ensures) (c .before .number .given .1)
 
-returns-2 : tie.Need-returns-2
-returns-2 c = search needs
-
 pub judge-spec : {M : Type 1} → statement M
 judge-spec =
     tie.close
     (tie.spec
-    read-table-requires
-    enum-known-number
-    enum-known-count
+    (λ c κs. search needs)
+    (λ c. search needs)
+    (λ c. search needs)
     judge-all-requires
     returns
-    returns-2)
+    (λ c. search needs))

@@ -1,6 +1,6 @@
 -- The invariant: the definitions left and the query, judged from here, come to what the whole comes to.
 use Prim.Native.Nat.{_+_, _-_}
-use mathlib.Core.Path.{_∙_, ap}
+use mathlib.Core.Path.{_≡_, _∙_, ap}
 use native.Mathlib.Omega.{arith}
 use lib.ListN.{getD}
 use Rattle.policy.specs.Table.{entryAt}
@@ -8,7 +8,7 @@ use Rattle.table.specs.Entries.{entryPlace}
 use Rattle.policy.specs.Judgement.{checkDefinition}
 use Rattle.polarity.specs.Earlier.{knownIn}
 use Rattle.judging.specs.Whole.{wholeOf}
-use Rattle.table.proofs.PartAnswers.{listed-of}
+use Rattle.table.proofs.PartAnswers.{Listed, listed-of}
 use Rattle.judging.proofs.JudgeAnswers.{Judging, judging-starts, judging-refused, judging-goes-on, query-unjudged, query-judged}
 use borrow.Author.Needs.{needs}
 use Rattle.judging.proofs.judge_all.Statement.{statement}
@@ -20,70 +20,120 @@ Inv-loop policy query count earlier₀ next₀ earlier next = Judging policy que
 abbrev μ-loop : tie.MeasureT-loop
 μ-loop policy query count earlier₀ next₀ earlier next = count - next
 
-none-earlier-requires : tie.Need-none-earlier-requires Inv-loop μ-loop
-none-earlier-requires c κs = search needs
+-- ---- places
+
+abbrev Loop : Type 0
+Loop = tie.At-loop Inv-loop μ-loop
+
+abbrev Judged : Type 0
+Judged = tie.After-judge-entry Inv-loop μ-loop
+
+abbrev entry : Loop → tie.Start Inv-loop μ-loop
+entry l = l .before .before .before .before
+
+-- the table lists so many entries, and their parts lie in the policy
+entries : (l : Loop) → Listed (entry l .args .policy .now) (entry l .args .count)
+entries l = listed-of (entry l .args .policy .now) (entry l .args .count) (entry l .pre)
+
+-- from where a definition is judged
+abbrev again : Judged → Loop
+again j = j .before .before .before
+
+-- the definition judged is the next one
+next-judged : (j : Judged) → j .judge-entry .result ≡ wholeOf (knownIn (again j .loop .earlier))
+    (checkDefinition (entry (again j) .args .policy .now) (knownIn (again j .loop .earlier)) (entryAt (entry (again j) .args .policy .now) (entryPlace (again j .loop .next))))
+next-judged j =
+    let p = entry (again j) .args .policy .now in
+    let ks = knownIn (again j .loop .earlier) in
+    j .judge-entry .ensures ∙ ap (λ i. wholeOf ks (checkDefinition p ks (entryAt p (entryPlace i)))) (j .before .wide .ensures)
+
+-- ---- answers
 
 loop-holds : tie.Need-loop-holds Inv-loop μ-loop
-loop-holds c = judging-starts (c .before .before .before .args .policy .now) (c .before .before .before .args .query .now) (c .before .before .before .args .count) _ (c .before .before .before .pre) (c .none-earlier .ensures .0) (c .none-earlier .ensures .1)
-
-wide-requires : tie.Need-wide-requires Inv-loop μ-loop
-wide-requires c κs = search needs
+loop-holds c =
+    let start = c .before .before .before in
+    let a = start .args in
+    judging-starts (a .policy .now) (a .query .now) (a .count) _ (start .pre) (c .none-earlier .ensures .0) (c .none-earlier .ensures .1)
 
 add-next : tie.Need-add-next Inv-loop μ-loop
-add-next c = omega (arith, c .before .loop-test .taken, (listed-of (c .before .before .before .before .before .before .args .policy .now) (c .before .before .before .before .before .before .args .count) (c .before .before .before .before .before .before .pre)) .few)
+add-next c = omega (arith, c .before .loop-test .taken, entries (c .before .before) .few)
 
 judge-entry-requires : tie.Need-judge-entry-requires Inv-loop μ-loop
 unfolding entryAt
-judge-entry-requires c κs = let l = (listed-of (c .before .before .before .before .before .before .args .policy .now) (c .before .before .before .before .before .before .args .count) (c .before .before .before .before .before .before .pre)) in (omega (arith, c .before .before .loop .inv .count, c .before .before .loop .inv .few, l .few), omega (arith, c .wide .ensures, c .before .loop-test .taken, l .few), omega (arith, c .wide .ensures, c .before .loop-test .taken, l .fits), l .parts (c .wide .result) (omega (arith, c .wide .ensures, c .before .loop-test .taken)))
-
-enum-known-number : tie.Need-enum-known-number Inv-loop μ-loop
-enum-known-number c = search needs
+judge-entry-requires c κs =
+    let i = c .before in
+    let inv = i .before .loop .inv in
+    let l = entries (i .before) in (
+      omega (arith, inv .count, inv .few, l .few),
+      omega (arith, c .wide .ensures, i .loop-test .taken, l .few),
+      omega (arith, c .wide .ensures, i .loop-test .taken, l .fits),
+      l .parts (c .wide .result) (omega (arith, c .wide .ensures, i .loop-test .taken)),
+    )
 
 returns : tie.Need-returns Inv-loop μ-loop
-returns c = judging-refused (c .before .before .before .before .before .before .before .before .before .before .args .policy .now) (c .before .before .before .before .before .before .before .before .before .before .args .query .now) (c .before .before .before .before .before .before .before .before .before .before .args .count) (c .before .before .before .before .before .before .loop .next) (c .before .before .before .before .before .before .loop .earlier) (c .before .before .before .before .before .before .loop .inv) (c .before .before .before .before .before .loop-test .taken) (c .before .before .before .judge-entry .ensures ∙ ap (λ i. wholeOf (knownIn (c .before .before .before .before .before .before .loop .earlier)) (checkDefinition (c .before .before .before .before .before .before .before .before .before .before .args .policy .now) (knownIn (c .before .before .before .before .before .before .loop .earlier)) (entryAt (c .before .before .before .before .before .before .before .before .before .before .args .policy .now) (entryPlace i)))) (c .before .before .before .before .wide .ensures)) (c .before .number .given .1)
-
-enum-known-facts : tie.Need-enum-known-facts Inv-loop μ-loop
-enum-known-facts c = search needs
+returns c =
+    let j = c .before .before .before in
+    let l = again j in
+    let a = entry l .args in
+    judging-refused (a .policy .now) (a .query .now) (a .count) (l .loop .next) (l .loop .earlier) (l .loop .inv) (j .before .before .loop-test .taken) (next-judged j) (c .before .number .given .1)
 
 entry-place-requires : tie.Need-entry-place-requires Inv-loop μ-loop
-entry-place-requires c κs = omega (arith, c .before .before .before .before .wide .ensures, c .before .before .before .before .before .loop-test .taken, (listed-of (c .before .before .before .before .before .before .before .before .before .before .args .policy .now) (c .before .before .before .before .before .before .before .before .before .before .args .count) (c .before .before .before .before .before .before .before .before .before .before .pre)) .few)
+entry-place-requires c κs =
+    let j = c .before .before .before in
+    omega (arith, j .before .wide .ensures, j .before .before .loop-test .taken, entries (again j) .few)
 
 add-with-definition : tie.Need-add-with-definition Inv-loop μ-loop
-add-with-definition c = omega (arith, c .entry-place .ensures, c .before .before .before .before .before .wide .ensures, c .before .before .before .before .before .before .loop-test .taken, (listed-of (c .before .before .before .before .before .before .before .before .before .before .before .args .policy .now) (c .before .before .before .before .before .before .before .before .before .before .before .args .count) (c .before .before .before .before .before .before .before .before .before .before .before .pre)) .few)
+add-with-definition c =
+    let j = c .before .before .before .before in
+    omega (arith, c .entry-place .ensures, j .before .wide .ensures, j .before .before .loop-test .taken, entries (again j) .few)
 
 mul-with-definition : tie.Need-mul-with-definition Inv-loop μ-loop
-mul-with-definition c = omega (arith, c .entry-place .ensures, c .before .before .before .before .before .wide .ensures, c .before .before .before .before .before .before .loop-test .taken, (listed-of (c .before .before .before .before .before .before .before .before .before .before .before .args .policy .now) (c .before .before .before .before .before .before .before .before .before .before .before .args .count) (c .before .before .before .before .before .before .before .before .before .before .before .pre)) .few)
+mul-with-definition c =
+    let j = c .before .before .before .before in
+    omega (arith, c .entry-place .ensures, j .before .wide .ensures, j .before .before .loop-test .taken, entries (again j) .few)
 
 shared-slice-read-with-definition : tie.Need-shared-slice-read-with-definition Inv-loop μ-loop
-shared-slice-read-with-definition c = omega (arith, c .before .entry-place .ensures, c .before .before .before .before .before .before .wide .ensures, c .before .before .before .before .before .before .before .loop-test .taken, (listed-of (c .before .before .before .before .before .before .before .before .before .before .before .before .args .policy .now) (c .before .before .before .before .before .before .before .before .before .before .before .before .args .count) (c .before .before .before .before .before .before .before .before .before .before .before .before .pre)) .fits)
+shared-slice-read-with-definition c =
+    let j = c .before .before .before .before .before in
+    omega (arith, c .before .entry-place .ensures, j .before .wide .ensures, j .before .before .loop-test .taken, entries (again j) .fits)
 
 with-definition-requires : tie.Need-with-definition-requires Inv-loop μ-loop
-with-definition-requires c κs = omega (arith, c .before .before .before .before .before .before .before .before .loop .inv .count, c .before .before .before .before .before .before .before .loop-test .taken, (listed-of (c .before .before .before .before .before .before .before .before .before .before .before .before .args .policy .now) (c .before .before .before .before .before .before .before .before .before .before .before .before .args .count) (c .before .before .before .before .before .before .before .before .before .before .before .before .pre)) .few)
+with-definition-requires c κs =
+    let j = c .before .before .before .before .before in
+    omega (arith, again j .loop .inv .count, j .before .before .loop-test .taken, entries (again j) .few)
 
 loop-less : tie.Need-loop-less Inv-loop μ-loop
 loop-less c = omega (arith, c .before .before .before .before .before .before .before .before .loop-test .taken)
 
 loop-again : tie.Need-loop-again Inv-loop μ-loop
 unfolding entryAt
-loop-again c = judging-goes-on (c .before .before .before .before .before .before .before .before .before .before .before .before .before .args .policy .now) (c .before .before .before .before .before .before .before .before .before .before .before .before .before .args .query .now) (c .before .before .before .before .before .before .before .before .before .before .before .before .before .args .count) (c .before .before .before .before .before .before .before .before .before .loop .next) (c .before .before .before .before .before .before .before .before .before .loop .earlier) (c .before .before .before .before .before .before .before .before .before .loop .inv) (c .before .before .before .before .before .before .before .before .loop-test .taken) (c .before .before .before .before .before .before .judge-entry .ensures ∙ ap (λ i. wholeOf (knownIn (c .before .before .before .before .before .before .before .before .before .loop .earlier)) (checkDefinition (c .before .before .before .before .before .before .before .before .before .before .before .before .before .args .policy .now) (knownIn (c .before .before .before .before .before .before .before .before .before .loop .earlier)) (entryAt (c .before .before .before .before .before .before .before .before .before .before .before .before .before .args .policy .now) (entryPlace i)))) (c .before .before .before .before .before .before .before .wide .ensures)) (c .before .before .before .before .facts .given .1) (ap (λ a. getD (c .before .before .before .before .before .before .before .before .before .before .before .before .before .args .policy .now) (a + 1) 0) (c .before .before .entry-place .ensures ∙ ap (λ i. entryPlace i) (c .before .before .before .before .before .before .before .wide .ensures))) (c .with-definition .ensures .0) (c .with-definition .ensures .1)
+loop-again c =
+    let place = c .before .before in
+    let j = place .before .before .before .before in
+    let l = again j in
+    let a = entry l .args in
+    judging-goes-on (a .policy .now) (a .query .now) (a .count) (l .loop .next) (l .loop .earlier) (l .loop .inv) (j .before .before .loop-test .taken) (next-judged j)
+    (c .before .before .before .before .facts .given .1)
+    (ap (λ o. getD (a .policy .now) (o + 1) 0) (place .entry-place .ensures ∙ ap (λ i. entryPlace i) (j .before .wide .ensures)))
+    (c .with-definition .ensures .0) (c .with-definition .ensures .1)
 
 judge-query-requires : tie.Need-judge-query-requires Inv-loop μ-loop
-judge-query-requires c κs = omega (arith, c .before .loop .inv .count, c .before .loop .inv .few, (listed-of (c .before .before .before .before .before .args .policy .now) (c .before .before .before .before .before .args .count) (c .before .before .before .before .before .pre)) .few)
-
-enum-known-number-2 : tie.Need-enum-known-number-2 Inv-loop μ-loop
-enum-known-number-2 c = search needs
-
-enum-known-facts-2 : tie.Need-enum-known-facts-2 Inv-loop μ-loop
-enum-known-facts-2 c = search needs
-
-verdict-requires : tie.Need-verdict-requires Inv-loop μ-loop
-verdict-requires c κs = search needs
+judge-query-requires c κs = let l = c .before in omega (arith, l .loop .inv .count, l .loop .inv .few, entries l .few)
 
 returns-2 : tie.Need-returns-2 Inv-loop μ-loop
-returns-2 c = query-unjudged (c .before .before .before .before .before .before .before .before .before .args .policy .now) (c .before .before .before .before .before .before .before .before .before .args .query .now) (c .before .before .before .before .before .before .before .before .before .args .count) (c .before .before .before .before .before .loop .next) (c .before .before .before .before .before .loop .earlier) (c .before .before .before .before .before .loop .inv) (c .before .before .before .before .loop-test .left) (c .before .before .before .judge-query .ensures) (c .before .number2 .given .1)
+returns-2 c =
+    let q = c .before .before .before in
+    let l = q .before .before in
+    let a = entry l .args in
+    query-unjudged (a .policy .now) (a .query .now) (a .count) (l .loop .next) (l .loop .earlier) (l .loop .inv) (q .before .loop-test .left) (q .judge-query .ensures) (c .before .number2 .given .1)
 
 returns-3 : tie.Need-returns-3 Inv-loop μ-loop
-returns-3 c = query-judged (c .before .before .before .before .before .before .before .before .before .before .args .policy .now) (c .before .before .before .before .before .before .before .before .before .before .args .query .now) (c .before .before .before .before .before .before .before .before .before .before .args .count) (c .before .before .before .before .before .before .loop .next) (c .before .before .before .before .before .before .loop .earlier) (c .before .before .before .before .before .before .loop .inv) (c .before .before .before .before .before .loop-test .left) (c .before .before .before .before .judge-query .ensures) (c .before .before .facts2 .given .1) (c .verdict .ensures)
+returns-3 c =
+    let q = c .before .before .before .before in
+    let l = q .before .before in
+    let a = entry l .args in
+    query-judged (a .policy .now) (a .query .now) (a .count) (l .loop .next) (l .loop .earlier) (l .loop .inv) (q .before .loop-test .left) (q .judge-query .ensures) (c .before .before .facts2 .given .1)
+    (c .verdict .ensures)
 
 pub judge-all-spec : {M : Type 1} → statement M
 judge-all-spec =
@@ -91,14 +141,14 @@ judge-all-spec =
     (tie.spec
     Inv-loop
     μ-loop
-    none-earlier-requires
+    (λ c κs. search needs)
     loop-holds
-    wide-requires
+    (λ c κs. search needs)
     add-next
     judge-entry-requires
-    enum-known-number
+    (λ c. search needs)
     returns
-    enum-known-facts
+    (λ c. search needs)
     entry-place-requires
     add-with-definition
     mul-with-definition
@@ -107,8 +157,8 @@ judge-all-spec =
     loop-less
     loop-again
     judge-query-requires
-    enum-known-number-2
-    enum-known-facts-2
-    verdict-requires
+    (λ c. search needs)
+    (λ c. search needs)
+    (λ c κs. search needs)
     returns-2
     returns-3)

@@ -11,26 +11,17 @@ returns c = let a = c .before .before .args in query-empty (knownIn (a .earlier)
 returns-2 : tie.Need-returns-2
 returns-2 c = let a = c .before .before .before .args in query-long (knownIn (a .earlier)) (a .words .now) (c .if2 .taken)
 
-check-whole-requires : tie.Need-check-whole-requires
-check-whole-requires c κs = search needs
-
-enum-known-n : tie.Need-enum-known-n
-enum-known-n c = search needs
-
-enum-known-facts : tie.Need-enum-known-facts
-enum-known-facts c = search needs
-
-either-requires : tie.Need-either-requires
-either-requires c κs = search needs
-
-admit-requires : tie.Need-admit-requires
-admit-requires c κs = search needs
-
 returns-3 : tie.Need-returns-3
-returns-3 c = let a = c .before .before .before .before .before .before .before .args in query-refused (knownIn (a .earlier)) (a .words .now) (c .before .before .before .before .before .if1 .left) (c .before .before .before .before .if2 .left) (c .before .before .before .check-whole .ensures) (c .before .n .given .1)
+returns-3 c =
+    let w = c .before .before .before in
+    let a = w .before .before .before .before .args in
+    query-refused (knownIn (a .earlier)) (a .words .now) (w .before .before .if1 .left) (w .before .if2 .left) (w .check-whole .ensures) (c .before .n .given .1)
 
 returns-4 : tie.Need-returns-4
-returns-4 c = let a = c .before .before .before .before .before .before .before .before .before .args in query-admitted (knownIn (a .earlier)) (a .words .now) (c .before .before .before .before .before .before .before .if1 .left) (c .before .before .before .before .before .before .if2 .left) (c .before .before .before .before .before .check-whole .ensures) (c .before .before .before .facts .given .1) (c .before .either .ensures) (c .admit .ensures)
+returns-4 c =
+    let w = c .before .before .before .before .before in
+    let a = w .before .before .before .before .args in
+    query-admitted (knownIn (a .earlier)) (a .words .now) (w .before .before .if1 .left) (w .before .if2 .left) (w .check-whole .ensures) (c .before .before .before .facts .given .1) (c .before .either .ensures) (c .admit .ensures)
 
 pub judge-query-spec : {M : Type 1} → statement M
 judge-query-spec =
@@ -38,10 +29,10 @@ judge-query-spec =
     (tie.spec
     returns
     returns-2
-    check-whole-requires
-    enum-known-n
-    enum-known-facts
-    either-requires
-    admit-requires
+    (λ c κs. search needs)
+    (λ c. search needs)
+    (λ c. search needs)
+    (λ c κs. search needs)
+    (λ c κs. search needs)
     returns-3
     returns-4)
