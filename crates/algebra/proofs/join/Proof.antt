@@ -7,23 +7,42 @@ use borrow.Author.Needs.{needs}
 use Rattle.algebra.proofs.join.Statement.{statement}
 use Rattle.algebra.proofs.join.Tie as tie
 
+-- ---- places
+
+abbrev entry : tie.After-joint → tie.Start
+entry n = n .before .before .before
+
+-- ---- too many
+
 returns : tie.Need-returns
 returns c =
-    let a = c .before .before .before .before .args in (too-many (a .area .now) (c .before .before .before .before .pre) _ (c .before .joint .ensures) (omega arith), none-left-over (a .area .now) (c .before .before .before .before .pre))
+    let n = c .before in
+    let area = entry n .args .area .now in
+    (too-many area (entry n .pre) _ (n .joint .ensures) (omega arith), none-left-over area (entry n .pre))
+
+-- ---- merged
 
 merge-requires : tie.Need-merge-requires
-merge-requires c κs = (c .before .before .before .before .before .pre, c .before .before .joint .ensures, omega arith)
+merge-requires c κs = let n = c .before .before in (entry n .pre, n .joint .ensures, omega arith)
 
 slice-write-area : tie.Need-slice-write-area
 slice-write-area c =
-    let n = counts (c .before .before .before .before .before .before .before .before .args .area .now) (c .before .before .before .before .before .before .before .before .pre) in let k = c .before .before .merge .kept in omega arith
+    let merged = c .before .before in
+    let start = entry (merged .before .before .before) in
+    let n = counts (start .args .area .now) (start .pre) in
+    let k = merged .merge .kept in
+    omega arith
 
 same-length-2 : tie.Need-same-length-2
 same-length-2 c = simp length-set (search needs)
 
 returns-2 : tie.Need-returns-2
 returns-2 c =
-    let a = c .before .before .before .before .before .before .before .before .args in (joined-fits (a .area .now) (c .before .before .before .before .before .before .before .before .pre) _ (c .before .before .before .before .before .joint .ensures) (omega arith), joined-words (a .area .now) (c .before .before .before .before .before .before .before .before .pre) _ _ (c .before .before .before .before .before .joint .ensures) (omega arith) (c .before .before .merge .ensures))
+    let merged = c .before .before in
+    let n = merged .before .before .before in
+    let area = entry n .args .area .now in
+    let pre = entry n .pre in
+    (joined-fits area pre _ (n .joint .ensures) (omega arith), joined-words area pre _ _ (n .joint .ensures) (omega arith) (merged .merge .ensures))
 
 pub join-spec : {M : Type 1} → statement M
 join-spec =
