@@ -1,71 +1,60 @@
 -- A sound entry's part lies inside the policy.
+use Prim.Native.Nat.{_+_, _≤_}
 use native.Mathlib.Omega.{arith}
+use lib.ListN.{length}
 use Rattle.table.proofs.TableAnswers.{definition-span, definition-part}
 use borrow.Author.Needs.{needs}
 use Rattle.table.proofs.definition_words.Statement.{statement}
 use Rattle.table.proofs.definition_words.Tie as tie
 
-entry-place-requires : tie.Need-entry-place-requires
-entry-place-requires c κs = search needs
+-- ---- places
 
-add-wide : tie.Need-add-wide
-add-wide c = search needs
+abbrev started : tie.After-wide2 → tie.After-wide
+started s = s .before .before
 
-mul-wide : tie.Need-mul-wide
-mul-wide c = search needs
+abbrev placed : tie.After-wide2 → tie.After-entry-place
+placed s = started s .before .before
 
-shared-slice-read-wide : tie.Need-shared-slice-read-wide
-shared-slice-read-wide c = search needs
+abbrev entry : tie.After-wide2 → tie.Start
+entry s = placed s .before .before
 
-wide-requires : tie.Need-wide-requires
-wide-requires c κs = search needs
+span : (s : tie.After-wide2) → started s .wide .result + s .wide2 .result ≤ length (entry s .args .policy .now)
+span s =
+    definition-span (entry s .args .policy .now) (entry s .args .i)
+    (placed s .entry-place .ensures) (started s .wide .ensures) (s .wide2 .ensures) (entry s .pre .2)
 
-add-wide-2 : tie.Need-add-wide-2
-add-wide-2 c = search needs
-
-mul-wide-2 : tie.Need-mul-wide-2
-mul-wide-2 c = search needs
-
-shared-slice-read-wide-2 : tie.Need-shared-slice-read-wide-2
-shared-slice-read-wide-2 c = search needs
-
-wide-requires-2 : tie.Need-wide-requires-2
-wide-requires-2 c κs = search needs
+-- ---- answers
 
 add-end : tie.Need-add-end
-add-end c = omega (arith, (definition-span (c .before .before .before .before .before .before .args .policy .now) (c .before .before .before .before .before .before .args .i) (c .before .before .before .before .entry-place .ensures) (c .before .before .wide .ensures) (c .wide2 .ensures) (c .before .before .before .before .before .before .pre .2)))
+add-end c = omega (arith, span c)
 
 mul-result : tie.Need-mul-result
-mul-result c = omega (arith, (definition-span (c .before .before .before .before .before .before .args .policy .now) (c .before .before .before .before .before .before .args .i) (c .before .before .before .before .entry-place .ensures) (c .before .before .wide .ensures) (c .wide2 .ensures) (c .before .before .before .before .before .before .pre .2)))
-
-sub-result : tie.Need-sub-result
-sub-result c = search needs
-
-part-result-start : tie.Need-part-result-start
-part-result-start c = search needs
+mul-result c = omega (arith, span c)
 
 part-result-end : tie.Need-part-result-end
-part-result-end c = omega (arith, (definition-span (c .before .before .before .before .before .before .args .policy .now) (c .before .before .before .before .before .before .args .i) (c .before .before .before .before .entry-place .ensures) (c .before .before .wide .ensures) (c .wide2 .ensures) (c .before .before .before .before .before .before .pre .2)))
+part-result-end c = omega (arith, span c)
 
 returns : tie.Need-returns
-returns c = definition-part (c .before .before .before .before .before .before .before .args .policy .now) (c .before .before .before .before .before .before .before .args .i) (c .before .before .before .before .before .entry-place .ensures) (c .before .before .before .wide .ensures) (c .before .wide2 .ensures)
+returns c =
+    let s = c .before in
+    definition-part (entry s .args .policy .now) (entry s .args .i) (placed s .entry-place .ensures) (started s .wide .ensures) (s .wide2 .ensures)
 
 pub definition-words-spec : {M : Type 1} → statement M
 definition-words-spec =
     tie.close
     (tie.spec
-    entry-place-requires
-    add-wide
-    mul-wide
-    shared-slice-read-wide
-    wide-requires
-    add-wide-2
-    mul-wide-2
-    shared-slice-read-wide-2
-    wide-requires-2
+    (λ c κs. search needs)
+    (λ c. search needs)
+    (λ c. search needs)
+    (λ c. search needs)
+    (λ c κs. search needs)
+    (λ c. search needs)
+    (λ c. search needs)
+    (λ c. search needs)
+    (λ c κs. search needs)
     add-end
     mul-result
-    sub-result
-    part-result-start
+    (λ c. search needs)
+    (λ c. search needs)
     part-result-end
     returns)

@@ -1,107 +1,146 @@
-use mathlib.Core.Path.{sym, _∙_, ap}
+use Prim.Native.Nat.{ℕ}
+use mathlib.Core.Path.{_≡_, sym, _∙_, ap}
+use mathlib.Core.Bool.{Bool}
+use mathlib.Core.List.{List}
 use native.Mathlib.Omega.{arith}
-use Rattle.policy.specs.Table.{entryAt, named}
-use Rattle.table.specs.Entries.{entriesBefore}
+use Rattle.policy.specs.Table.{Entry, entryAt, named, soundEntry}
+use Rattle.table.specs.Entries.{entryPlace, entriesBefore}
 use Rattle.table.proofs.TableAnswers.{placed, entry-name, entry-polarity, entry-offset, entry-empty, entry-past, entry-else}
 use borrow.Author.Needs.{needs}
 use Rattle.table.proofs.sound_entry.Statement.{statement}
 use Rattle.table.proofs.sound_entry.Tie as tie
 
-entry-place-requires : tie.Need-entry-place-requires
-entry-place-requires c κs = search needs
+-- ---- places
 
-mul-if1 : tie.Need-mul-if1
-mul-if1 c = search needs
+abbrev start : tie.After-entry-place → tie.Start
+start e = e .before .before
 
-shared-slice-read-if1 : tie.Need-shared-slice-read-if1
-shared-slice-read-if1 c = search needs
+abbrev policy : tie.After-entry-place → List ℕ
+policy e = start e .args .policy .now
+
+abbrev due : tie.After-entry-place → ℕ
+due e = start e .args .due
+
+abbrev earlier : tie.After-entry-place → List Entry
+earlier e = entriesBefore (policy e) (start e .args .i)
+
+-- the entry where the code reads it
+abbrev read : tie.After-entry-place → Entry
+read e = entryAt (policy e) (e .entry-place .result)
+
+answer : (e : tie.After-entry-place) {b : Bool} →
+    b ≡ soundEntry (policy e) (due e) (earlier e) (read e) → b ≡ soundEntry (policy e) (due e) (earlier e) (entryAt (policy e) (entryPlace (start e .args .i)))
+answer e h = placed (policy e) (due e) (start e .args .i) (e .entry-place .ensures) h
+
+-- from each rule kept to the one before it
+
+abbrev from-name : tie.Else1 → tie.After-entry-place
+from-name n = n .before .before
+
+abbrev from-polarity : tie.Else2 → tie.Else1
+from-polarity q = q .before .before
+
+abbrev from-offset : tie.Else3 → tie.Else2
+from-offset o = o .before .before .before
+
+abbrev from-size : tie.Else4 → tie.Else3
+from-size s = s .before .before .before
+
+-- the entry whose offset, or size, keeps its rule
+
+abbrev at-offset : tie.Else3 → tie.After-entry-place
+at-offset o = from-name (from-polarity (from-offset o))
+
+abbrev at-size : tie.Else4 → tie.After-entry-place
+at-size s = at-offset (from-size s)
+
+offset-due : (o : tie.Else3) → read (at-offset o) .offset ≡ due (at-offset o)
+unfolding entryAt
+offset-due o = sym (o .before .wide .ensures) ∙ o .if3 .left
+
+some : (s : tie.Else4) → read (at-size s) .size ≡ 0 → ⊥
+unfolding entryAt
+some s h = s .if4 .left (s .before .wide2 .ensures ∙ h)
+
+-- ---- answers
 
 returns : tie.Need-returns
 unfolding entryAt
-returns c = let a = c .before .before .before .before .args in let p = a .policy .now in placed p (a .due) (a .i) (c .before .before .entry-place .ensures) (entry-name p (a .due) (entriesBefore p (a .i)) (entryAt p (c .before .before .entry-place .result)) (c .if1 .taken))
-
-add-if2 : tie.Need-add-if2
-add-if2 c = search needs
-
-mul-if2 : tie.Need-mul-if2
-mul-if2 c = search needs
-
-shared-slice-read-if2 : tie.Need-shared-slice-read-if2
-shared-slice-read-if2 c = search needs
+returns c = let e = c .before .before in answer e (entry-name (policy e) (due e) (earlier e) (read e) (c .if1 .taken))
 
 returns-2 : tie.Need-returns-2
 unfolding entryAt
-returns-2 c = let a = c .before .before .before .before .before .before .args in let p = a .policy .now in placed p (a .due) (a .i) (c .before .before .before .before .entry-place .ensures) (entry-polarity p (a .due) (entriesBefore p (a .i)) (entryAt p (c .before .before .before .before .entry-place .result)) (c .before .before .if1 .left) (c .if2 .taken))
-
-add-wide : tie.Need-add-wide
-add-wide c = search needs
-
-mul-wide : tie.Need-mul-wide
-mul-wide c = search needs
-
-shared-slice-read-wide : tie.Need-shared-slice-read-wide
-shared-slice-read-wide c = search needs
-
-wide-requires : tie.Need-wide-requires
-wide-requires c κs = search needs
+returns-2 c =
+    let n = c .before .before in
+    let e = from-name n in
+    answer e (entry-polarity (policy e) (due e) (earlier e) (read e) (n .if1 .left) (c .if2 .taken))
 
 returns-3 : tie.Need-returns-3
 unfolding entryAt
-returns-3 c = let a = c .before .before .before .before .before .before .before .before .before .args in let p = a .policy .now in placed p (a .due) (a .i) (c .before .before .before .before .before .before .before .entry-place .ensures) (entry-offset p (a .due) (entriesBefore p (a .i)) (entryAt p (c .before .before .before .before .before .before .before .entry-place .result)) (c .before .before .before .before .before .if1 .left) (c .before .before .before .if2 .left) (λ e. c .if3 .taken (c .before .wide .ensures ∙ e)))
-
-add-wide-2 : tie.Need-add-wide-2
-add-wide-2 c = search needs
-
-mul-wide-2 : tie.Need-mul-wide-2
-mul-wide-2 c = search needs
-
-shared-slice-read-wide-2 : tie.Need-shared-slice-read-wide-2
-shared-slice-read-wide-2 c = search needs
-
-wide-requires-2 : tie.Need-wide-requires-2
-wide-requires-2 c κs = search needs
+returns-3 c =
+    let q = c .before .before .before in
+    let n = from-polarity q in
+    let e = from-name n in
+    answer e (entry-offset (policy e) (due e) (earlier e) (read e) (n .if1 .left) (q .if2 .left) (λ h. c .if3 .taken (c .before .wide .ensures ∙ h)))
 
 returns-4 : tie.Need-returns-4
 unfolding entryAt
-returns-4 c = let a = c .before .before .before .before .before .before .before .before .before .before .before .before .args in let p = a .policy .now in placed p (a .due) (a .i) (c .before .before .before .before .before .before .before .before .before .before .entry-place .ensures) (entry-empty p (a .due) (entriesBefore p (a .i)) (entryAt p (c .before .before .before .before .before .before .before .before .before .before .entry-place .result)) (c .before .before .before .before .before .before .before .before .if1 .left) (c .before .before .before .before .before .before .if2 .left) (sym (c .before .before .before .before .wide .ensures) ∙ c .before .before .before .if3 .left) (sym (c .before .wide2 .ensures) ∙ c .if4 .taken))
-
-sub-if5 : tie.Need-sub-if5
-sub-if5 c = search needs
+returns-4 c =
+    let o = c .before .before .before in
+    let q = from-offset o in
+    let n = from-polarity q in
+    let e = from-name n in
+    answer e
+    (entry-empty (policy e) (due e) (earlier e) (read e) (n .if1 .left) (q .if2 .left) (offset-due o) (sym (c .before .wide2 .ensures) ∙ c .if4 .taken))
 
 returns-5 : tie.Need-returns-5
 unfolding entryAt
-returns-5 c = let a = c .before .before .before .before .before .before .before .before .before .before .before .before .before .args in let p = a .policy .now in placed p (a .due) (a .i) (c .before .before .before .before .before .before .before .before .before .before .before .entry-place .ensures) (entry-past p (a .due) (entriesBefore p (a .i)) (entryAt p (c .before .before .before .before .before .before .before .before .before .before .before .entry-place .result)) (c .before .before .before .before .before .before .before .before .before .if1 .left) (c .before .before .before .before .before .before .before .if2 .left) (sym (c .before .before .before .before .before .wide .ensures) ∙ c .before .before .before .before .if3 .left) (λ e. c .before .if4 .left (c .before .before .wide2 .ensures ∙ e)) (c .before .before .before .before .before .before .before .before .before .before .before .before .before .pre .2) (omega (arith, c .before .before .wide2 .ensures, c .if5 .taken)))
-
-is-named-requires : tie.Need-is-named-requires
-is-named-requires c κs = search needs
+returns-5 c =
+    let s = c .before in
+    let o = from-size s in
+    let q = from-offset o in
+    let n = from-polarity q in
+    let e = from-name n in
+    answer e
+    (entry-past (policy e) (due e) (earlier e) (read e) (n .if1 .left) (q .if2 .left) (offset-due o) (some s)
+    (start e .pre .2) (omega (arith, s .before .wide2 .ensures, c .if5 .taken)))
 
 returns-6 : tie.Need-returns-6
 unfolding entryAt
-returns-6 c = let a = c .before .before .before .before .before .before .before .before .before .before .before .before .before .before .args in let p = a .policy .now in placed p (a .due) (a .i) (c .before .before .before .before .before .before .before .before .before .before .before .before .entry-place .ensures) (entry-else p (a .due) (entriesBefore p (a .i)) (entryAt p (c .before .before .before .before .before .before .before .before .before .before .before .before .entry-place .result)) (c .before .before .before .before .before .before .before .before .before .before .if1 .left) (c .before .before .before .before .before .before .before .before .if2 .left) (sym (c .before .before .before .before .before .before .wide .ensures) ∙ c .before .before .before .before .before .if3 .left) (λ e. c .before .before .if4 .left (c .before .before .before .wide2 .ensures ∙ e)) (c .before .before .before .before .before .before .before .before .before .before .before .before .before .before .pre .2) (omega (arith, c .before .before .before .wide2 .ensures, c .before .if5 .left)) (c .is-named .ensures ∙ ap (λ o. named (entriesBefore p (a .i)) (entryAt p o)) (sym (c .before .before .before .before .before .before .before .before .before .before .before .before .entry-place .ensures))))
+returns-6 c =
+    let s = c .before .before in
+    let o = from-size s in
+    let q = from-offset o in
+    let n = from-polarity q in
+    let e = from-name n in
+    answer e
+    (entry-else (policy e) (due e) (earlier e) (read e) (n .if1 .left) (q .if2 .left) (offset-due o) (some s)
+    (start e .pre .2) (omega (arith, s .before .wide2 .ensures, c .before .if5 .left))
+    (c .is-named .ensures ∙ ap (λ a. named (earlier e) (entryAt (policy e) a)) (sym (e .entry-place .ensures))))
 
 pub sound-entry-spec : {M : Type 1} → statement M
 sound-entry-spec =
     tie.close
     (tie.spec
-    entry-place-requires
-    mul-if1
-    shared-slice-read-if1
+    (λ c κs. search needs)
+    (λ c. search needs)
+    (λ c. search needs)
     returns
-    add-if2
-    mul-if2
-    shared-slice-read-if2
+    (λ c. search needs)
+    (λ c. search needs)
+    (λ c. search needs)
     returns-2
-    add-wide
-    mul-wide
-    shared-slice-read-wide
-    wide-requires
+    (λ c. search needs)
+    (λ c. search needs)
+    (λ c. search needs)
+    (λ c κs. search needs)
     returns-3
-    add-wide-2
-    mul-wide-2
-    shared-slice-read-wide-2
-    wide-requires-2
+    (λ c. search needs)
+    (λ c. search needs)
+    (λ c. search needs)
+    (λ c κs. search needs)
     returns-4
-    sub-if5
+    (λ c. search needs)
     returns-5
-    is-named-requires
+    (λ c κs. search needs)
     returns-6)

@@ -5,35 +5,43 @@ use borrow.Author.Needs.{needs}
 use Rattle.table.proofs.sound_header.Statement.{statement}
 use Rattle.table.proofs.sound_header.Tie as tie
 
+-- ---- places: from each rule kept to the one before it
+
+abbrev entry : tie.Else1 → tie.Start
+entry two = two .before .before
+
+abbrev from-format : tie.Else3 → tie.Else2
+from-format one = one .before .before
+
+-- ---- answers
+
 returns : tie.Need-returns
 returns c = header-short (c .before .before .args .policy .now) (c .if1 .taken)
 
 returns-2 : tie.Need-returns-2
-returns-2 c = header-long (c .before .before .before .args .policy .now) (c .before .if1 .left) (c .if2 .taken)
-
-shared-slice-read-if3 : tie.Need-shared-slice-read-if3
-shared-slice-read-if3 c = search needs
+returns-2 c = let two = c .before in header-long (entry two .args .policy .now) (two .if1 .left) (c .if2 .taken)
 
 returns-3 : tie.Need-returns-3
-returns-3 c = header-format (c .before .before .before .before .before .args .policy .now) (c .before .before .before .if1 .left) (c .before .before .if2 .left) (c .if3 .taken)
-
-shared-slice-read-if4 : tie.Need-shared-slice-read-if4
-shared-slice-read-if4 c = search needs
+returns-3 c =
+    let few = c .before .before in
+    let two = few .before in
+    header-format (entry two .args .policy .now) (two .if1 .left) (few .if2 .left) (c .if3 .taken)
 
 returns-4 : tie.Need-returns-4
-returns-4 c = header-count (c .before .before .before .before .before .before .before .args .policy .now) (c .before .before .before .before .before .if1 .left) (c .before .before .before .before .if2 .left) (c .before .before .if3 .left) (c .if4 .taken)
-
-shared-slice-read-wide : tie.Need-shared-slice-read-wide
-shared-slice-read-wide c = search needs
-
-wide-requires : tie.Need-wide-requires
-wide-requires c κs = search needs
-
-entry-place-requires : tie.Need-entry-place-requires
-entry-place-requires c κs = search needs
+returns-4 c =
+    let one = c .before .before in
+    let few = from-format one in
+    let two = few .before in
+    header-count (entry two .args .policy .now) (two .if1 .left) (few .if2 .left) (one .if3 .left) (c .if4 .taken)
 
 returns-5 : tie.Need-returns-5
-returns-5 c = header-fits (c .before .before .before .before .before .before .before .before .before .before .args .policy .now) (c .before .before .before .before .before .before .before .before .if1 .left) (c .before .before .before .before .before .before .before .if2 .left) (c .before .before .before .before .before .if3 .left) (c .before .before .before .if4 .left) (c .entry-place .ensures ∙ ap (λ i. entryPlace i) (c .before .wide .ensures))
+returns-5 c =
+    let count = c .before .before .before in
+    let one = count .before .before in
+    let few = from-format one in
+    let two = few .before in
+    header-fits (entry two .args .policy .now) (two .if1 .left) (few .if2 .left) (one .if3 .left) (count .if4 .left)
+    (c .entry-place .ensures ∙ ap (λ i. entryPlace i) (c .before .wide .ensures))
 
 pub sound-header-spec : {M : Type 1} → statement M
 sound-header-spec =
@@ -41,11 +49,11 @@ sound-header-spec =
     (tie.spec
     returns
     returns-2
-    shared-slice-read-if3
+    (λ c. search needs)
     returns-3
-    shared-slice-read-if4
+    (λ c. search needs)
     returns-4
-    shared-slice-read-wide
-    wide-requires
-    entry-place-requires
+    (λ c. search needs)
+    (λ c κs. search needs)
+    (λ c κs. search needs)
     returns-5)
