@@ -4,20 +4,11 @@ use Rattle.certificates.proofs.Stores.{held-here, held-none}
 use Rattle.records.proofs.is_held.Statement.{statement}
 use Rattle.records.proofs.is_held.Tie as tie
 
-shared-slice-read-if1 : tie.Need-shared-slice-read-if1
-shared-slice-read-if1 c = search needs
-
-cast-if1 : tie.Need-cast-if1
-cast-if1 c = search needs
-
-record-at-requires : tie.Need-record-at-requires
-record-at-requires c κs = search needs
-
-words-before-requires : tie.Need-words-before-requires
-words-before-requires c κs = search needs
-
 returns : tie.Need-returns
-returns c = held-here (c .before .before .before .before .before .before .args .store .now) (c .before .before .before .before .before .before .args .certificate .now) (c .before .before .before .before .before .before .args .place) _ _ (c .before .before .if1 .taken) (c .words-before .ensures) (c .before .record-at .ensures)
+returns c =
+    let start = c .before .before .before .before .before .before in
+    held-here (start .args .store .now) (start .args .certificate .now) (start .args .place) _ _ (c .before .before .if1 .taken)
+    (c .words-before .ensures) (c .before .record-at .ensures)
 
 returns-2 : tie.Need-returns-2
 returns-2 c = held-none (c .before .before .before .before .args .store .now) (c .before .before .before .before .args .certificate .now) (c .before .before .before .before .args .place) (c .if1 .left)
@@ -26,9 +17,9 @@ pub is-held-spec : {M : Type 1} → statement M
 is-held-spec =
     tie.close
     (tie.spec
-    shared-slice-read-if1
-    cast-if1
-    record-at-requires
-    words-before-requires
+    (λ c. search needs)
+    (λ c. search needs)
+    (λ c κs. search needs)
+    (λ c κs. search needs)
     returns
     returns-2)

@@ -3,52 +3,69 @@ use Prim.Native.Nat.{ℕ, _+_, _*_, _-_}
 use mathlib.Core.Path.{_≡_, _∙_, ap}
 use mathlib.Core.List.{List}
 use native.Mathlib.Omega.{arith}
-use lib.ListN.{length, getD, take, drop, set}
+use lib.ListN.{length, getD, take, drop, set, length-set}
 use Rattle.rows.specs.Layout.{rowWords, put, rowsIn}
 use Rattle.layout.specs.Values.{rowOf}
 use Rattle.layout.proofs.RowLaws.{held-length}
-use Rattle.sets.proofs.SetWords.{size}
+use Rattle.sets.proofs.SetWords.{Size, size}
 use Rattle.sets.proofs.Laid.{row-put-in}
-use lib.ListN.{length-set}
 use borrow.Author.Needs.{needs}
 use Rattle.sets.proofs.insert_at.Statement.{statement}
 use Rattle.sets.proofs.insert_at.Tie as tie
 
+-- ---- places
+
+abbrev start : tie.After-wide → tie.Start
+start w = w .before .before .before
+
+abbrev counted : tie.After-copy-up → tie.After-wide
+counted u = u .before .before
+
+sized : (w : tie.After-wide) → Size (start w .args .set .now)
+sized w = size (start w .args .set .now) (start w .pre .0)
+
+four : (s : tie.Start) → length (s .args .row .atoms) ≡ 4
+four s = search needs
+
+-- ---- answers
+
 sub-later : tie.Need-sub-later
-sub-later c =
-    let s = size (c .before .before .before .args .set .now) (c .before .before .before .pre .0) in omega arith
+sub-later c = let s = sized c in omega arith
 
 mul-copy-up : tie.Need-mul-copy-up
-mul-copy-up c =
-    let s = size (c .before .before .before .before .args .set .now) (c .before .before .before .before .pre .0) in omega arith
+mul-copy-up c = let s = sized (c .before) in omega arith
 
 copy-up-requires : tie.Need-copy-up-requires
-copy-up-requires c κs =
-    let s = size (c .before .before .before .before .args .set .now) (c .before .before .before .before .pre .0) in (omega arith, omega arith)
+copy-up-requires c κs = let s = sized (c .before) in (omega arith, omega arith)
 
 store-requires : tie.Need-store-requires
 store-requires c κs =
-    let s = size (c .before .before .before .before .before .before .before .before .args .set .now) (c .before .before .before .before .before .before .before .before .pre .0) in
-    let k = c .before .before .before .copy-up .kept in (omega arith, omega arith)
+    let u = c .before .before .before in
+    let s = sized (counted u) in
+    let k = u .copy-up .kept in (omega arith, omega arith)
 
 add-set : tie.Need-add-set
-add-set c =
-    let s = size (c .before .before .before .before .before .before .before .before .before .before .before .args .set .now) (c .before .before .before .before .before .before .before .before .before .before .before .pre .0) in omega arith
+add-set c = let s = sized (counted (c .before .before .before .before .before .before)) in omega arith
 
 same-length : tie.Need-same-length
 same-length c = simp length-set (search needs)
 
 returns : tie.Need-returns
 returns c =
-    let a = c .before .before .before .before .before .before .before .before .before .before .before .args in
-    let s = size (a .set .now) (c .before .before .before .before .before .before .before .before .before .before .before .pre .0) in
+    let stored = c .before .before in
+    let moved = stored .before .before .before .before in
+    let w = counted moved in
+    let a = start w .args in
     let ws : List ℕ = a .set .now in
-    let four : length (a .row .atoms) ≡ 4 = search needs in
-    let w = held-length (a .row) four (omega arith) in
-    let n : c .before .before .before .before .before .before .before .before .wide .result ≡ length (rowsIn (a .set .now)) = c .before .before .before .before .before .before .before .before .wide .ensures ∙ s .count in
-    let p : c .before .before .store .last .0 ≡ put (2 + 5 * a .i) (rowWords (rowOf (a .row))) (put (2 + 5 * a .i + 5) (take (5 * (length (rowsIn ws) - a .i)) (drop (2 + 5 * a .i) ws)) ws) = c .before .before .store .ensures ∙ ap (put (2 + 5 * a .i) (rowWords (rowOf (a .row)))) (c .before .before .before .before .before .before .copy-up .ensures ∙ ap (λ (m : ℕ). put (2 + 5 * a .i + 5) (take (5 * (m - a .i)) (drop (2 + 5 * a .i) ws)) ws) n) in
-    ap (λ (m : List ℕ). set m 1 (getD ws 1 0 + 1)) p ∙ ap (λ (m : ℕ). set (put (2 + 5 * a .i) (rowWords (rowOf (a .row))) (put (2 + 5 * a .i + 5) (take (5 * (length (rowsIn ws) - a .i)) (drop (2 + 5 * a .i) ws)) ws)) 1 (m + 1)) (s .count)
-    ∙ row-put-in ws (c .before .before .before .before .before .before .before .before .before .before .before .pre .0) (a .i) (rowOf (a .row)) (omega arith) (omega arith) (omega arith)
+    let s = sized w in
+    let l = held-length (a .row) (four (start w)) (omega arith) in
+    let row : List ℕ = rowWords (rowOf (a .row)) in
+    let gap : ℕ → List ℕ = λ m. put (2 + 5 * a .i + 5) (take (5 * (m - a .i)) (drop (2 + 5 * a .i) ws)) ws in
+    let all : List ℕ = put (2 + 5 * a .i) row (gap (length (rowsIn ws))) in
+    let n : w .wide .result ≡ length (rowsIn ws) = w .wide .ensures ∙ s .count in
+    let p : stored .store .last .0 ≡ all = stored .store .ensures ∙ ap (put (2 + 5 * a .i) row) (moved .copy-up .ensures ∙ ap gap n) in
+    ap (λ (m : List ℕ). set m 1 (getD ws 1 0 + 1)) p ∙ ap (λ (m : ℕ). set all 1 (m + 1)) (s .count)
+    ∙ row-put-in ws (start w .pre .0) (a .i) (rowOf (a .row)) (omega arith) (omega arith) (omega arith)
 
 pub insert-at-spec : {M : Type 1} → statement M
 insert-at-spec =

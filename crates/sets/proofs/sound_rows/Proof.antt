@@ -1,8 +1,8 @@
--- The rows before the th are sound.
-use Prim.Native.Nat.{_-_}
+-- The rows passed are sound.
+use Prim.Native.Nat.{ℕ, _-_}
 use mathlib.Core.Path.{sym, _∙_, ap}
 use borrow.Author.Tests.{not-true, not-false}
-use mathlib.Core.List.{[]}
+use mathlib.Core.List.{List, []}
 use native.Mathlib.Omega.{arith}
 use lib.ListN.{drop}
 use Rattle.rows.specs.Layout.{pieces, soundRow}
@@ -18,27 +18,43 @@ Inv-loop set count i₀ i = Passed soundRow (pieces 5 count (drop 2 set)) i
 abbrev μ-loop : tie.MeasureT-loop
 μ-loop set count i₀ i = count - i
 
+-- ---- places
+
+abbrev entry : tie.At-loop Inv-loop μ-loop → tie.Start Inv-loop μ-loop
+entry l = l .before .before
+
+-- the rows, five words each
+abbrev fives : tie.At-loop Inv-loop μ-loop → List (List ℕ)
+fives l = pieces 5 (entry l .args .count) (drop 2 (entry l .args .set .now))
+
+-- ---- answers
+
 loop-holds : tie.Need-loop-holds Inv-loop μ-loop
 loop-holds c =
     let a = c .before .args in passed-none soundRow (pieces 5 (a .count) (drop 2 (a .set .now)))
 
 returns : tie.Need-returns Inv-loop μ-loop
 returns c =
-    let a = c .before .before .before .before .before .args in
-    let l = length-pieces 5 (a .count) (drop 2 (a .set .now)) in
-    sym (passed-fails soundRow (pieces 5 (a .count) (drop 2 (a .set .now))) (c .before .before .before .loop .i) [] (c .before .before .before .loop .inv) (omega arith) (ap soundRow (row-piece (a .count) (a .set .now) (c .before .before .before .loop .i) (omega arith)) ∙ sym (c .before .sound .ensures) ∙ not-true _ (c .if1 .taken)))
+    let l = c .before .before .before in
+    let a = entry l .args in
+    let many = length-pieces 5 (a .count) (drop 2 (a .set .now)) in
+    let this = row-piece (a .count) (a .set .now) (l .loop .i) (omega arith) in
+    sym (passed-fails soundRow (fives l) (l .loop .i) [] (l .loop .inv) (omega arith) (ap soundRow this ∙ sym (c .before .sound .ensures) ∙ not-true _ (c .if1 .taken)))
 
 loop-again : tie.Need-loop-again Inv-loop μ-loop
 loop-again c =
-    let a = c .before .before .before .before .before .args in
-    let l = length-pieces 5 (a .count) (drop 2 (a .set .now)) in
-    passed-next soundRow (pieces 5 (a .count) (drop 2 (a .set .now))) (c .before .before .before .loop .i) [] (c .before .before .before .loop .inv) (omega arith) (ap soundRow (row-piece (a .count) (a .set .now) (c .before .before .before .loop .i) (omega arith)) ∙ sym (c .before .sound .ensures) ∙ not-false _ (c .if1 .left))
+    let l = c .before .before .before in
+    let a = entry l .args in
+    let many = length-pieces 5 (a .count) (drop 2 (a .set .now)) in
+    let this = row-piece (a .count) (a .set .now) (l .loop .i) (omega arith) in
+    passed-next soundRow (fives l) (l .loop .i) [] (l .loop .inv) (omega arith) (ap soundRow this ∙ sym (c .before .sound .ensures) ∙ not-false _ (c .if1 .left))
 
 returns-2 : tie.Need-returns-2 Inv-loop μ-loop
 returns-2 c =
-    let a = c .before .before .before .args in
-    let l = length-pieces 5 (a .count) (drop 2 (a .set .now)) in
-    sym (passed-all soundRow (pieces 5 (a .count) (drop 2 (a .set .now))) (c .before .loop .i) (c .before .loop .inv) (omega arith))
+    let l = c .before in
+    let a = entry l .args in
+    let many = length-pieces 5 (a .count) (drop 2 (a .set .now)) in
+    sym (passed-all soundRow (fives l) (l .loop .i) (l .loop .inv) (omega arith))
 
 pub sound-rows-spec : {M : Type 1} → statement M
 sound-rows-spec =

@@ -1,11 +1,14 @@
 -- Test by test: `proofs/Replies.antt` says what each makes of the reply and of the store.
 use borrow.Author.Needs.{needs}
 use Prim.Native.Nat.{ℕ}
-use mathlib.Core.Path.{sym, _∙_}
+use mathlib.Core.Path.{_≡_, sym, _∙_}
+use mathlib.Core.Bool.{true, false}
 use mathlib.Core.List.{List}
 use native.Mathlib.Omega.{arith}
 use borrow.Author.Tests.{not-true, not-false}
-use Rattle.certificates.specs.Store.{records}
+use Rattle.rows.specs.Ordered.{lists}
+use Rattle.certificates.specs.Certificate.{soundRecord, recordBefore}
+use Rattle.certificates.specs.Store.{soundStore, records}
 use Rattle.store.specs.Reply.{replyIs}
 use Rattle.certificates.proofs.Filings.{not-listed}
 use Rattle.certificates.proofs.Sound.{sound-record, sound-store}
@@ -14,115 +17,125 @@ use Rattle.store.proofs.Replies.{kept, reply-unsound, reply-bad, reply-
 use Rattle.store.proofs.file.Statement.{statement}
 use Rattle.store.proofs.file.Tie as tie
 
-sound-store-requires : tie.Need-sound-store-requires
-sound-store-requires c κs = search needs
+-- ---- places: the store is sound, the certificate too, and it is new
 
-same-length : tie.Need-same-length
-same-length c = search needs
+abbrev entry : tie.Else1 → tie.Start
+entry e = e .before .before .before .before .before
+
+abbrev held : tie.Else1 → List ℕ
+held e = entry e .args .store .now
+
+abbrev given : tie.Else1 → List ℕ
+given e = entry e .args .certificate .now
+
+sound : (e : tie.Else1) → soundStore (held e) ≡ true
+sound e = sym (e .before .sound-store .ensures) ∙ not-false _ (e .if1 .left)
+
+abbrev tested : tie.Else2 → tie.Else1
+tested r = r .before .before
+
+good : (r : tie.Else2) → soundRecord (given (tested r)) ≡ true
+good r = sym (r .before .sound-record .ensures) ∙ not-false _ (r .if2 .left)
+
+abbrev placed : tie.After-is-held → tie.After-place-of
+placed h = h .before .before
+
+abbrev checked : tie.After-is-held → tie.Else2
+checked h = placed h .before .before
+
+is-listed : (h : tie.After-is-held) → lists recordBefore (records (held (tested (checked h)))) (given (tested (checked h))) ≡ h .is-held .result
+is-listed h =
+    let e = tested (checked h) in
+    sym (held-is (held e) (given e) (sound e) _ (placed h .place-of .ensures)) ∙ sym (h .is-held .ensures)
+
+new : (n : tie.Else3) → lists recordBefore (records (held (tested (checked (n .before))))) (given (tested (checked (n .before)))) ≡ false
+new n = is-listed (n .before) ∙ n .if3 .left
+
+-- ---- the tests, and what each makes of the reply
 
 returns : tie.Need-returns
 unfolding replyIs
 returns c =
-    let s : List ℕ = c .before .before .before .before .before .args .store .now in
-    let w : List ℕ = c .before .before .before .before .before .args .certificate .now in
-    kept s w _ (reply-unsound s w (sym (c .before .sound-store .ensures) ∙ not-true _ (c .if1 .taken)))
-
-sound-record-requires : tie.Need-sound-record-requires
-sound-record-requires c κs = search needs
-
-same-length-2 : tie.Need-same-length-2
-same-length-2 c = search needs
+    let a = c .before .before .before .before .before .args in
+    kept (a .store .now) (a .certificate .now) _ (reply-unsound (a .store .now) (a .certificate .now) (sym (c .before .sound-store .ensures) ∙ not-true _ (c .if1 .taken)))
 
 returns-2 : tie.Need-returns-2
 unfolding replyIs
 returns-2 c =
-    let s : List ℕ = c .before .before .before .before .before .before .before .args .store .now in
-    let w : List ℕ = c .before .before .before .before .before .before .before .args .certificate .now in
-    kept s w _ (reply-bad s w (sym (c .before .before .before .sound-store .ensures) ∙ not-false _ (c .before .before .if1 .left)) (sym (c .before .sound-record .ensures) ∙ not-true _ (c .if2 .taken)))
-
-place-of-requires : tie.Need-place-of-requires
-place-of-requires c κs = sym (c .before .before .before .before .sound-store .ensures) ∙ not-false _ (c .before .before .before .if1 .left)
+    let e = c .before .before in
+    kept (held e) (given e) _ (reply-bad (held e) (given e) (sound e) (sym (c .before .sound-record .ensures) ∙ not-true _ (c .if2 .taken)))
 
 is-held-requires : tie.Need-is-held-requires
 is-held-requires c κs =
-    let sound = sound-store (c .before .before .before .before .before .before .before .before .before .before .args .store .now) (sym (c .before .before .before .before .before .before .sound-store .ensures) ∙ not-false _ (c .before .before .before .before .before .if1 .left)) in
+    let e = tested (c .before .before .before) in
+    let whole = sound-store (held e) (sound e) in
     omega arith
-
-same-length-3 : tie.Need-same-length-3
-same-length-3 c = search needs
 
 returns-3 : tie.Need-returns-3
 unfolding replyIs
 returns-3 c =
-    let s : List ℕ = c .before .before .before .before .before .before .before .before .before .before .before .before .args .store .now in
-    let w : List ℕ = c .before .before .before .before .before .before .before .before .before .before .before .before .args .certificate .now in
-    let sound = sym (c .before .before .before .before .before .before .before .before .sound-store .ensures) ∙ not-false _ (c .before .before .before .before .before .before .before .if1 .left) in
-    reply-held s w sound (sym (c .before .before .before .before .before .before .sound-record .ensures) ∙ not-false _ (c .before .before .before .before .before .if2 .left)) (sym (held-is s w sound _ (c .before .before .before .place-of .ensures)) ∙ sym (c .before .is-held .ensures) ∙ c .if3 .taken)
+    let r = checked (c .before) in
+    let e = tested r in
+    reply-held (held e) (given e) (sound e) (good r) (is-listed (c .before) ∙ c .if3 .taken)
 
 slice-read-if4 : tie.Need-slice-read-if4
 slice-read-if4 c =
-    let sound = sound-store (c .before .before .before .before .before .before .before .before .before .before .before .before .before .args .store .now) (sym (c .before .before .before .before .before .before .before .before .before .sound-store .ensures) ∙ not-false _ (c .before .before .before .before .before .before .before .before .if1 .left)) in
+    let e = tested (checked (c .before .before)) in
+    let whole = sound-store (held e) (sound e) in
     omega arith
-
-same-length-4 : tie.Need-same-length-4
-same-length-4 c = search needs
 
 returns-4 : tie.Need-returns-4
 unfolding replyIs
 returns-4 c =
-    let s : List ℕ = c .before .before .before .before .before .before .before .before .before .before .before .before .before .before .args .store .now in
-    let w : List ℕ = c .before .before .before .before .before .before .before .before .before .before .before .before .before .before .args .certificate .now in
-    let sound = sym (c .before .before .before .before .before .before .before .before .before .before .sound-store .ensures) ∙ not-false _ (c .before .before .before .before .before .before .before .before .before .if1 .left) in
-    let new = sym (held-is s w sound _ (c .before .before .before .before .before .place-of .ensures)) ∙ sym (c .before .before .before .is-held .ensures) ∙ c .before .before .if3 .left in
-    kept s w _ (reply-full s w sound (sym (c .before .before .before .before .before .before .before .before .sound-record .ensures) ∙ not-false _ (c .before .before .before .before .before .before .before .if2 .left)) new (c .if4 .taken))
+    let n = c .before .before in
+    let r = checked (n .before) in
+    let e = tested r in
+    kept (held e) (given e) _ (reply-full (held e) (given e) (sound e) (good r) (new n) (c .if4 .taken))
 
 insert-requires : tie.Need-insert-requires
 insert-requires c κs =
-    let s : List ℕ = c .before .before .before .before .before .before .before .before .before .before .before .before .before .before .before .args .store .now in
-    let w : List ℕ = c .before .before .before .before .before .before .before .before .before .before .before .before .before .before .before .args .certificate .now in
-    let sound = sound-store s (sym (c .before .before .before .before .before .before .before .before .before .before .before .sound-store .ensures) ∙ not-false _ (c .before .before .before .before .before .before .before .before .before .before .if1 .left)) in
-    let good = sound-record w (sym (c .before .before .before .before .before .before .before .before .before .sound-record .ensures) ∙ not-false _ (c .before .before .before .before .before .before .before .before .if2 .left)) in
-    let few = place-few s w in
-    let at = c .before .before .before .before .before .before .place-of .ensures in
+    let h = c .before .before .before .before in
+    let r = checked h in
+    let e = tested r in
+    let whole = sound-store (held e) (sound e) in
+    let few = place-few (held e) (given e) in
+    let at = placed h .place-of .ensures in
     let room = c .before .if4 .left in
-    (good .eight, ((omega arith, omega arith), omega arith))
-
-same-length-5 : tie.Need-same-length-5
-same-length-5 c = search needs
+    (sound-record (given e) (good r) .eight, ((omega arith, omega arith), omega arith))
 
 returns-5 : tie.Need-returns-5
 unfolding replyIs
 returns-5 c =
-    let s : List ℕ = c .before .before .before .before .before .before .before .before .before .before .before .before .before .before .before .before .before .before .args .store .now in
-    let w : List ℕ = c .before .before .before .before .before .before .before .before .before .before .before .before .before .before .before .before .before .before .args .certificate .now in
-    let sound = sym (c .before .before .before .before .before .before .before .before .before .before .before .before .before .before .sound-store .ensures) ∙ not-false _ (c .before .before .before .before .before .before .before .before .before .before .before .before .before .if1 .left) in
-    let good = sym (c .before .before .before .before .before .before .before .before .before .before .before .before .sound-record .ensures) ∙ not-false _ (c .before .before .before .before .before .before .before .before .before .before .before .if2 .left) in
-    let new = sym (held-is s w sound _ (c .before .before .before .before .before .before .before .before .before .place-of .ensures)) ∙ sym (c .before .before .before .before .before .before .before .is-held .ensures) ∙ c .before .before .before .before .before .before .if3 .left in
-    let at = c .before .before .before .before .before .before .before .before .before .place-of .ensures in
-    let few = place-few s w in
-    let long = sound-store s sound .long in
-    let most = sound-store s sound .few in
+    let n = c .before .before .before .before .before .before in
+    let h = n .before in
+    let r = checked h in
+    let e = tested r in
+    let at = placed h .place-of .ensures in
+    let few = place-few (held e) (given e) in
+    let long = sound-store (held e) (sound e) .long in
+    let most = sound-store (held e) (sound e) .few in
     let room = c .before .before .before .before .if4 .left in
-    reply-filed s w sound good new _ room
-    (c .before .before .insert .ensures ∙ put-is-insert s w (c .before .before .before .before .before .before .before .before .before .place-of .result) (omega arith) (omega arith) (sound-record w good .eight) at (not-listed (records s) w new))
+    let eight = sound-record (given e) (good r) .eight in
+    let put = put-is-insert (held e) (given e) (placed h .place-of .result) (omega arith) (omega arith) eight at (not-listed (records (held e)) (given e) (new n)) in
+    reply-filed (held e) (given e) (sound e) (good r) (new n) _ room (c .before .before .insert .ensures ∙ put)
 
 pub file-spec : {M : Type 1} → statement M
 file-spec =
     tie.close
     (tie.spec
-    sound-store-requires
-    same-length
+    (λ c κs. search needs)
+    (λ c. search needs)
     returns
-    sound-record-requires
-    same-length-2
+    (λ c κs. search needs)
+    (λ c. search needs)
     returns-2
-    place-of-requires
+    (λ c κs. sound (tested (c .before)))
     is-held-requires
-    same-length-3
+    (λ c. search needs)
     returns-3
     slice-read-if4
-    same-length-4
+    (λ c. search needs)
     returns-4
     insert-requires
-    same-length-5
+    (λ c. search needs)
     returns-5)
