@@ -1,11 +1,12 @@
 -- What the steps say, of whatever stands in the words.
-use Prim.Native.Nat.{ℕ, _+_, _≤_, _<_}
+use Prim.Native.Nat.{ℕ, _+_, _-_, _≤_, _<_}
 use mathlib.Core.Path.{_≡_}
+use mathlib.Core.Logic.{_↔_}
 use mathlib.Core.Bool.{Bool, true, false}
-use mathlib.Core.List.{List}
+use mathlib.Core.List.{List, []}
 use mathlib.Core.Option.{Option, none, some}
-use lib.ListN.{length, take, drop}
-use Rattle.rows.specs.Ordered.{_∈_, insert}
+use lib.ListN.{length, getD, take, drop}
+use Rattle.rows.specs.Ordered.{insert}
 use Rattle.rows.specs.Row.{Row, rowBefore}
 use Rattle.rows.specs.Sets.{RowSet, has, unite, subtract}
 use Rattle.rows.specs.Layout.{setRoom, rowsIn, setIn}
@@ -57,6 +58,10 @@ unfoldable pub combined : Bool → RowSet → RowSet → RowSet
 combined true x y = subtract x y
 combined false x y = unite x y
 
+-- x is the last of xs
+abbrev pub IsLast : Row → List Row → Type 0
+IsLast x xs = (0 < length xs) × (x ≡ getD xs (length xs - 1) [])
+
 -- ---- what is said
 
 -- the left set lies at the front, the right one behind it
@@ -64,13 +69,13 @@ pub record SayCombined (minus : Bool) (k : ℕ) (entry : List ℕ) (r : Read) (a
   pub filled : IfDone Filled r area
   pub means : small (combined minus (setIn entry) (setIn (drop setRoom entry))) k ≡ setAnswer r area
 
--- a yes: the row that the terms come to is x
+-- whether the row that the terms come to is x
 pub record SayIs (ws : List ℕ) (at : ℕ) (vs : Values) (x : Row) (r : Bool) : Type 0 where
-  pub means : (n : ℕ) (ts : List Term) → StandsRow n ws at ts → r ≡ true → rowOf vs ts ≡ x
+  pub means : (n : ℕ) (ts : List Term) → StandsRow n ws at ts → (r ≡ true) ↔ (rowOf vs ts ≡ x)
 
--- a yes: it is one of those that the set lists
-pub record SayKnown (ws : List ℕ) (at : ℕ) (vs : Values) (set : List ℕ) (r : Bool) : Type 0 where
-  pub means : (n : ℕ) (ts : List Term) → StandsRow n ws at ts → r ≡ true → rowOf vs ts ∈ rowsIn set
+-- whether it is the last of those that the set lists
+pub record SayLast (ws : List ℕ) (at : ℕ) (vs : Values) (set : List ℕ) (r : Bool) : Type 0 where
+  pub means : (n : ℕ) (ts : List Term) → StandsRow n ws at ts → (r ≡ true) ↔ IsLast (rowOf vs ts) (rowsIn set)
 
 pub record SayHead (ws : List ℕ) (at : ℕ) (vs : Values) (k : ℕ) (entry : List ℕ) (r : Read) (area : List ℕ) : Type 0 where
   pub gathering : IfDone Gathering r area

@@ -6,7 +6,7 @@ ghost use Rattle.values.specs.Values.{Bound};
 ghost use Rattle.values.specs.Places.{SomeRow, SomePattern};
 ghost use Rattle.values.specs.Answers.{Filled};
 ghost use Rattle.steps.specs.Areas.{Gathering};
-ghost use Rattle.steps.specs.Steps.{SayCombined, SayIs, SayKnown, SayHead, SayHas, SayMatch, SayDrawn};
+ghost use Rattle.steps.specs.Steps.{SayCombined, SayIs, SayLast, SayHead, SayHas, SayMatch, SayDrawn};
 use algebra::subtract;
 use algebra::unite;
 use layout::row::wide;
@@ -86,7 +86,7 @@ fn is_row(
 // Is it the last of the rows listed? In many bodies the same row comes again and again.
 fn is_last(words: &[u32], at: usize, values: &[u32; 16], count: usize, set: &[u32]) -> bool
     requires { ⌜ Bound (now values) count × SomeRow (now words) at × Filled (now set) ⌝ }
-    ensures { λ r. ⌜ SayKnown (now (words .entry)) at (take count (now (values .entry))) (now (set .entry)) r ⌝ }
+    ensures { λ r. ⌜ SayLast (now (words .entry)) at (take count (now (values .entry))) (now (set .entry)) r ⌝ }
 {
     let listed = wide(set[1]);
     if listed == 0 {

@@ -2,7 +2,7 @@ use Prim.Native.Nat.{_-_}
 use native.Mathlib.Omega.{arith}
 use borrow.Author.Needs.{needs}
 use Rattle.sets.proofs.SetWords.{Size, size, width-in}
-use Rattle.steps.proofs.Last.{none-known, one-listed}
+use Rattle.steps.proofs.Last.{none-last, says-last}
 use Rattle.steps.proofs.is_last.Statement.{statement}
 use Rattle.steps.proofs.is_last.Tie as tie
 
@@ -33,7 +33,7 @@ returns-2 : tie.Need-returns-2
 returns-2 c =
     let s = some (c .before) in
     let n = c .before .before .wide .ensures in
-    one-listed (c .before .before .wide .result - 1) (entry (c .before) .pre .2) (omega arith) (c .is-row .ensures)
+    says-last (c .before .before .wide .result - 1) (entry (c .before) .pre .2) (omega arith) (c .is-row .ensures)
 
 pub is-last-spec : {M : Type 1} → statement M
 is-last-spec =
@@ -41,7 +41,7 @@ is-last-spec =
     (tie.spec
     shared-slice-read-wide
     (λ c κs. search needs)
-    (λ c. none-known)
+    (λ c. none-last (omega (arith, c .before .wide .ensures)))
     (λ c. search needs)
     mul-is-row
     add-is-row

@@ -7,7 +7,7 @@ use borrow.Author.Needs.{needs}
 use Rattle.rows.specs.Layout.{rowIn, fiveAt}
 use Rattle.values.specs.Rows.{SayAtom}
 use Rattle.values.proofs.Places.{row-width}
-use Rattle.steps.proofs.Last.{ComesTo, no-row, comes-start, comes-next, comes-end}
+use Rattle.steps.proofs.Last.{ComesTo, other-width, other-atom, comes-start, comes-next, comes-end}
 use Rattle.steps.proofs.is_row.Statement.{statement}
 use Rattle.steps.proofs.is_row.Tie as tie
 
@@ -41,6 +41,11 @@ loop-holds c =
     let start = c .before .before .before .before .before .before in
     comes-start (start .args .set .now) (start .args .place) (start .pre .3) (c .before .if1 .left) (start .pre .2)
 
+returns : tie.Need-returns Inv-loop μ-loop
+returns c =
+    let start = c .before .before .before .before .before in
+    other-width (start .args .set .now) (start .args .place) (start .pre .3) (start .pre .2) (c .if1 .taken)
+
 -- ---- a term
 
 atom-of-requires : tie.Need-atom-of-requires Inv-loop μ-loop
@@ -57,6 +62,13 @@ mul-if2 c = let r = atom-room (c .before) in let good = entry (c .before .before
 
 shared-slice-read-if2 : tie.Need-shared-slice-read-if2 Inv-loop μ-loop
 shared-slice-read-if2 c = let r = atom-room (c .before .before) in let good = entry (c .before .before .before) .good in omega arith
+
+returns-2 : tie.Need-returns-2 Inv-loop μ-loop
+returns-2 c =
+    let i = c .before .before .before in
+    let l = i .before in
+    let start = entry l in
+    other-atom (start .args .set .now) (start .args .place) (start .pre .3) (l .before .before .if1 .left) (less i) (c .before .before .atom-of .ensures) (c .if2 .taken)
 
 add-j : tie.Need-add-j Inv-loop μ-loop
 add-j c = let r = atom-room (c .before .before .before) in let good = entry (c .before .before .before .before) .good in omega arith
@@ -88,7 +100,7 @@ is-row-spec =
     shared-slice-read-width
     (λ c. search needs)
     (λ c. search needs)
-    (λ c. no-row)
+    returns
     (λ c κs. search needs)
     loop-holds
     atom-of-requires
@@ -96,7 +108,7 @@ is-row-spec =
     add-if2-2
     mul-if2
     shared-slice-read-if2
-    (λ c. no-row)
+    returns-2
     add-j
     (λ c. search needs)
     loop-again
