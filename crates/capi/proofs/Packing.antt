@@ -14,9 +14,9 @@ use Rattle.judging.specs.declared.Judgement.{Judgement}
 use Rattle.judging.specs.declared.Judgement.the-variants as judgement
 use Rattle.policy.proofs.Basics.{impossible}
 use Rattle.demands.specs.Query.{Outcome, answered, declined, Call, queryCall}
-use Rattle.answering.specs.Reply.{replyTo}
-use Rattle.answering.specs.declared.Reply.{Reply}
-use Rattle.answering.specs.declared.Reply.the-variants as reply
+use Rattle.engine.specs.Reply.{replyTo}
+use Rattle.engine.specs.declared.Reply.{Reply}
+use Rattle.engine.specs.declared.Reply.the-variants as reply
 use Rattle.engine.specs.Reply.{Replied}
 use Rattle.engine.proofs.Replying.{verdict-in, refusal-in}
 use Rattle.packing.specs.Words.{replyWord}

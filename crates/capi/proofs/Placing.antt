@@ -13,11 +13,11 @@ use Rattle.certificates.specs.NamePart.{namePart}
 use Rattle.certificates.specs.Spans.{Spans}
 use Rattle.policy.specs.Table.{Entry, Table, table, noTable, soundHeader, readTable}
 use Rattle.policy.specs.Part.{inPolicy, nowhere, placeOf}
-use Rattle.table.specs.Places.{placeIs}
-use Rattle.table.specs.declared.parts.Place as Held
-use Rattle.table.specs.declared.parts.Place.the-variants as place
+use Rattle.policy_table.specs.Places.{placeIs}
+use Rattle.policy_table.specs.declared.parts.Place as Held
+use Rattle.policy_table.specs.declared.parts.Place.the-variants as place
 use Rattle.policy.proofs.Basics.{impossible}
-use Rattle.table.proofs.PartAnswers.{place-inside, place-held, query-held, query-part, policy-part}
+use Rattle.policy_table.proofs.PartAnswers.{place-inside, place-held, query-held, query-part, policy-part}
 use Rattle.packing.specs.Words.{spanWord}
 use Rattle.capi.specs.Places.{spanWords, CertificatesAt, ofQuery, placeWord, placeWords, PartAt}
 use Rattle.capi.proofs.Digits.{high, low}

@@ -17,7 +17,7 @@ use Rattle.policy.specs.Table.{Entry, entryAt, entryWords, Table, table, noTabl
 use Rattle.policy.specs.Judgement.{Checked, checked, unchecked, polarized, checkDefinition, checkQuery, verdictOf, knownOf, withDefinition}
 use Rattle.policy.specs.Judgement.{checkFrom, check, refused, judge}
 use Rattle.policy.proofs.Basics.{impossible}
-use Rattle.table.proofs.PartAnswers.{table-sound}
+use Rattle.policy_table.proofs.PartAnswers.{table-sound}
 use Rattle.policy.proofs.Judging.{Accepted, none, one, check-accepted, judge-refused}
 use Rattle.meaning.specs.Evidence.{Evidence, namesHeld}
 use Rattle.meaning.specs.Reading as Reading

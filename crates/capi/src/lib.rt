@@ -10,11 +10,11 @@ use judging::Judgement;
 use judging::judge;
 use packing::reply_word;
 use packing::span_word;
+use policy_table::parts::Place;
+use policy_table::parts::place_of;
 use store::Filing;
 use store::file;
 use store::span_of;
-use table::parts::Place;
-use table::parts::place_of;
 
 // 2^63: marks the query.
 const OF_QUERY: u64 = 9223372036854775808;

@@ -6,6 +6,8 @@
 pub mod lines;
 pub mod numbers;
 pub mod printing;
+pub mod replies;
+pub mod storing;
 pub mod words;
 
 pub use lines::after;

@@ -19,10 +19,10 @@ use Rattle.policy.proofs.Judging.{judge-checked}
 use Rattle.meaning.specs.Evidence.{heldIn}
 use Rattle.demands.specs.Query.{Outcome, declined, readFrom, definitionRoom, scratchRoom, roomy, Call, outcomeFrom, queryCall, answerArea}
 use Rattle.demands.specs.Refusal.{judged, unsound, short}
-use Rattle.answering.specs.Reply.{replyTo}
-use Rattle.answering.specs.Steps.{Ready, ReadAll}
-use Rattle.answering.specs.declared.Reply.{Reply}
-use Rattle.answering.specs.declared.Reply.the-variants.{Refused}
+use Rattle.engine.specs.Reply.{replyTo}
+use Rattle.engine.specs.Steps.{Ready, ReadAll}
+use Rattle.engine.specs.declared.Reply.{Reply}
+use Rattle.engine.specs.declared.Reply.the-variants.{Refused}
 use Rattle.engine.specs.Reply.{Replied}
 use Rattle.demands.proofs.Outcome.{call-declined, call-reads}
 

@@ -1,10 +1,17 @@
--- What a query call promises: the reply, and the answer area.
+-- What the query call replies, and what it promises: the reply, and the answer area.
 use Prim.Native.Nat.{ℕ}
 use mathlib.Core.Path.{_≡_}
 use mathlib.Core.List.{List}
-use Rattle.demands.specs.Query.{Call, queryCall, answerArea}
-use Rattle.answering.specs.Reply.{replyTo}
-use Rattle.answering.specs.declared.Reply.{Reply}
+use Rattle.policy.specs.Polarity.{verdictWord}
+use Rattle.demands.specs.Query.{Outcome, answered, declined, Call, queryCall, answerArea}
+use Rattle.engine.specs.declared.Reply.{Reply}
+use Rattle.engine.specs.declared.Reply.the-variants.{Answered, Refused}
+
+-- "The answer carries verdict, draws and the set": the set is in the answer area
+unfoldable pub replyTo : Outcome → Reply
+unfolding verdictWord
+replyTo (answered v k s) = Answered (verdictWord v) k
+replyTo (declined n part) = Refused n part
 
 -- the call on this store replied r and left these words in the answer area
 pub record Replied (store : List ℕ) (c : Call) (r : Reply) (answer : List ℕ) : Type 0 where

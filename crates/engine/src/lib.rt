@@ -1,12 +1,13 @@
 // The query call: a policy and a query judged, then read from the certificates held.
+mod answering;
+
 ghost use mathlib.Core.Path.{_≡_};
 ghost use mathlib.Core.Bool.{_&&_};
 ghost use lib.Dec.{leb};
 ghost use Rattle.rows.specs.Layout.{setRoom};
 ghost use Rattle.demands.specs.Query.{definitionRoom, scratchRoom};
 ghost use Rattle.engine.specs.Reply.{Replied};
-pub use answering::Reply;
-use answering::read_all;
+use crate::answering::read_all;
 use judging::Judgement;
 use judging::judge;
 use refusals::BAD_STORE;
@@ -14,6 +15,11 @@ use refusals::NO_PART;
 use refusals::SHORT_AREA;
 use rows::SET_ROOM;
 use store::sound_store;
+
+pub enum Reply {
+    Answered { verdict: u32, draws: u32 },
+    Refused { number: u32, part: u32 },
+}
 
 const DEFINITION_ROOM: usize = 10272;
 

@@ -13,16 +13,16 @@ use Rattle.policy.specs.Polarity.{Known, hasPolarity, openExpr, verdictWord}
 use Rattle.policy.specs.Table.{Entry, entryAt, entryWords, table, noTable, readTable}
 use Rattle.policy.specs.Judgement.{Checked, checked, unchecked, checkDefinition, checkQuery, verdictOf, knownOf, withDefinition, checkFrom, check, replyOf, judge}
 use Rattle.policy.proofs.Basics.{impossible}
-use Rattle.table.specs.Entries.{entryPlace, entriesFrom, tableIs}
-use Rattle.table.specs.declared.TableRead.{TableRead}
-use Rattle.table.specs.declared.TableRead.the-variants as tableRead
-use Rattle.polarity.specs.Facts.{factsOf}
-use Rattle.polarity.specs.Earlier.{knownIn, knownAs}
-use Rattle.polarity.specs.declared.Facts.{Facts}
-use Rattle.polarity.specs.declared.Earlier.{Earlier}
-use Rattle.polarity.specs.declared.Whole.{Whole}
-use Rattle.polarity.specs.declared.Whole.the-variants as whole
-use Rattle.polarity.proofs.EarlierAnswers.{known-count}
+use Rattle.policy_table.specs.Entries.{entryPlace, entriesFrom, tableIs}
+use Rattle.policy_table.specs.declared.TableRead.{TableRead}
+use Rattle.policy_table.specs.declared.TableRead.the-variants as tableRead
+use Rattle.check_polarity.specs.Facts.{factsOf}
+use Rattle.check_polarity.specs.Earlier.{knownIn, knownAs}
+use Rattle.check_polarity.specs.declared.Facts.{Facts}
+use Rattle.check_polarity.specs.declared.Earlier.{Earlier}
+use Rattle.check_polarity.specs.declared.Whole.{Whole}
+use Rattle.check_polarity.specs.declared.Whole.the-variants as whole
+use Rattle.check_polarity.proofs.EarlierAnswers.{known-count}
 use Rattle.judging.specs.Whole.{wholeOf, definitionParsed}
 use Rattle.judging.specs.Reply.{judgementOf}
 use Rattle.judging.specs.declared.Judgement.the-variants as judgement

@@ -14,17 +14,17 @@ use Rattle.policy.specs.Decode.{Read, got, refused, expr, Parsed, parsed, unpar
 use Rattle.policy.specs.Polarity.{Known, hasPolarity, drawsClosed}
 use Rattle.policy.specs.Judgement.{polarized, checkQuery}
 use Rattle.policy.proofs.Basics.{impossible}
-use Rattle.terms.specs.Answers.{Answers, kept, keeping}
-use Rattle.terms.proofs.Answering.{word-here, no-word}
-use Rattle.polarity.specs.Facts.{factsOf, admitOf, declaredOf}
-use Rattle.polarity.specs.declared.Facts.{Facts}
-use Rattle.polarity.specs.declared.Whole.{Whole}
-use Rattle.polarity.specs.declared.Whole.the-variants as whole
-use Rattle.operands.specs.Checks.{checkingIs}
-use Rattle.operands.specs.declared.Checking.{Checking}
-use Rattle.operands.specs.declared.Checking.the-variants as checking
-use Rattle.operands.proofs.CheckAnswers as check-answers
-use Rattle.checker.specs.Expressions.{exprFacts}
+use Rattle.check_terms.specs.Answers.{Answers, kept, keeping}
+use Rattle.check_terms.proofs.Answering.{word-here, no-word}
+use Rattle.check_polarity.specs.Facts.{factsOf, admitOf, declaredOf}
+use Rattle.check_polarity.specs.declared.Facts.{Facts}
+use Rattle.check_polarity.specs.declared.Whole.{Whole}
+use Rattle.check_polarity.specs.declared.Whole.the-variants as whole
+use Rattle.check_leaves.specs.Checks.{checkingIs}
+use Rattle.check_leaves.specs.declared.Checking.{Checking}
+use Rattle.check_leaves.specs.declared.Checking.the-variants as checking
+use Rattle.check_leaves.proofs.CheckAnswers as check-answers
+use Rattle.check_expressions.specs.Expressions.{exprFacts}
 use Rattle.judging.specs.Whole.{wholeOf, definitionParsed}
 
 -- a whole expression

@@ -6,9 +6,9 @@ use Rattle.rows.specs.Name.{polarityOf}
 use Rattle.policy.specs.Decode.{Parsed, parsed, unparsed, parse}
 use Rattle.policy.specs.Polarity.{Known, hasPolarity, drawsClosed}
 use Rattle.policy.specs.Judgement.{polarized}
-use Rattle.polarity.specs.Facts.{factsOf}
-use Rattle.polarity.specs.declared.Whole.{Whole}
-use Rattle.polarity.specs.declared.Whole.the-variants as whole
+use Rattle.check_polarity.specs.Facts.{factsOf}
+use Rattle.check_polarity.specs.declared.Whole.{Whole}
+use Rattle.check_polarity.specs.declared.Whole.the-variants as whole
 
 -- what it comes to: its facts, or the refusal's number
 unfoldable pub wholeOf : List Known → Parsed → Whole

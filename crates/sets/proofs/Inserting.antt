@@ -10,16 +10,16 @@ use Rattle.rows.specs.Row.{Row, rowBefore}
 use Rattle.rows.specs.Sets.{listing, mostRows}
 use Rattle.rows.specs.Layout.{rowsIn, formed, setIn, soundSet, written}
 use Rattle.sets.specs.Values.{insertion, afterInsert}
-use Rattle.layout.specs.Search.{Finds}
-use Rattle.layout.specs.declared.search.Found as Found
-use Rattle.layout.specs.declared.search.Found.the-variants.{At, Missing}
+use Rattle.row_words.specs.Search.{Finds}
+use Rattle.row_words.specs.declared.search.Found as Found
+use Rattle.row_words.specs.declared.search.Found.the-variants.{At, Missing}
 use Rattle.sets.specs.declared.Inserted.the-variants.{New, Known, Full}
 use Rattle.rows.proofs.Case.{T-true}
 use Rattle.rows.proofs.Order.{row-order}
 use Rattle.rows.proofs.Ordered.{lists-iff}
 use Rattle.rows.proofs.Place.{insert-known}
 use Rattle.rows.proofs.LayoutLaws.{listing-in, sound-written}
-use Rattle.layout.proofs.SearchLaws.{at-listed, missing-unlisted}
+use Rattle.row_words.proofs.SearchLaws.{at-listed, missing-unlisted}
 use Rattle.sets.proofs.SetWords.{sound-ascending}
 
 module _ (ws : List ℕ) (r : Row) (f : Found.Found) (i : ℕ) (finds : Finds (rowsIn ws) r f) where

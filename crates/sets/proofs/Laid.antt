@@ -12,7 +12,7 @@ use Rattle.rows.specs.Sets.{RowSet, listing}
 use Rattle.rows.specs.Layout.{rowWords, rowIn, fiveAt, flat, laid, pieces, formWord, setWords, written, put, rowsIn, formed, setIn, soundSet}
 use Rattle.rows.proofs.Lists.{all-take, all-drop, all-both}
 use Rattle.rows.proofs.LayoutLaws.{flat-length, row-length, Sized, listing-in, sound-rows, rows-count, formed-word, formed-listing, sound-length, sound-written, true-sound, row-written, piece-sound, row-at}
-use Rattle.layout.proofs.RowLaws.{five-length}
+use Rattle.row_words.proofs.RowLaws.{five-length}
 use Rattle.rows.proofs.Put.{put-before, put-then-after, put-then-before, put-less, put-none, put-itself, Writing, writing-next, writing-end}
 use Rattle.sets.proofs.SetWords.{size}
 

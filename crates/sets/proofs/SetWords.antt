@@ -11,18 +11,18 @@ use Rattle.rows.specs.Ordered.{ascending, lists}
 use Rattle.rows.specs.Sets.{has}
 use Rattle.rows.specs.Row.{Row, rowBefore}
 use Rattle.rows.specs.Layout.{rowIn, fiveAt, soundRow, pieces, every, rowsIn, formed, setIn, soundSet}
-use Rattle.layout.specs.Values.{wordsOf, rowOf, orderOf}
-use Rattle.layout.specs.Search.{rowsAt, Listed, Finds}
-use Rattle.layout.specs.declared.row.Row as Held
-use Rattle.layout.specs.declared.row.Order as Order
-use Rattle.layout.specs.declared.row.Order.the-variants.{Before, Same, After}
-use Rattle.layout.specs.declared.search.Found.the-variants.{Missing}
+use Rattle.row_words.specs.Values.{wordsOf, rowOf, orderOf}
+use Rattle.row_words.specs.Search.{rowsAt, Listed, Finds}
+use Rattle.row_words.specs.declared.row.Row as Held
+use Rattle.row_words.specs.declared.row.Order as Order
+use Rattle.row_words.specs.declared.row.Order.the-variants.{Before, Same, After}
+use Rattle.row_words.specs.declared.search.Found.the-variants.{Missing}
 use Rattle.rows.proofs.Order.{row-order}
 use Rattle.rows.proofs.Ordered.{Ascending, ascending-true}
 use Rattle.rows.proofs.Place.{Between, between-all, between-up}
 use Rattle.rows.proofs.LayoutLaws.{piece-sound, row-at, rows-count, true-sound}
-use Rattle.layout.proofs.RowLaws.{sound-narrow, loaded-row, before-order, after-order, same-order}
-use Rattle.layout.proofs.SearchLaws.{rows-at-length, rows-at-get, finds-missing}
+use Rattle.row_words.proofs.RowLaws.{sound-narrow, loaded-row, before-order, after-order, same-order}
+use Rattle.row_words.proofs.SearchLaws.{rows-at-length, rows-at-get, finds-missing}
 
 pub width-at : (n : ℕ) (ws : List ℕ) (i : ℕ) → every soundRow (pieces 5 n (drop 2 ws)) ≡ true → i < n → getD ws (2 + 5 * i) 0 ≤ 4
 width-at n ws i e h = sound-narrow ws (2 + 5 * i) (piece-sound n ws i e h)

@@ -10,11 +10,11 @@ ghost use Rattle.certificates.specs.NamePart.{namePart};
 ghost use Rattle.certificates.specs.Spans.{Spans};
 use certificates::CAPACITY;
 use certificates::RECORD_WORDS;
-use insertion::insert;
-use records::is_held;
-use records::place_of;
-use records::record::sound_record;
-pub use records::sound_store;
+use records::insert;
+use store_records::is_held;
+use store_records::place_of;
+use store_records::record::sound_record;
+pub use store_records::sound_store;
 
 pub enum Filing {
     Filed,

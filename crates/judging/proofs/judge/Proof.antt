@@ -1,5 +1,5 @@
 -- Each way out is a law of `JudgeAnswers`.
-use Rattle.table.proofs.PartAnswers.{table-read}
+use Rattle.policy_table.proofs.PartAnswers.{table-read}
 use Rattle.judging.proofs.JudgeAnswers.{judge-untabled}
 use borrow.Author.Needs.{needs}
 use Rattle.judging.proofs.judge.Statement.{statement}

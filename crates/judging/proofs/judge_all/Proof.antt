@@ -4,11 +4,11 @@ use mathlib.Core.Path.{_≡_, _∙_, ap}
 use native.Mathlib.Omega.{arith}
 use lib.ListN.{getD}
 use Rattle.policy.specs.Table.{entryAt}
-use Rattle.table.specs.Entries.{entryPlace}
+use Rattle.policy_table.specs.Entries.{entryPlace}
 use Rattle.policy.specs.Judgement.{checkDefinition}
-use Rattle.polarity.specs.Earlier.{knownIn}
+use Rattle.check_polarity.specs.Earlier.{knownIn}
 use Rattle.judging.specs.Whole.{wholeOf}
-use Rattle.table.proofs.PartAnswers.{Listed, listed-of}
+use Rattle.policy_table.proofs.PartAnswers.{Listed, listed-of}
 use Rattle.judging.proofs.JudgeAnswers.{Judging, judging-starts, judging-refused, judging-goes-on, query-unjudged, query-judged}
 use borrow.Author.Needs.{needs}
 use Rattle.judging.proofs.judge_all.Statement.{statement}

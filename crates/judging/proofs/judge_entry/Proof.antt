@@ -3,8 +3,8 @@ use mathlib.Core.Path.{ap}
 use Prim.Native.Nat.{_+_}
 use lib.ListN.{getD}
 use Rattle.policy.specs.Table.{entryAt}
-use Rattle.table.specs.Entries.{entryPlace}
-use Rattle.polarity.specs.Earlier.{knownIn}
+use Rattle.policy_table.specs.Entries.{entryPlace}
+use Rattle.check_polarity.specs.Earlier.{knownIn}
 use Rattle.judging.proofs.JudgeAnswers.{entry-judged}
 use borrow.Author.Needs.{needs}
 use Rattle.judging.proofs.judge_entry.Statement.{statement}

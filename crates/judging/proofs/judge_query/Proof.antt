@@ -1,5 +1,5 @@
 -- Each way out is a law of `WholeAnswers`.
-use Rattle.polarity.specs.Earlier.{knownIn}
+use Rattle.check_polarity.specs.Earlier.{knownIn}
 use Rattle.judging.proofs.WholeAnswers.{query-empty, query-long, query-refused, query-admitted}
 use borrow.Author.Needs.{needs}
 use Rattle.judging.proofs.judge_query.Statement.{statement}

@@ -9,7 +9,7 @@ use Rattle.rows.specs.Layout.{rowsIn}
 use Rattle.rows.proofs.Scan.{Climbed, climbed-none, climbed-next, climbed-fails, climbed-all}
 use Rattle.rows.proofs.Order.{row-order}
 use Rattle.rows.proofs.LayoutLaws.{rows-count}
-use Rattle.layout.proofs.RowLaws.{not-before, loaded-width}
+use Rattle.row_words.proofs.RowLaws.{not-before, loaded-width}
 use Rattle.sets.proofs.SetWords.{width-at, rows-before, rows-same, rows-after}
 use borrow.Author.Needs.{needs}
 use Rattle.sets.proofs.ascends.Statement.{statement}

@@ -3,8 +3,8 @@ use mathlib.Core.Path.{subst}
 use mathlib.Core.List.{List}
 use native.Mathlib.Omega.{arith}
 use Rattle.rows.specs.Row.{Row}
-use Rattle.layout.specs.Values.{rowOf}
-use Rattle.layout.specs.Search.{Finds}
+use Rattle.row_words.specs.Values.{rowOf}
+use Rattle.row_words.specs.Search.{Finds}
 use Rattle.sets.proofs.SetWords.{size, set-rows, set-listed}
 use borrow.Author.Needs.{needs}
 use Rattle.sets.proofs.find.Statement.{statement}

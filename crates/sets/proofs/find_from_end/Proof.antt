@@ -1,8 +1,8 @@
 -- The last row decides, or the search among all.
 use native.Mathlib.Omega.{arith}
 use Rattle.rows.specs.Layout.{rowsIn}
-use Rattle.layout.specs.Values.{rowOf}
-use Rattle.layout.proofs.SearchLaws.{finds-at}
+use Rattle.row_words.specs.Values.{rowOf}
+use Rattle.row_words.proofs.SearchLaws.{finds-at}
 use Rattle.sets.proofs.SetWords.{Size, size, width-in, row-same, row-after, finds-none, finds-past}
 use borrow.Author.Needs.{needs}
 use Rattle.sets.proofs.find_from_end.Statement.{statement}

@@ -1,8 +1,8 @@
 -- The search, and the form.
 use native.Mathlib.Omega.{arith}
 use Rattle.rows.specs.Layout.{rowsIn}
-use Rattle.layout.specs.Values.{rowOf}
-use Rattle.layout.proofs.SearchLaws.{at-listed, missing-unlisted}
+use Rattle.row_words.specs.Values.{rowOf}
+use Rattle.row_words.proofs.SearchLaws.{at-listed, missing-unlisted}
 use Rattle.sets.proofs.SetWords.{size, has-listed, has-unlisted}
 use borrow.Author.Needs.{needs}
 use Rattle.sets.proofs.has.Statement.{statement}

@@ -1,6 +1,6 @@
 -- The search decides.
 use native.Mathlib.Omega.{arith}
-use Rattle.layout.specs.Values.{rowOf}
+use Rattle.row_words.specs.Values.{rowOf}
 use Rattle.sets.proofs.SetWords.{size}
 use Rattle.sets.proofs.Inserting.{known-answer, known-words, missing-place, full-answer, full-words, new-answer, new-words}
 use borrow.Author.Needs.{needs}

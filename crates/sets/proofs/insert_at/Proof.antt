@@ -5,8 +5,8 @@ use mathlib.Core.List.{List}
 use native.Mathlib.Omega.{arith}
 use lib.ListN.{length, getD, take, drop, set, length-set}
 use Rattle.rows.specs.Layout.{rowWords, put, rowsIn}
-use Rattle.layout.specs.Values.{rowOf}
-use Rattle.layout.proofs.RowLaws.{held-length}
+use Rattle.row_words.specs.Values.{rowOf}
+use Rattle.row_words.proofs.RowLaws.{held-length}
 use Rattle.sets.proofs.SetWords.{Size, size}
 use Rattle.sets.proofs.Laid.{row-put-in}
 use borrow.Author.Needs.{needs}

@@ -1,0 +1,119 @@
+// Asks the engine what the lines of its input ask, by real calls on areas full of other words, and prints what it replied. Each line of `stdout`
+// was checked by hand against document 01. How words are written is said in the crate `cases`. A line is one of these:
+//
+//     NAME|POLICY|QUERY            asks the query under the policy, over the store as it is
+//     NAME|POLICY|QUERY|AREAS      the same with an answer, a definition and a scratch area of so many words, not 642 10272 16384
+//
+// `file` and `store` lines keep the store (crate `storing`). Any other line is printed.
+ghost use Prim.Native.Nat.{_≤_};
+ghost use lib.ListN.{length};
+use cases::after;
+use cases::at_most;
+use cases::cell_end;
+use cases::is_bar;
+use cases::next_line;
+use cases::read_words;
+use cases::replies::say_reply;
+use cases::say;
+use cases::storing::keep;
+use engine::query;
+
+// Asks, and prints the reply.
+fn ask_with<'a>(
+    store: &[u32],
+    policy: &'a [u32],
+    words: &'a [u32],
+    answer: &mut [u32],
+    definitions: &mut [u32],
+    scratch: &mut [u32],
+) {
+    let reply = query(policy, words, store, answer, definitions, scratch);
+    say_reply(reply, answer);
+}
+
+// Asks with areas of these lengths.
+fn ask<'a>(store: &[u32], policy: &'a [u32], words: &'a [u32], areas: [u32; 3]) {
+    let mut answer = [5u32; 1000];
+    let mut definitions = [6u32; 11000];
+    let mut scratch = [7u32; 17000];
+    let a = at_most(areas[0], 1000);
+    let d = at_most(areas[1], 11000);
+    let s = at_most(areas[2], 17000);
+    ask_with(
+        store,
+        policy,
+        words,
+        &mut answer[0..a],
+        &mut definitions[0..d],
+        &mut scratch[0..s],
+    );
+}
+
+// The lengths after the bar at `at`, or document 01's if there is no bar.
+fn areas_at(text: &[u8], at: usize) -> [u32; 3]
+    requires { ⌜ at ≤ length (now text) ⌝ }
+{
+    let mut areas = [642, 10272, 16384];
+    if is_bar(text, at) {
+        read_words(text, after(text, at), &mut areas);
+    }
+    areas
+}
+
+// The policy, the query and the areas after the bar at `at`.
+fn ask_at(text: &[u8], at: usize, store: &[u32])
+    requires { ⌜ at ≤ length (now text) ⌝ }
+{
+    let mut policy = [0u32; 8193];
+    let first = read_words(text, after(text, at), &mut policy);
+    let mut words = [0u32; 1025];
+    let second = read_words(text, after(text, first.next), &mut words);
+    let held = first.count;
+    let asked = second.count;
+    ask(
+        store,
+        &policy[0..held],
+        &words[0..asked],
+        areas_at(text, second.next),
+    );
+}
+
+// A line without bars.
+fn act(text: &[u8], at: usize, end: usize, store: &mut [u32])
+    requires { ⌜ (at ≤ end) × (end ≤ length (now text)) ⌝ }
+{
+    if !keep(text, at, store) {
+        say(&text[at..end]);
+        say(b"\n");
+    }
+}
+
+// One line.
+fn line(text: &[u8], at: usize, store: &mut [u32])
+    requires { ⌜ at ≤ length (now text) ⌝ }
+{
+    let end = cell_end(text, at);
+    if is_bar(text, end) {
+        say(&text[at..end]);
+        say(b": ");
+        ask_at(text, end, store);
+        say(b"\n");
+    } else {
+        act(text, at, end, store);
+    }
+}
+
+fn run(text: &[u8], store: &mut [u32]) {
+    let mut at: usize = 0;
+    while at < text.len() {
+        line(text, at, store);
+        at = next_line(text, at);
+    }
+}
+
+fn main() {
+    let mut text = io::large_buffer();
+    let count = io::read_full(0, &mut text);
+    let mut store = [99u32; 16001];
+    run(&text[0..count], &mut store);
+}

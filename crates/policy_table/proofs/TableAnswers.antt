@@ -1,0 +1,222 @@
+-- The reader of the table, way out by way out, and what a sound table gives.
+use Prim.Native.Nat.{ℕ, zero, suc, _+_, _*_, _-_, _≤_, _<_}
+use mathlib.Core.Path.{_≡_, refl, sym, _∙_, ap}
+use mathlib.Core.Bool.{Bool, true, false, not, _&&_, _||_}
+use mathlib.Core.List.{List, [], _∷_}
+use native.Mathlib.Omega.{arith}
+use lib.Dec.{leb, eqb}
+use lib.ListN.{length, getD, take, drop}
+use borrow.Author.Tests.{le-leb, lt-leb, eq-eqb, ne-eqb, leb-true, eqb-true}
+use Rattle.refusals.specs.Table.{badHeader, badTable}
+use Rattle.rows.specs.Name.{isName, isPolarity}
+use Rattle.rows.proofs.Case.{and-true}
+use Rattle.policy.specs.Table.{Entry, entryAt, entryWords, Table, table, noTable, named, soundEntry, push, entries, soundHeader, readTable}
+use Rattle.policy_table.specs.Entries.{entryPlace, entriesFrom, entriesBefore, tableIs}
+use Rattle.policy_table.specs.declared.TableRead.the-variants as tableRead
+
+-- the header
+module _ (p : List ℕ) where
+  pub header-short : length p < 2 → false ≡ soundHeader p
+  unfolding soundHeader
+  header-short h = rw (lt-leb 2 (length p) h)
+
+  module _ (two : 2 ≤ length p) where
+    pub header-long : 8192 < length p → false ≡ soundHeader p
+    unfolding soundHeader
+    header-long h = rw (le-leb 2 (length p) two, lt-leb (length p) 8192 h)
+
+    module _ (few : length p ≤ 8192) where
+      pub header-format : (getD p 0 0 ≡ 1 → ⊥) → false ≡ soundHeader p
+      unfolding soundHeader
+      header-format h = rw (le-leb 2 (length p) two, le-leb (length p) 8192 few, ne-eqb (getD p 0 0) 1 h)
+
+      module _ (one : getD p 0 0 ≡ 1) where
+        pub header-count : 16 < getD p 1 0 → false ≡ soundHeader p
+        unfolding soundHeader
+        header-count h = rw (le-leb 2 (length p) two, le-leb (length p) 8192 few, eq-eqb (getD p 0 0) 1 one, lt-leb (getD p 1 0) 16 h)
+
+        pub header-fits : {at : ℕ} → getD p 1 0 ≤ 16 → at ≡ entryPlace (getD p 1 0) → leb at (length p) ≡ soundHeader p
+        unfolding soundHeader
+        header-fits h e = rw (le-leb 2 (length p) two, le-leb (length p) 8192 few, eq-eqb (getD p 0 0) 1 one, le-leb (getD p 1 0) 16 h) (ap (λ a. leb a (length p)) e)
+
+-- what a sound header gives
+pub record Header (p : List ℕ) : Type 0 where
+  pub two : 2 ≤ length p
+  pub count : getD p 1 0 ≤ 16
+  pub fits : entryPlace (getD p 1 0) ≤ length p
+
+pub header-of : (p : List ℕ) → soundHeader p ≡ true → Header p
+unfolding soundHeader
+header-of p e =
+    let a = and-true (leb 2 (length p)) _ e in
+    let b = and-true (leb (length p) 8192) _ (a .1) in
+    let c = and-true (eqb (getD p 0 0) 1) _ (b .1) in
+    let d = and-true (leb (getD p 1 0) 16) (leb (entryPlace (getD p 1 0)) (length p)) (c .1) in
+    record { two = leb-true 2 (length p) (a .0); count = leb-true (getD p 1 0) 16 (d .0); fits = leb-true (entryPlace (getD p 1 0)) (length p) (d .1) }
+
+-- an entry among those before it, the last of which is entry j - 1
+module _ (p : List ℕ) (i j : ℕ) (some : 0 < j) {at other : ℕ} (a : at ≡ entryPlace i) (o : other ≡ entryPlace (j - 1)) where
+  last-first : named (entriesBefore p j) (entryAt p (entryPlace i)) ≡ ((eqb (getD p at 0) (getD p other 0) && eqb (getD p (at + 1) 0) (getD p (other + 1) 0)) || named (entriesBefore p (j - 1)) (entryAt p (entryPlace i)))
+  unfolding named entriesBefore entryAt
+  last-first = let e : j ≡ suc (j - 1) = omega arith in rw (a, o) (ap (λ n. named (entriesBefore p n) (entryAt p (entryPlace i))) e)
+
+  pub named-here : getD p other 0 ≡ getD p at 0 → getD p (other + 1) 0 ≡ getD p (at + 1) 0 → named (entriesBefore p j) (entryAt p (entryPlace i)) ≡ true
+  named-here n q = last-first ∙ rw (eq-eqb (getD p at 0) (getD p other 0) (sym n), eq-eqb (getD p (at + 1) 0) (getD p (other + 1) 0) (sym q))
+
+  pub other-name : (getD p other 0 ≡ getD p at 0 → ⊥) → named (entriesBefore p j) (entryAt p (entryPlace i)) ≡ named (entriesBefore p (j - 1)) (entryAt p (entryPlace i))
+  other-name n = last-first ∙ rw (ne-eqb (getD p at 0) (getD p other 0) (λ e. n (sym e)))
+
+  pub other-polarity : getD p other 0 ≡ getD p at 0 → (getD p (other + 1) 0 ≡ getD p (at + 1) 0 → ⊥) → named (entriesBefore p j) (entryAt p (entryPlace i)) ≡ named (entriesBefore p (j - 1)) (entryAt p (entryPlace i))
+  other-polarity n q = last-first ∙ rw (eq-eqb (getD p at 0) (getD p other 0) (sym n), ne-eqb (getD p (at + 1) 0) (getD p (other + 1) 0) (λ e. q (sym e)))
+
+pub none-named : (p : List ℕ) (x : Entry) (j : ℕ) → j ≤ 0 → named (entriesBefore p j) x ≡ false
+unfolding named entriesBefore
+none-named p x zero h = refl
+none-named p x (suc j) h = absurd (omega arith)
+
+-- an entry's rules
+module _ (p : List ℕ) (due : ℕ) (before : List Entry) (x : Entry) where
+  pub entry-name : 65535 < x .name → false ≡ soundEntry p due before x
+  unfolding soundEntry
+  entry-name h = rw (lt-leb (x .name) 65535 h)
+
+  module _ (a : x .name ≤ 65535) where
+    pub entry-polarity : 1 < x .polarity → false ≡ soundEntry p due before x
+    unfolding soundEntry
+    entry-polarity h = rw (le-leb (x .name) 65535 a, lt-leb (x .polarity) 1 h)
+
+    module _ (b : x .polarity ≤ 1) where
+      pub entry-offset : (x .offset ≡ due → ⊥) → false ≡ soundEntry p due before x
+      unfolding soundEntry
+      entry-offset h = rw (le-leb (x .name) 65535 a, le-leb (x .polarity) 1 b, ne-eqb (x .offset) due h)
+
+      module _ (c : x .offset ≡ due) where
+        pub entry-empty : x .size ≡ 0 → false ≡ soundEntry p due before x
+        unfolding soundEntry
+        entry-empty h = rw (le-leb (x .name) 65535 a, le-leb (x .polarity) 1 b, eq-eqb (x .offset) due c, lt-leb 1 (x .size) (omega arith))
+
+        module _ (d : x .size ≡ 0 → ⊥) where
+          pub entry-past : due ≤ length p → length p - due < x .size → false ≡ soundEntry p due before x
+          unfolding soundEntry
+          entry-past l h = rw (le-leb (x .name) 65535 a, le-leb (x .polarity) 1 b, eq-eqb (x .offset) due c, le-leb 1 (x .size) (omega arith), lt-leb (x .offset + x .size) (length p) (omega arith))
+
+          pub entry-else : {r : Bool} → due ≤ length p → x .size ≤ length p - due → r ≡ named before x → not r ≡ soundEntry p due before x
+          unfolding soundEntry
+          entry-else l h e = rw (le-leb (x .name) 65535 a, le-leb (x .polarity) 1 b, eq-eqb (x .offset) due c, le-leb 1 (x .size) (omega arith), le-leb (x .offset + x .size) (length p) (omega arith)) (ap not e)
+
+-- the entry at a place that is known by another name
+pub placed : (p : List ℕ) (due i : ℕ) {at : ℕ} {b : Bool} → at ≡ entryPlace i → b ≡ soundEntry p due (entriesBefore p i) (entryAt p at) → b ≡ soundEntry p due (entriesBefore p i) (entryAt p (entryPlace i))
+placed p due i a e = e ∙ ap (λ a. soundEntry p due (entriesBefore p i) (entryAt p a)) a
+
+-- what a sound entry gives
+pub record Sound (p : List ℕ) (due : ℕ) (x : Entry) : Type 0 where
+  pub starts : x .offset ≡ due
+  pub ends : x .offset + x .size ≤ length p
+
+pub sound-of : (p : List ℕ) (due : ℕ) (before : List Entry) (x : Entry) → soundEntry p due before x ≡ true → Sound p due x
+unfolding soundEntry
+sound-of p due before x e =
+    let a = and-true (isName (x .name)) _ e in
+    let b = and-true (isPolarity (x .polarity)) _ (a .1) in
+    let c = and-true (eqb (x .offset) due) _ (b .1) in
+    let d = and-true (leb 1 (x .size)) _ (c .1) in
+    let f = and-true (leb (x .offset + x .size) (length p)) _ (d .1) in
+    record { starts = eqb-true (x .offset) due (c .0); ends = leb-true (x .offset + x .size) (length p) (f .0) }
+
+-- entries put in front of a table, the nearest first
+pub putBack : List Entry → Table → Table
+putBack [] t = t
+putBack (x ∷ xs) t = putBack xs (push x t)
+
+back-refused : (xs : List Entry) (m : ℕ) → putBack xs (noTable m) ≡ noTable m
+unfolding putBack push
+back-refused [] m = refl
+back-refused (x ∷ xs) m = back-refused xs m
+
+back-table : (p : List ℕ) (i m : ℕ) → putBack (entriesBefore p i) (table (entriesFrom m p (entryPlace i))) ≡ table (entriesFrom (i + m) p 2)
+unfolding putBack push entriesBefore entriesFrom
+back-table p zero m = let e : m ≡ 0 + m = omega arith in ap (λ n. table (entriesFrom n p 2)) e
+back-table p (suc i) m =
+    let e : entryPlace (suc i) ≡ entryPlace i + 4 = omega arith in
+    let f : i + suc m ≡ suc i + m = omega arith in
+    ap (λ a. putBack (entriesBefore p i) (table (entryAt p (entryPlace i) ∷ entriesFrom m p a))) e ∙ (back-table p i (suc m) ∙ ap (λ n. table (entriesFrom n p 2)) f)
+
+-- the first i entries are sound, and the next part is due at word `due`
+pub record Reading (p : List ℕ) (i due : ℕ) : Type 0 where
+  pub rest : readTable p ≡ putBack (entriesBefore p i) (entries (getD p 1 0 - i) p (entryPlace i) due (entriesBefore p i))
+  pub within : due ≤ length p
+  pub few : i ≤ getD p 1 0
+
+pub table-unheaded : (p : List ℕ) → soundHeader p ≡ false → tableIs p (tableRead.Refused badHeader) ≡ readTable p
+unfolding tableIs readTable
+table-unheaded p e = sym (ap (λ b. elim b as (λ c. Table) [ true ↦ entries (getD p 1 0) p 2 (2 + 4 * getD p 1 0) [] | false ↦ noTable badHeader ]) e)
+
+pub table-starts : (p : List ℕ) (due : ℕ) → soundHeader p ≡ true → due ≡ entryPlace (getD p 1 0) → Reading p 0 due
+unfolding readTable putBack entriesBefore
+table-starts p due e d =
+    let f : getD p 1 0 ≡ getD p 1 0 - 0 = omega arith in
+    record {
+      rest = ap (λ b. elim b as (λ c. Table) [ true ↦ entries (getD p 1 0) p 2 (2 + 4 * getD p 1 0) [] | false ↦ noTable badHeader ]) e ∙ (ap (λ a. entries (getD p 1 0) p 2 a []) (sym d) ∙ ap (λ n. entries n p 2 due []) f);
+      within = omega (arith, header-of p e .fits);
+      few = omega arith;
+    }
+
+module _ (p : List ℕ) (i due : ℕ) (r : Reading p i due) (more : i < getD p 1 0) where
+  next : Entry
+  next = entryAt p (entryPlace i)
+
+  one-entry : (b : Bool) → soundEntry p due (entriesBefore p i) next ≡ b →
+      readTable p ≡ putBack (entriesBefore p i) (elim b [ true ↦ push next (entries (getD p 1 0 - (i + 1)) p (entryPlace i + 4) (next .offset + next .size) (next ∷ entriesBefore p i)) | false ↦ noTable badTable ])
+  unfolding entries next
+  one-entry b e =
+      let f : getD p 1 0 - i ≡ suc (getD p 1 0 - (i + 1)) = omega arith in
+      r .rest
+      ∙ (ap (λ n. putBack (entriesBefore p i) (entries n p (entryPlace i) due (entriesBefore p i))) f
+      ∙ ap (λ b. putBack (entriesBefore p i) (elim b as (λ c. Table) [
+        | true ↦ push (entryAt p (entryPlace i)) (entries (getD p 1 0 - (i + 1)) p (entryPlace i + 4) (entryAt p (entryPlace i) .offset + entryAt p (entryPlace i) .size) (entryAt p (entryPlace i) ∷ entriesBefore p i))
+        | false ↦ noTable badTable
+      ])) e)
+
+  pub table-unsound : soundEntry p due (entriesBefore p i) (entryAt p (entryPlace i)) ≡ false → tableIs p (tableRead.Refused badTable) ≡ readTable p
+  unfolding tableIs next
+  table-unsound e = sym (one-entry false e ∙ back-refused (entriesBefore p i) badTable)
+
+  pub table-goes-on : {later : ℕ} → soundEntry p due (entriesBefore p i) (entryAt p (entryPlace i)) ≡ true → later ≡ due + getD p (entryPlace i + 3) 0 → Reading p (i + 1) later
+  unfolding putBack entriesBefore entryAt next
+  table-goes-on {later} e d =
+      let s = sound-of p due (entriesBefore p i) (entryAt p (entryPlace i)) e in
+      let f : i + 1 ≡ suc i = omega arith in
+      let g : entryPlace i + 4 ≡ entryPlace (suc i) = omega arith in
+      let h : getD p (entryPlace i + 2) 0 + getD p (entryPlace i + 3) 0 ≡ later = omega (arith, s .starts) in
+      record {
+        rest = one-entry true e ∙ rw (f, g, h) refl;
+        within = omega (arith, s .ends);
+        few = omega arith;
+      }
+
+module _ (p : List ℕ) (i due : ℕ) (r : Reading p i due) (done : getD p 1 0 ≤ i) where
+  at-last : (b : Bool) → eqb due (length p) ≡ b → readTable p ≡ putBack (entriesBefore p i) (elim b [ true ↦ table [] | false ↦ noTable badTable ])
+  unfolding entries
+  at-last b e =
+      let f : getD p 1 0 - i ≡ 0 = omega arith in
+      r .rest ∙ (ap (λ n. putBack (entriesBefore p i) (entries n p (entryPlace i) due (entriesBefore p i))) f ∙ ap (λ b. putBack (entriesBefore p i) (elim b as (λ c. Table) [ true ↦ table [] | false ↦ noTable badTable ])) e)
+
+  pub table-ends : due ≡ length p → tableIs p (tableRead.Sound (getD p 1 0)) ≡ readTable p
+  unfolding tableIs entriesFrom
+  table-ends e =
+      let f : i + 0 ≡ getD p 1 0 = omega (arith, r .few) in
+      sym (at-last true (eq-eqb due (length p) e) ∙ (back-table p i 0 ∙ ap (λ n. table (entriesFrom n p 2)) f))
+
+  pub table-left-over : (due ≡ length p → ⊥) → tableIs p (tableRead.Refused badTable) ≡ readTable p
+  unfolding tableIs
+  table-left-over e = sym (at-last false (ne-eqb due (length p) e) ∙ back-refused (entriesBefore p i) badTable)
+
+-- a definition's words, at places known by other names
+module _ (p : List ℕ) (i : ℕ) {at start size : ℕ} (a : at ≡ entryPlace i) (b : start ≡ getD p (at + 2) 0) (c : size ≡ getD p (at + 3) 0) where
+  pub definition-span : entryAt p (entryPlace i) .offset + entryAt p (entryPlace i) .size ≤ length p → start + size ≤ length p
+  unfolding entryAt
+  definition-span h = rw (b, c, a) h
+
+  pub definition-part : take (start + size - start) (drop start p) ≡ entryWords p (entryAt p (entryPlace i))
+  unfolding entryWords entryAt
+  definition-part = let e : start + size - start ≡ size = omega arith in ap (λ n. take n (drop start p)) e ∙ rw (b, c, a)

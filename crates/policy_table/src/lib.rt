@@ -1,0 +1,134 @@
+// The policy's table: refusals 1 and 2. No sum is taken that could wrap.
+pub mod parts;
+
+ghost use Prim.Native.Nat.{_+_, _*_, _≤_};
+ghost use mathlib.Core.Path.{_≡_};
+ghost use lib.ListN.{length};
+ghost use Rattle.policy.specs.Table.{entryAt, entryWords, named, soundEntry, soundHeader, readTable};
+ghost use Rattle.policy_table.specs.Entries.{entryPlace, entriesBefore, tableIs};
+use rows::LAST_NAME;
+
+const FORMAT: u32 = 1;
+
+const MOST_WORDS: usize = 8192;
+
+const MOST_DEFINITIONS: u32 = 16;
+
+// The count of the definitions.
+pub enum TableRead {
+    Sound(u32),
+    Refused(u32),
+}
+
+pub fn wide(x: u32) -> usize
+    ensures { λ r. ⌜ r ≡ x ⌝ }
+{
+    x as usize
+}
+
+// Where entry `i` begins: name, polarity, offset, length.
+pub fn entry_place(i: usize) -> usize
+    requires { ⌜ i ≤ 16 ⌝ }
+    ensures { λ r. ⌜ r ≡ entryPlace i ⌝ }
+{
+    2 + 4 * i
+}
+
+fn sound_header(policy: &[u32]) -> bool
+    ensures { λ r. ⌜ r ≡ soundHeader (now (policy .entry)) ⌝ }
+{
+    if policy.len() < 2 {
+        return false;
+    }
+    if MOST_WORDS < policy.len() {
+        return false;
+    }
+    if policy[0] != FORMAT {
+        return false;
+    }
+    if MOST_DEFINITIONS < policy[1] {
+        return false;
+    }
+    entry_place(wide(policy[1])) <= policy.len()
+}
+
+// Has an entry before entry `i` its name and polarity?
+fn is_named(policy: &[u32], i: usize) -> bool
+    requires { ⌜ (i ≤ 15) × (entryPlace i + 4 ≤ length (now policy)) ⌝ }
+    ensures { λ r. ⌜ r ≡ named (entriesBefore (now (policy .entry)) i) (entryAt (now (policy .entry)) (entryPlace i)) ⌝ }
+{
+    let at = entry_place(i);
+    let name = policy[at];
+    let polarity = policy[at + 1];
+    let mut j = i;
+    while 0 < j {
+        j -= 1;
+        let other = entry_place(j);
+        if policy[other] == name {
+            if policy[other + 1] == polarity {
+                return true;
+            }
+        }
+    }
+    false
+}
+
+// Does entry `i` keep its rules, its part being due at word `due`?
+fn sound_entry(policy: &[u32], i: usize, due: usize) -> bool
+    requires { ⌜ (i ≤ 15) × (entryPlace i + 4 ≤ length (now policy)) × (due ≤ length (now policy)) ⌝ }
+    ensures { λ r. ⌜ r ≡ soundEntry (now (policy .entry)) due (entriesBefore (now (policy .entry)) i) (entryAt (now (policy .entry)) (entryPlace i)) ⌝ }
+{
+    let at = entry_place(i);
+    if LAST_NAME < policy[at] {
+        return false;
+    }
+    if 1 < policy[at + 1] {
+        return false;
+    }
+    if wide(policy[at + 2]) != due {
+        return false;
+    }
+    let size = wide(policy[at + 3]);
+    if size == 0 {
+        return false;
+    }
+    if policy.len() - due < size {
+        return false;
+    }
+    !is_named(policy, i)
+}
+
+pub fn read_table(policy: &[u32]) -> TableRead
+    ensures { λ r. ⌜ tableIs (now (policy .entry)) r ≡ readTable (now (policy .entry)) ⌝ }
+{
+    if !sound_header(policy) {
+        return TableRead::Refused(refusals::BAD_HEADER);
+    }
+    let count = wide(policy[1]);
+    let mut due = entry_place(count);
+    let mut i: usize = 0;
+    while i < count {
+        if !sound_entry(policy, i, due) {
+            return TableRead::Refused(refusals::BAD_TABLE);
+        }
+        due += wide(policy[entry_place(i) + 3]);
+        i += 1;
+    }
+    if due == policy.len() {
+        TableRead::Sound(policy[1])
+    } else {
+        TableRead::Refused(refusals::BAD_TABLE)
+    }
+}
+
+// The words of definition `i`: a part of the policy.
+pub fn definition_words<'a>(policy: &'a [u32], i: usize) -> &'a [u32]
+    requires { ⌜ (i ≤ 15) × (entryPlace i + 4 ≤ length (now policy)) × (entryAt (now policy) (entryPlace i) .offset + entryAt (now policy) (entryPlace i) .size ≤ length (now policy)) ⌝ }
+    ensures { λ r. ⌜ now r ≡ entryWords (now (policy .entry)) (entryAt (now (policy .entry)) (entryPlace i)) ⌝ }
+{
+    let at = entry_place(i);
+    let start = wide(policy[at + 2]);
+    let size = wide(policy[at + 3]);
+    let end = start + size;
+    &policy[start..end]
+}

@@ -1,0 +1,54 @@
+-- A whole definition or query: what was checked stands at its first word, and the area has room for the sets that it needs.
+use Prim.Native.Nat.{ℕ, _+_, _≤_}
+use mathlib.Core.Path.{_≡_, sym, _∙_}
+use mathlib.Core.List.{List, [], append-nil}
+use native.Mathlib.Omega.{arith}
+use lib.ListN.{length}
+use Rattle.policy.specs.Syntax.{Expr, leaf, union, difference, comprehension, Body, head, draw, same, different, absent}
+use Rattle.policy.specs.Words.{exprWords}
+use Rattle.policy.specs.WellFormed.{depth, bodyDepth, drawCount, bodyDraws}
+use Rattle.policy.specs.Decode.{parse, parsed}
+use Rattle.policy.proofs.Decoding.{parse-words, parse-fits}
+use Rattle.read_values.specs.Places.{Stands}
+use Rattle.read_values.specs.From.{From}
+use Rattle.read_expressions.specs.Room.{roomOf, bodyRoom}
+use Rattle.read_expressions.specs.Readers.{AskExpr, SayExpr, AskWhole, SayWhole}
+use Rattle.read_values.specs.declared.Read.{Read}
+
+-- each level and each draw adds one set at most
+mutual
+  unfolding roomOf depth drawCount
+
+  room-needed : (e : Expr) → roomOf e ≤ depth e + drawCount e
+  room-needed (leaf x) = omega arith
+  room-needed (union a b) = omega (arith, room-needed a, room-needed b)
+  room-needed (difference a b) = omega (arith, room-needed a, room-needed b)
+  room-needed (comprehension b) = omega (arith, body-needed b)
+
+  body-needed : (b : Body) → bodyRoom b ≤ bodyDepth b + bodyDraws b
+  body-needed (head r) = omega arith
+  body-needed (draw e p b) = omega (arith, room-needed e, body-needed b)
+  body-needed (same x y b) = body-needed b
+  body-needed (different x y b) = body-needed b
+  body-needed (absent r e b) = omega (arith, room-needed e, body-needed b)
+
+whole-here : (m : ℕ) (ws : List ℕ) (e : Expr) → parse m ws ≡ parsed e → Stands m 0 ws 0 e
+whole-here m ws e h = record { words = record { rest = []; spelled = parse-words m ws e h ∙ sym (append-nil (exprWords e 0)) }; fit = parse-fits m ws e h .fit }
+
+module _ {f : From} {ws : List ℕ} {values area : List ℕ} where
+  pub ask-whole : 16 ≤ length values → AskWhole f ws area → AskExpr f ws 0 values 0 area
+  ask-whole long q =
+      let w = parse-fits (f .known) ws (q .e) (q .parses) in
+      let shallow = w .shallow in
+      let draws = w .draws in
+      let room = q .long in
+      record {
+        sound = q .sound;
+        bound = record { scope = omega arith; long = long };
+        e = q .e;
+        here = whole-here (f .known) ws (q .e) (q .parses);
+        room = omega (arith, room-needed (q .e));
+      }
+
+  pub say-whole : {k : ℕ} {r : Read} {later : List ℕ} → SayExpr f ws 0 values 0 k r later area → SayWhole f ws k r area
+  say-whole s = record { filled = s .filled; means = λ e h. s .means .says e (whole-here (f .known) ws e h) }

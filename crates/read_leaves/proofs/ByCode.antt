@@ -1,0 +1,136 @@
+-- A leaf by its code: what is read for it, and whether a row belongs to it.
+use Prim.Native.Nat.{ℕ, zero, suc, _+_, _-_, _*_, _≤_, _<_}
+use mathlib.Core.Path.{_≡_, refl, sym, ap, subst, _∙_}
+use mathlib.Core.Bool.{Bool}
+use mathlib.Core.List.{List, []}
+use native.Mathlib.Omega.{arith}
+use lib.ListN.{length, take, drop, getD}
+use lib.Seq.{drop-drop}
+use Rattle.rows.specs.Sets.{RowSet, only, has}
+use Rattle.rows.specs.Layout.{formed, setIn, written}
+use Rattle.sets.proofs.Standing.{copied-stands}
+use Rattle.policy.specs.Leaf.{Leaf, leafCode, leafWords}
+use Rattle.meaning.specs.Values.{Values, rowOf}
+use Rattle.meaning.specs.Reading.{Answer, done, after, small, rowsOf, readLeaf}
+use Rattle.read_values.specs.Places.{StandsLeaf, SomeLeaf}
+use Rattle.read_values.specs.Answers.{Filled, setAnswer, testedAnswer, IfDone}
+use Rattle.read_values.specs.From.{From, setsIn, names, sets}
+use Rattle.read_values.specs.declared.Read as Read
+use Rattle.read_values.specs.declared.Read.the-variants.{Done, Refused}
+use Rattle.read_values.specs.declared.Tested as Tested
+use Rattle.read_values.proofs.Places.{at-word}
+use Rattle.read_values.proofs.Leaves.{on-definition, on-listed, on-rows, in-finite, in-cofinite, in-definition, in-listed}
+use Rattle.read_values.proofs.Answers.{lies}
+use Rattle.read_steps.specs.Steps.{SayHas}
+use Rattle.read_steps.proofs.Areas.{part-whole}
+use Rattle.read_names.specs.Names.{SayName, SayNameHas}
+use Rattle.read_leaves.specs.Leaves.{SayRows, SayDefinition, AskLeaf, SayLeaf, SayLeafHas}
+
+-- ---- the set of a definition
+
+sets-at : (m d : ℕ) (ws : List ℕ) → d < m → getD (setsIn m ws) d (only []) ≡ setIn (drop (642 * d) ws)
+unfolding setsIn
+sets-at zero d ws h = absurd (omega arith)
+sets-at (suc m) zero ws h = refl
+sets-at (suc m) (suc d) ws h =
+    let e : 642 + 642 * d ≡ 642 * suc d = omega arith in
+    sets-at m d (drop 642 ws) (omega arith) ∙ ap setIn (drop-drop (642 * d) 642 ws ∙ ap (λ (k : ℕ). drop k ws) e)
+
+-- the part of the definition area that is handed back; w is the definition's number, widened
+pub definition-part : (defs : List ℕ) {known d w : ℕ} → w ≡ d → d < known → Filled (drop (642 * d) defs) → SayDefinition known d defs (take (length defs - 642 * w) (drop (642 * w) defs))
+definition-part defs {known} {d} {w} e h f =
+    let part : drop (642 * d) defs ≡ take (length defs - 642 * w) (drop (642 * w) defs) = sym (part-whole (642 * w) defs ∙ ap (λ (k : ℕ). drop (642 * k) defs) e) in
+    record { filled = subst Filled part f; means = ap setIn (sym part) ∙ sym (sets-at known d defs h) }
+
+-- ---- what is asked
+
+module _ {f : From} {ws : List ℕ} {at : ℕ} {values : List ℕ} {count : ℕ} (a : AskLeaf f ws at values count) where
+  pub some-here : SomeLeaf ws at
+  some-here = record { m = f .known; n = count; x = a .x; here = a .here }
+
+  pub known-here : getD ws at 0 ≡ 3 → getD ws (at + 1) 0 < f .known
+  known-here c =
+      on-definition (λ y. StandsLeaf (f .known) count ws at y → getD ws (at + 1) 0 < f .known) (a .here) c
+      (λ d s. let i = in-definition s in omega (arith, i .number, i .known)) (a .here)
+
+-- ---- a literal: its code is one more than the form of its set
+
+module _ {ws : List ℕ} {at : ℕ} (d : getD ws at 0 ≡ 3 → ⊥) (l : getD ws at 0 ≡ 4 → ⊥) where
+  pub literal-code : SomeLeaf ws at → (1 ≤ getD ws at 0) × (getD ws at 0 ≤ 2)
+  unfolding leafWords leafCode
+  literal-code x =
+      on-rows (λ y. StandsLeaf (x .m) (x .n) ws at y → (1 ≤ getD ws at 0) × (getD ws at 0 ≤ 2)) (x .here) d l
+      (λ rs s. let c = at-word (s .words) in (omega arith, omega arith)) (λ rs s. let c = at-word (s .words) in (omega arith, omega arith)) (x .here)
+
+  pub leaf-rows : {f : From} {vs : Values} {k : ℕ} {area : List ℕ} → SayRows ws (at + 1) (getD ws at 0 - 1) vs area → SayLeaf f ws at vs k (Done k) area
+  unfolding readLeaf IfDone setAnswer leafWords leafCode formed
+  leaf-rows {f} {vs} {k} {area} s = record {
+    filled = s .filled;
+    means = λ n x h.
+        on-rows (λ y. StandsLeaf (f .known) n ws at y → readLeaf (names f) (sets f) y vs k ≡ done (setIn area) k) h d l
+        (λ rs g. let e : 0 ≡ getD ws at 0 - 1 = omega (arith, at-word (g .words)) in ap (λ (i : ℕ). small (formed i (rowsOf vs rs)) k) e ∙ s .means n rs (in-finite g) k)
+        (λ rs g. let e : 1 ≡ getD ws at 0 - 1 = omega (arith, at-word (g .words)) in ap (λ (i : ℕ). small (formed i (rowsOf vs rs)) k) e ∙ s .means n rs (in-cofinite g) k) h;
+  }
+
+module _ (f : From) {ws : List ℕ} {at : ℕ} {vs : Values} {k : ℕ} where
+  -- ---- a name
+
+  pub leaf-name : {r : Read.Read} {area : List ℕ} → getD ws at 0 ≡ 4 → SayName (f .store) ws (at + 1) vs k r area → SayLeaf f ws at vs k r area
+  unfolding readLeaf
+  leaf-name {r} {area} c s = record {
+    filled = s .filled;
+    means = λ n x h. on-listed (λ y. StandsLeaf (f .known) n ws at y → readLeaf (names f) (sets f) y vs k ≡ setAnswer r area) h c (λ t m p g. s .means t m p (in-listed g)) h;
+  }
+
+  pub leaf-name-has : {row : ℕ} {r : Tested.Tested} → getD ws at 0 ≡ 4 → SayNameHas (f .store) ws (at + 1) row vs k r → SayLeafHas f ws at row vs k r
+  unfolding readLeaf
+  leaf-name-has {r} c s = record {
+    means = λ n x h m ts g.
+        on-listed (λ y. StandsLeaf (f .known) n ws at y → after (readLeaf (names f) (sets f) y vs k) (λ z i. done (has z (rowOf vs ts)) i) ≡ testedAnswer r) h c
+        (λ t o p q. s .means t o p (in-listed q) m ts g) h;
+  }
+
+  -- ---- any leaf: a look into the set that is read for it
+
+  looked-into : {row : ℕ} {set : List ℕ} {used : ℕ} {b : Bool} {r : Tested.Tested} → ((n : ℕ) (x : Leaf) → StandsLeaf (f .known) n ws at x → readLeaf (names f) (sets f) x vs k ≡ done (setIn set) used) →
+      SayHas ws row vs set b → testedAnswer r ≡ done b used → SayLeafHas f ws at row vs k r
+  unfolding after
+  looked-into {used} reads s e = record {
+    means = λ n x h m ts g.
+        ap (λ (a : Answer RowSet). after a (λ z i. done (has z (rowOf vs ts)) i)) (reads n x h) ∙ ap (λ (b : Bool). done b used) (s .means m ts g) ∙ sym e;
+  }
+
+  module _ {a : Read.Read} {area : List ℕ} (says : SayLeaf f ws at vs k a area) where
+    pub leaf-refused : {row n : ℕ} → a ≡ Refused n → SayLeafHas f ws at row vs k (Tested.the-variants.Refused n)
+    unfolding after setAnswer testedAnswer
+    leaf-refused e = record {
+      means = λ n x h m ts g.
+          ap (λ (u : Answer RowSet). after u (λ z i. done (has z (rowOf vs ts)) i)) (says .means n x h ∙ ap (λ (u : Read.Read). setAnswer u area) e);
+    }
+
+    module _ {used : ℕ} (is : a ≡ Done used) where
+      pub leaf-filled : Filled area
+      unfolding IfDone
+      leaf-filled = subst (λ (u : Read.Read). IfDone Filled u area) is (says .filled)
+
+      pub leaf-looked : {row : ℕ} {b : Bool} {r : Tested.Tested} → SayHas ws row vs area b → testedAnswer r ≡ done b used → SayLeafHas f ws at row vs k r
+      unfolding setAnswer
+      leaf-looked = looked-into (λ n x h. says .means n x h ∙ ap (λ (u : Read.Read). setAnswer u area) is)
+
+-- ---- a definition
+
+module _ (f : From) {ws : List ℕ} {at : ℕ} {set : List ℕ} (c : getD ws at 0 ≡ 3) (s : SayDefinition (f .known) (getD ws (at + 1) 0) (f .defs) set) where
+  definition-read : (vs : Values) (k n : ℕ) (x : Leaf) → StandsLeaf (f .known) n ws at x → readLeaf (names f) (sets f) x vs k ≡ done (setIn set) k
+  unfolding readLeaf
+  definition-read vs k n x h =
+      on-definition (λ y. StandsLeaf (f .known) n ws at y → readLeaf (names f) (sets f) y vs k ≡ done (setIn set) k) h c
+      (λ d g. ap (λ (z : RowSet). done z k) (ap (λ (i : ℕ). getD (sets f) i (only [])) (sym (in-definition g .number)) ∙ sym (s .means))) h
+
+  pub leaf-definition : {vs : Values} {k : ℕ} (to : List ℕ) {area : List ℕ} → 642 ≤ length to → area ≡ written (setIn set) to → SayLeaf f ws at vs k (Done k) area
+  unfolding IfDone setAnswer
+  leaf-definition {vs} {k} to {area} long e =
+      let z = copied-stands set (s .filled .sound) to long e in
+      record { filled = lies z; means = λ n x h. definition-read vs k n x h ∙ ap (λ (y : RowSet). done y k) (sym (z .set)) }
+
+  pub leaf-definition-has : {vs : Values} {k row : ℕ} {b : Bool} {r : Tested.Tested} → SayHas ws row vs set b → testedAnswer r ≡ done b k → SayLeafHas f ws at row vs k r
+  leaf-definition-has {vs} {k} = looked-into f (definition-read vs k)

@@ -1,0 +1,102 @@
+-- A name's row and a definition's are looked up where they stand; of any other leaf the set is read.
+use native.Mathlib.Omega.{arith}
+use Rattle.read_values.proofs.Leaves.{inside-leaf, definition-inside, some-name}
+use Rattle.read_leaves.proofs.ByCode.{some-here, known-here, leaf-name-has, leaf-definition-has, leaf-filled, leaf-refused, leaf-looked}
+use borrow.Author.Needs.{needs}
+use Rattle.read_leaves.proofs.leaf_has.Statement.{statement}
+use Rattle.read_leaves.proofs.leaf_has.Tie as tie
+
+mul-code : tie.Need-mul-code
+mul-code c =
+    let start = c .before .before .before .before in
+    let i = inside-leaf (start .pre .0 .here) in
+    let fits = start .good in
+    omega arith
+
+shared-slice-read-code : tie.Need-shared-slice-read-code
+shared-slice-read-code c =
+    let start = c .before .before .before .before .before in
+    let i = inside-leaf (start .pre .0 .here) in
+    let fits = start .good in
+    omega arith
+
+add-name-has : tie.Need-add-name-has
+add-name-has c =
+    let start = c .before .before .before .before .before .before in
+    let i = inside-leaf (start .pre .0 .here) in
+    let fits = start .good in
+    omega arith
+
+name-has-requires : tie.Need-name-has-requires
+name-has-requires c κs =
+    let start = c .before .before .before .before .before .before in
+    (start .pre .0 .bound, some-name (some-here (start .pre .0)) (c .if1 .taken), start .pre .2, start .pre .0 .sound .store)
+
+returns : tie.Need-returns
+returns c = leaf-name-has _ (c .before .if1 .taken) (c .name-has .ensures)
+
+add-definition-set : tie.Need-add-definition-set
+add-definition-set c =
+    let start = c .before .before .before .before .before .before .before in
+    let i = definition-inside (some-here (start .pre .0)) (c .if2 .taken) in
+    let fits = start .good in
+    omega arith
+
+mul-definition-set : tie.Need-mul-definition-set
+mul-definition-set c =
+    let start = c .before .before .before .before .before .before .before in
+    let i = definition-inside (some-here (start .pre .0)) (c .if2 .taken) in
+    let fits = start .good in
+    omega arith
+
+shared-slice-read-definition-set : tie.Need-shared-slice-read-definition-set
+shared-slice-read-definition-set c =
+    let start = c .before .before .before .before .before .before .before .before in
+    let i = definition-inside (some-here (start .pre .0)) (c .before .if2 .taken) in
+    let fits = start .good in
+    omega arith
+
+definition-set-requires : tie.Need-definition-set-requires
+definition-set-requires c κs =
+    let start = c .before .before .before .before .before .before .before .before in
+    (known-here (start .pre .0) (c .before .if2 .taken), start .pre .0 .sound .defs)
+
+returns-2 : tie.Need-returns-2
+returns-2 c = leaf-definition-has _ (c .before .before .before .before .if2 .taken) (c .before .before .definition-set .ensures) (c .before .has-row .ensures) (c .told .ensures)
+
+has-row-requires-2 : tie.Need-has-row-requires-2
+has-row-requires-2 c κs =
+    let start = c .before .before .before .before .before .before .before .before .before .before .before .before .before .before .before in
+    (start .pre .0 .bound, leaf-filled _ (c .before .before .before .before .before .before .read-leaf .ensures) (c .before .before .used .given .1), start .pre .2)
+
+returns-3 : tie.Need-returns-3
+returns-3 c = leaf-refused _ (c .before .before .before .before .before .read-leaf .ensures) (c .before .n .given .1)
+
+returns-4 : tie.Need-returns-4
+returns-4 c = leaf-looked _ (c .before .before .before .before .before .before .before .before .read-leaf .ensures) (c .before .before .before .before .used .given .1) (c .before .has-row2 .ensures) (c .told2 .ensures)
+
+pub leaf-has-spec : {M : Type 1} → statement M
+leaf-has-spec =
+    tie.close
+    (tie.spec
+    mul-code
+    shared-slice-read-code
+    add-name-has
+    name-has-requires
+    returns
+    add-definition-set
+    mul-definition-set
+    shared-slice-read-definition-set
+    definition-set-requires
+    (λ c κs. search needs)
+    (λ c κs. search needs)
+    returns-2
+    (λ c κs. search needs)
+    (λ c. search needs)
+    (λ c. search needs)
+    has-row-requires-2
+    (λ c κs. search needs)
+    (λ c. search needs)
+    returns-3
+    (λ c. search needs)
+    returns-4)

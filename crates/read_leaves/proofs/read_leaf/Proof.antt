@@ -1,0 +1,111 @@
+-- Each leaf by its code; what it says goes to whichever leaf has that code.
+use native.Mathlib.Omega.{arith}
+use Rattle.read_values.proofs.Leaves.{inside-leaf, definition-inside, some-name, some-rows}
+use Rattle.read_leaves.proofs.ByCode.{some-here, known-here, literal-code, leaf-rows, leaf-name, leaf-definition}
+use borrow.Author.Needs.{needs}
+use Rattle.read_leaves.proofs.read_leaf.Statement.{statement}
+use Rattle.read_leaves.proofs.read_leaf.Tie as tie
+
+mul-code : tie.Need-mul-code
+mul-code c =
+    let start = c .before .before .before .before in
+    let i = inside-leaf (start .pre .0 .here) in
+    let fits = start .good in
+    omega arith
+
+shared-slice-read-code : tie.Need-shared-slice-read-code
+shared-slice-read-code c =
+    let start = c .before .before .before .before .before in
+    let i = inside-leaf (start .pre .0 .here) in
+    let fits = start .good in
+    omega arith
+
+add-read-name : tie.Need-add-read-name
+add-read-name c =
+    let start = c .before .before .before .before .before .before in
+    let i = inside-leaf (start .pre .0 .here) in
+    let fits = start .good in
+    omega arith
+
+read-name-requires : tie.Need-read-name-requires
+read-name-requires c κs =
+    let start = c .before .before .before .before .before .before .before in
+    (start .pre .0 .bound, some-name (some-here (start .pre .0)) (c .before .if1 .taken), start .pre .0 .sound .store, start .pre .1)
+
+returns : tie.Need-returns
+returns c = leaf-name _ (c .before .before .before .before .if1 .taken) (c .before .before .read-name .ensures)
+
+add-definition-set : tie.Need-add-definition-set
+add-definition-set c =
+    let start = c .before .before .before .before .before .before .before in
+    let i = definition-inside (some-here (start .pre .0)) (c .if2 .taken) in
+    let fits = start .good in
+    omega arith
+
+mul-definition-set : tie.Need-mul-definition-set
+mul-definition-set c =
+    let start = c .before .before .before .before .before .before .before in
+    let i = definition-inside (some-here (start .pre .0)) (c .if2 .taken) in
+    let fits = start .good in
+    omega arith
+
+shared-slice-read-definition-set : tie.Need-shared-slice-read-definition-set
+shared-slice-read-definition-set c =
+    let start = c .before .before .before .before .before .before .before .before in
+    let i = definition-inside (some-here (start .pre .0)) (c .before .if2 .taken) in
+    let fits = start .good in
+    omega arith
+
+definition-set-requires : tie.Need-definition-set-requires
+definition-set-requires c κs =
+    let start = c .before .before .before .before .before .before .before .before in
+    (known-here (start .pre .0) (c .before .if2 .taken), start .pre .0 .sound .defs)
+
+returns-2 : tie.Need-returns-2
+returns-2 c =
+    let start = c .before .before .before .before .before .before .before .before .before .before .before .before .before in
+    leaf-definition _ (c .before .before .before .before .before .before .if2 .taken) (c .before .before .before .before .definition-set .ensures) (start .args .area .now) (start .pre .1) (c .before .before .copy .ensures)
+
+add-read-rows : tie.Need-add-read-rows
+add-read-rows c =
+    let start = c .before .before .before .before .before .before .before in
+    let i = inside-leaf (start .pre .0 .here) in
+    let fits = start .good in
+    omega arith
+
+sub-read-rows : tie.Need-sub-read-rows
+sub-read-rows c =
+    let l = literal-code (c .before .if2 .left) (c .before .before .if1 .left) (some-here (c .before .before .before .before .before .before .before .before .pre .0)) in
+    omega arith
+
+read-rows-requires : tie.Need-read-rows-requires
+read-rows-requires c κs =
+    let start = c .before .before .before .before .before .before .before .before in
+    let l = literal-code (c .before .if2 .left) (c .before .before .if1 .left) (some-here (start .pre .0)) in
+    (start .pre .0 .bound, omega arith, start .pre .1, some-rows (c .before .if2 .left) (c .before .before .if1 .left) (some-here (start .pre .0)))
+
+returns-3 : tie.Need-returns-3
+returns-3 c = leaf-rows (c .before .before .before .before .if2 .left) (c .before .before .before .before .before .if1 .left) (c .before .before .read-rows .ensures)
+
+pub read-leaf-spec : {M : Type 1} → statement M
+read-leaf-spec =
+    tie.close
+    (tie.spec
+    mul-code
+    shared-slice-read-code
+    add-read-name
+    read-name-requires
+    (λ c. search needs)
+    returns
+    add-definition-set
+    mul-definition-set
+    shared-slice-read-definition-set
+    definition-set-requires
+    (λ c κs. search needs)
+    (λ c. search needs)
+    returns-2
+    add-read-rows
+    sub-read-rows
+    read-rows-requires
+    (λ c. search needs)
+    returns-3)

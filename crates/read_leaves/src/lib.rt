@@ -1,0 +1,116 @@
+// The expressions that hold no other, read: the rows of a literal, an earlier definition, a name. The readers of expressions call one function for all of them.
+ghost use Prim.Native.Nat.{ℕ, _*_, _≤_, _<_};
+ghost use lib.ListN.{length, take, drop};
+ghost use Rattle.rows.specs.Layout.{setRoom};
+ghost use Rattle.read_values.specs.Values.{Bound};
+ghost use Rattle.read_values.specs.Places.{SomeRow, SomeRows};
+ghost use Rattle.read_values.specs.Answers.{Filled};
+ghost use Rattle.read_values.specs.From.{from};
+ghost use Rattle.read_leaves.specs.Leaves.{SayRows, SayDefinition, AskLeaf, SayLeaf, SayLeafHas};
+use policy::CODE_DEFINITION;
+use policy::CODE_NAME;
+use read_names::name_has;
+use read_names::read_name;
+use read_steps::has_row;
+use read_values::Given;
+use read_values::Read;
+use read_values::Tested;
+use read_values::row_of;
+use read_values::skip::skip_row;
+use read_values::told;
+use row_words::row::wide;
+use rows::SET_ROOM;
+use sets::clear;
+use sets::copy;
+use sets::insert;
+
+// The rows written there, in a set of this form: no more than a set lists, so there is room for each.
+fn read_rows(
+    words: &[u32],
+    at: usize,
+    values: &[u32; 16],
+    count: usize,
+    area: &mut [u32],
+    form: u32,
+)
+    requires { ⌜ Bound (now values) count × (form ≤ 1) × (setRoom ≤ length (now area)) × SomeRows (now words) at ⌝ }
+    ensures { λ _. ⌜ SayRows (now (words .entry)) at form (take count (now (values .entry))) (now (area .exit)) ⌝ }
+{
+    clear(area, form);
+    let written = words[at];
+    let mut next = at + 1;
+    let mut i: u32 = 0;
+    while i < written {
+        let row = row_of(words, next, values, count);
+        insert(area, row);
+        next = skip_row(words, next);
+        i += 1;
+    }
+}
+
+// The words from the set that was read for a definition on.
+fn definition_set<'a>(defs: &'a [u32], d: u32, given: Given) -> &'a [u32]
+    requires { ⌜ (d < given .known) × ((i : ℕ) → i < given .known → Filled (drop (setRoom * i) (now defs))) ⌝ }
+    ensures { λ r. ⌜ SayDefinition (given .known) d (now (defs .entry)) (now r) ⌝ }
+{
+    let base = SET_ROOM * wide(d);
+    &defs[base..]
+}
+
+// A leaf, by its code.
+pub fn read_leaf(
+    words: &[u32],
+    at: usize,
+    values: &[u32; 16],
+    count: usize,
+    draws: u32,
+    area: &mut [u32],
+    given: Given,
+    store: &[u32],
+    defs: &[u32],
+) -> Read
+    requires { ⌜ AskLeaf (from given (now store) (now defs)) (now words) at (now values) count × (setRoom ≤ length (now area)) ⌝ }
+    ensures { λ r. ⌜ SayLeaf (from given (now (store .entry)) (now (defs .entry))) (now (words .entry)) at (take count (now (values .entry))) draws r (now (area .exit)) ⌝ }
+{
+    let code = words[at];
+    if code == CODE_NAME {
+        return read_name(words, at + 1, values, count, draws, area, store);
+    }
+    if code == CODE_DEFINITION {
+        copy(definition_set(defs, words[at + 1], given), area);
+        return Read::Done(draws);
+    }
+    // a literal's code is one more than the form of its set
+    read_rows(words, at + 1, values, count, area, code - 1);
+    Read::Done(draws)
+}
+
+// Whether the row written at `row` belongs to the leaf. A name's rows and a definition's are not copied for it.
+pub fn leaf_has(
+    words: &[u32],
+    at: usize,
+    values: &[u32; 16],
+    count: usize,
+    draws: u32,
+    area: &mut [u32],
+    given: Given,
+    store: &[u32],
+    defs: &[u32],
+    row: usize,
+) -> Tested
+    requires { ⌜ AskLeaf (from given (now store) (now defs)) (now words) at (now values) count × (setRoom ≤ length (now area)) × SomeRow (now words) row ⌝ }
+    ensures { λ r. ⌜ SayLeafHas (from given (now (store .entry)) (now (defs .entry))) (now (words .entry)) at row (take count (now (values .entry))) draws r ⌝ }
+{
+    let code = words[at];
+    if code == CODE_NAME {
+        return name_has(words, at + 1, values, count, draws, store, row);
+    }
+    if code == CODE_DEFINITION {
+        let set = definition_set(defs, words[at + 1], given);
+        return told(has_row(words, row, values, count, set), draws);
+    }
+    match read_leaf(words, at, values, count, draws, area, given, store, defs) {
+        Read::Refused(n) => Tested::Refused(n),
+        Read::Done(used) => told(has_row(words, row, values, count, area), used),
+    }
+}

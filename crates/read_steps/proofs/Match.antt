@@ -1,0 +1,259 @@
+-- A pattern against a row, slot by slot.
+use Prim.Native.Nat.{ℕ, suc, _+_, _-_, _*_, _≤_, _<_}
+use mathlib.Core.Path.{_≡_, refl, sym, ap, subst, _∙_}
+use mathlib.Core.Bool.{Bool, true, false}
+use mathlib.Core.List.{List, [], _∷_, _++_}
+use mathlib.Core.Option.{Option, none, some}
+use native.Mathlib.Numerals.{add-one}
+use native.Mathlib.Omega.{arith}
+use lib.Dec.{eqb}
+use lib.ListN.{length, take, drop, getD, set, length-drop}
+use lib.Seq.{drop-cons}
+use borrow.Author.Tests.{eq-eqb, ne-eqb}
+use Rattle.rows.specs.Row.{Row}
+use Rattle.rows.specs.Layout.{rowIn, fiveAt}
+use Rattle.row_words.proofs.RowLaws.{row-at-length, row-at-atom}
+use Rattle.policy.specs.Syntax.{Term, Slot, old, new}
+use Rattle.policy.specs.Words.{termWords, slotWords, fresh}
+use Rattle.policy.specs.Held.{termOf}
+use Rattle.policy.specs.declared.Term as Held-term
+use Rattle.policy.specs.declared.Slot.the-variants.{Old, New}
+use Rattle.meaning.specs.Values.{Values, value}
+use Rattle.meaning.specs.Reading.{match}
+use Rattle.read_values.specs.Values.{Bound, Unchanged, termHeld, slotHeld}
+use Rattle.read_values.specs.Places.{At, StandsPattern, SomePattern, IsSlot}
+use Rattle.read_steps.specs.Steps.{matchedAs, SayMatch}
+use Rattle.read_values.proofs.Places.{at-word, at-next, at-skip, at-long, term-length, slots-length, slots-scope, pattern-wide}
+use Rattle.read_values.proofs.Held.{held-value}
+use Rattle.read_values.proofs.Lent.{unchanged-self, unchanged-then, unchanged-less, unchanged-bind, take-bind, bound-bind}
+
+-- a pattern and a row of another width
+match-short : (p : List Slot) (vs : Values) (x : Row) → (length p ≡ length x → ⊥) → match p vs x ≡ none
+unfolding match
+match-short [] vs [] h = absurd (h refl)
+match-short [] vs (a ∷ x) h = refl
+match-short (old t ∷ p) vs [] h = refl
+match-short (old t ∷ p) vs (a ∷ x) h = go (eqb (value vs t) a) (match-short p vs x (λ e. h (ap suc e)))
+  where
+    go : (b : Bool) → match p vs x ≡ none → _≡_ {A = Option Values} (elim b as (λ c. Option Values) [ true ↦ match p vs x | false ↦ none ]) none
+    go true e = e
+    go false e = refl
+match-short (new ∷ p) vs [] h = refl
+match-short (new ∷ p) vs (a ∷ x) h = match-short p (vs ++ (a ∷ [])) x (λ e. h (ap suc e))
+
+-- ---- slots: `left` of them stand there, n variables being in scope
+
+record SlotsLeft (ws : List ℕ) (at n left : ℕ) (p : List Slot) : Type 0 where
+  words : At ws at (slotWords n p)
+  many : length p ≡ left
+  scope : n + fresh p ≤ 16
+
+slots-inside : {n : ℕ} {ws : List ℕ} {at : ℕ} {p : List Slot} → n ≤ 16 → StandsPattern n ws at p → SlotsLeft ws (at + 1) n (getD ws at 0) p
+slots-inside {n} {ws} {at} {p} h s = record { words = at-next (s .words); many = sym (at-word (s .words)); scope = slots-scope n p h (s .fit .slots) }
+
+slots-long : {ws : List ℕ} {at n left : ℕ} {p : List Slot} → SlotsLeft ws at n left p → 0 < left → at + 2 * left ≤ length ws
+slots-long {n} {p} s h = let m = s .many in let l = slots-length n p in omega (arith, at-long (omega arith) (s .words))
+
+-- the slot that stands there is taken off the front
+record NewNext (ws : List ℕ) (at n left : ℕ) (q : List Slot) : Type 0 where
+  p : List Slot
+  is : q ≡ new ∷ p
+  rest : SlotsLeft ws (at + 2) (n + 1) (left - 1) p
+  fits : n < 16
+
+record OldNext (ws : List ℕ) (at n left : ℕ) (x : Held-term.Term) (q : List Slot) : Type 0 where
+  t : Term
+  p : List Slot
+  is : q ≡ old t ∷ p
+  held : x ≡ termHeld t
+  rest : SlotsLeft ws (at + 2) n (left - 1) p
+
+module _ {ws : List ℕ} {at n left : ℕ} where
+  new-next : {q : List Slot} → 0 < left → IsSlot ws at New → SlotsLeft ws at n left q → NewNext ws at n left q
+  unfolding slotWords slotHeld fresh
+  new-next {q} z i s = go q s
+    where
+      go : (q : List Slot) → SlotsLeft ws at n left q → NewNext ws at n left q
+      go [] s = absurd (omega (arith, s .many))
+      go (old t ∷ p) s = let e = i .is n (old t) p (s .words) in let w : _≡_ {A = ℕ} 0 1 = cc in absurd (omega arith)
+      go (new ∷ p) s =
+          let sc = s .scope in
+          let sm = s .many in
+          record { p = p; is = refl; rest = record { words = at-skip (2 ∷ n ∷ []) (slotWords (n + 1) p) (s .words); many = omega arith; scope = omega arith }; fits = omega arith }
+
+  old-next : {q : List Slot} {x : Held-term.Term} → 0 < left → IsSlot ws at (Old x) → SlotsLeft ws at n left q → OldNext ws at n left x q
+  unfolding slotWords slotHeld fresh
+  old-next {q} {x} z i s = go q s
+    where
+      go : (q : List Slot) → SlotsLeft ws at n left q → OldNext ws at n left x q
+      go [] s = absurd (omega (arith, s .many))
+      go (old t ∷ p) s =
+          let e = i .is n (old t) p (s .words) in
+          let h : x ≡ termHeld t = cc in
+          let l = term-length t in
+          let f : at + length (termWords t) ≡ at + 2 = omega arith in
+          let sm = s .many in
+          record { t = t; p = p; is = refl; held = h; rest = record { words = subst (λ (k : ℕ). At ws k (slotWords n p)) f (at-skip (termWords t) (slotWords n p) (s .words)); many = omega arith; scope = s .scope } }
+      go (new ∷ p) s = let e = i .is n new p (s .words) in let w : _≡_ {A = ℕ} 0 1 = cc in absurd (omega arith)
+
+-- ---- the slots: j of them are matched, and whatever those left come to from here, all come to from the start
+
+record Matching (ws : List ℕ) (at n : ℕ) (vs : Values) (x : Row) (width scope : ℕ) (us : Values) (j : ℕ) : Type 0 where
+  within : j ≤ width
+  p : List Slot
+  here : SlotsLeft ws (at + 1 + 2 * j) scope (width - j) p
+  means : (r : Option Values) → ((q : List Slot) → SlotsLeft ws (at + 1 + 2 * j) scope (width - j) q → match q us (drop j x) ≡ r) →
+      (q : List Slot) → SlotsLeft ws (at + 1) n width q → match q vs x ≡ r
+  count : (m : ℕ) → ((q : List Slot) → SlotsLeft ws (at + 1 + 2 * j) scope (width - j) q → m ≡ scope + fresh q) →
+      (q : List Slot) → SlotsLeft ws (at + 1) n width q → m ≡ n + fresh q
+
+matching-start : {ws : List ℕ} {at n : ℕ} {vs : Values} {x : Row} → n ≤ 16 → SomePattern n ws at → Matching ws at n vs x (getD ws at 0) n vs 0
+matching-start {ws} {at} {n} scope s =
+    let a : at + 1 ≡ at + 1 + 2 * 0 = omega arith in
+    let w : getD ws at 0 ≡ getD ws at 0 - 0 = omega arith in
+    let to : (q : List Slot) → SlotsLeft ws (at + 1) n (getD ws at 0) q → SlotsLeft ws (at + 1 + 2 * 0) n (getD ws at 0 - 0) q =
+    λ q h. subst (λ (k : ℕ). SlotsLeft ws (at + 1 + 2 * 0) n k q) w (subst (λ (k : ℕ). SlotsLeft ws k n (getD ws at 0) q) a h) in
+    record { within = omega arith; p = s .p; here = to (s .p) (slots-inside scope (s .here)); means = λ r g q h. g q (to q h); count = λ m g q h. g q (to q h) }
+
+module _ {ws : List ℕ} {at n : ℕ} {vs : Values} {x : Row} {width scope : ℕ} {us : Values} {j : ℕ} (iv : Matching ws at n vs x width scope us j) (less : j < width) where
+  moved : {n : ℕ} {p : List Slot} → SlotsLeft ws (at + 1 + 2 * j + 2) n (width - j - 1) p → SlotsLeft ws (at + 1 + 2 * (j + 1)) n (width - (j + 1)) p
+  moved {n} {p} s =
+      let a : at + 1 + 2 * j + 2 ≡ at + 1 + 2 * (j + 1) = omega arith in
+      let w : width - j - 1 ≡ width - (j + 1) = omega arith in
+      subst (λ (k : ℕ). SlotsLeft ws (at + 1 + 2 * (j + 1)) n k p) w (subst (λ (k : ℕ). SlotsLeft ws k n (width - j - 1) p) a s)
+
+  module _ {a : ℕ} (long : length x ≡ width) (atom : getD x j 0 ≡ a) where
+    here : drop j x ≡ a ∷ drop (j + 1) x
+    here = rw (add-one) (drop-cons x j 0 (omega arith) ∙ ap (λ (y : ℕ). y ∷ drop (suc j) x) atom)
+
+    matching-new : {more : Values} → IsSlot ws (at + 1 + 2 * j) New → more ≡ us ++ (a ∷ []) → Matching ws at n vs x width (scope + 1) more (j + 1)
+    unfolding match fresh
+    matching-new {more} i v =
+        let w = new-next (omega arith) i (iv .here) in
+        record {
+          within = omega arith;
+          p = w .p;
+          here = moved (w .rest);
+          means = λ z g. iv .means z (λ q s.
+              let y = new-next (omega arith) i s in
+              ap (λ (u : List Slot). match u us (drop j x)) (y .is) ∙ ap (λ (u : Row). match (new ∷ y .p) us u) here
+              ∙ ap (λ (u : Values). match (y .p) u (drop (j + 1) x)) (sym v) ∙ g (y .p) (moved (y .rest)));
+          count = λ m g. iv .count m (λ q s. let y = new-next (omega arith) i s in let e = g (y .p) (moved (y .rest)) in let f = ap fresh (y .is) in omega arith);
+        }
+
+    module _ {t : Held-term.Term} (i : IsSlot ws (at + 1 + 2 * j) (Old t)) where
+      old-match : (q : List Slot) (y : OldNext ws (at + 1 + 2 * j) scope (width - j) t q) (r : Option Values) (b : Bool) → eqb (value us (termOf t)) a ≡ b →
+          _≡_ {A = Option Values} (elim b as (λ c. Option Values) [ true ↦ match (y .p) us (drop (j + 1) x) | false ↦ none ]) r → match q us (drop j x) ≡ r
+      unfolding match
+      old-match q y r b e g =
+          ap (λ (u : List Slot). match u us (drop j x)) (y .is) ∙ ap (λ (u : Row). match (old (y .t) ∷ y .p) us u) here
+          ∙ ap (λ (c : Bool). elim c as (λ c. Option Values) [ true ↦ match (y .p) us (drop (j + 1) x) | false ↦ none ])
+          (ap (λ (u : ℕ). eqb u a) (sym (held-value us (y .t) (y .held))) ∙ e) ∙ g
+
+      matching-old : value us (termOf t) ≡ a → Matching ws at n vs x width scope us (j + 1)
+      unfolding fresh
+      matching-old e =
+          let w = old-next (omega arith) i (iv .here) in
+          record {
+            within = omega arith;
+            p = w .p;
+            here = moved (w .rest);
+            means = λ r g. iv .means r (λ q s. let y = old-next (omega arith) i s in old-match q y r true (eq-eqb _ _ e) (g (y .p) (moved (y .rest))));
+            count = λ m g. iv .count m (λ q s. let y = old-next (omega arith) i s in let k = g (y .p) (moved (y .rest)) in let f = ap fresh (y .is) in omega arith);
+          }
+
+      matching-fails : (value us (termOf t) ≡ a → ⊥) → (q : List Slot) → SlotsLeft ws (at + 1) n width q → match q vs x ≡ none
+      matching-fails e = iv .means none (λ q s. let y = old-next (omega arith) i s in old-match q y none false (ne-eqb _ _ e) refl)
+
+none-left : (x : Row) (j : ℕ) → length x ≤ j → drop j x ≡ []
+none-left x j h = short (drop j x) (omega (arith, length-drop j x))
+  where
+    short : (l : Row) → length l ≡ 0 → l ≡ []
+    short [] e = refl
+    short (y ∷ l) e = absurd (omega arith)
+
+slots-none : {ws : List ℕ} {at n : ℕ} {p : List Slot} (left : ℕ) → left ≡ 0 → SlotsLeft ws at n left p → p ≡ []
+slots-none {ws} {at} {n} {p} left z s = go p (s .many ∙ z)
+  where
+    go : (p : List Slot) → length p ≡ 0 → p ≡ []
+    go [] e = refl
+    go (y ∷ p) e = absurd (omega arith)
+
+-- ---- the loop: the values lent are those of the first scope, and behind them those of the slots passed
+
+pub record Passed (ws : List ℕ) (at : ℕ) (values : List ℕ) (count : ℕ) (area : List ℕ) (row : ℕ) (valuesNow : List ℕ) (scope j : ℕ) : Type 0 where
+  pub unchanged : Unchanged count values valuesNow
+  pub bound : Bound valuesNow scope
+  pub more : count ≤ scope
+  slots : Matching ws at count (take count values) (rowIn (fiveAt area row)) (getD ws at 0) scope (take scope valuesNow) j
+
+pub passed-start : {ws : List ℕ} {at : ℕ} {values : List ℕ} {count : ℕ} {area : List ℕ} {row : ℕ} → Bound values count → SomePattern count ws at → Passed ws at values count area row values count 0
+passed-start b s = record { unchanged = unchanged-self; bound = b; more = omega arith; slots = matching-start (b .scope) s }
+
+-- a row of the pattern's width, read from the words at its place
+pub record Fits (ws : List ℕ) (at : ℕ) (area : List ℕ) (row : ℕ) : Type 0 where
+  pub long : length (rowIn (fiveAt area row)) ≡ getD ws at 0
+  pub atom : (j : ℕ) → j < getD ws at 0 → getD (rowIn (fiveAt area row)) j 0 ≡ getD area (row + 1 + j) 0
+
+pub same-width : (ws : List ℕ) (at : ℕ) (area : List ℕ) (row : ℕ) → row + 5 ≤ length area → getD area row 0 ≤ 4 → getD area row 0 ≡ getD ws at 0 → Fits ws at area row
+same-width ws at area row room few e = record { long = row-at-length area row room few ∙ e; atom = λ j h. row-at-atom area row j few (omega arith) }
+
+-- rows of another width do not match
+pub other-width : {ws : List ℕ} {at : ℕ} {values : List ℕ} {count : ℕ} (area : List ℕ) (row : ℕ) → row + 5 ≤ length area → getD area row 0 ≤ 4 → (getD area row 0 ≡ getD ws at 0 → ⊥) →
+    SayMatch ws at values count (rowIn (fiveAt area row)) (record { ok = false; count = count }) values
+unfolding matchedAs
+other-width {values} {count} area row room few h = record {
+  unchanged = unchanged-self;
+  means = λ p s.
+      let w = pattern-wide s .width in
+      match-short p (take count values) (rowIn (fiveAt area row)) (λ e. h (sym (row-at-length area row room few) ∙ sym e ∙ sym w));
+  scope = λ p s e. let w : _≡_ {A = ℕ} 0 1 = cc in absurd (omega arith);
+}
+
+module _ {ws : List ℕ} {at : ℕ} {values : List ℕ} {count : ℕ} {area : List ℕ} {row : ℕ} {valuesNow : List ℕ} {scope j : ℕ} (iv : Passed ws at values count area row valuesNow scope j) where
+  pub slot-inside : j < getD ws at 0 → at + 1 + 2 * j + 2 ≤ length ws
+  slot-inside less = let w = slots-long (iv .slots .here) (omega arith) in omega arith
+
+  pub new-scope : j < getD ws at 0 → IsSlot ws (at + 1 + 2 * j) New → scope < 16
+  new-scope less i = new-next (omega arith) i (iv .slots .here) .fits
+
+  module _ (fits : Fits ws at area row) where
+    pub passed-new : j < getD ws at 0 → IsSlot ws (at + 1 + 2 * j) New → Passed ws at values count area row (set valuesNow scope (getD area (row + 1 + j) 0)) (scope + 1) (j + 1)
+    passed-new less i =
+        let more = iv .more in
+        let inside = new-scope less i in
+        let long = iv .bound .long in
+        record {
+          unchanged = unchanged-then (iv .unchanged) (unchanged-less more (unchanged-bind valuesNow scope _));
+          bound = bound-bind valuesNow scope _ inside (iv .bound);
+          more = omega arith;
+          slots = matching-new (iv .slots) less (fits .long) (fits .atom j less) i (take-bind valuesNow scope _ (omega arith));
+        }
+
+    pub passed-old : {t : Held-term.Term} → j < getD ws at 0 → IsSlot ws (at + 1 + 2 * j) (Old t) → value (take scope valuesNow) (termOf t) ≡ getD area (row + 1 + j) 0 →
+        Passed ws at values count area row valuesNow scope (j + 1)
+    passed-old less i e =
+        record { unchanged = iv .unchanged; bound = iv .bound; more = iv .more; slots = matching-old (iv .slots) less (fits .long) (fits .atom j less) i e }
+
+    module _ (b : Bound values count) where
+      pub mismatched : {t : Held-term.Term} → j < getD ws at 0 → IsSlot ws (at + 1 + 2 * j) (Old t) → (value (take scope valuesNow) (termOf t) ≡ getD area (row + 1 + j) 0 → ⊥) →
+          SayMatch ws at values count (rowIn (fiveAt area row)) (record { ok = false; count = count }) valuesNow
+      unfolding matchedAs
+      mismatched less i e = record {
+        unchanged = iv .unchanged;
+        means = λ p s. matching-fails (iv .slots) less (fits .long) (fits .atom j less) i e p (slots-inside (b .scope) s);
+        scope = λ p s w. let z : _≡_ {A = ℕ} 0 1 = cc in absurd (omega arith);
+      }
+
+      pub matched : getD ws at 0 ≤ j → SayMatch ws at values count (rowIn (fiveAt area row)) (record { ok = true; count = scope }) valuesNow
+      unfolding match fresh matchedAs
+      matched h =
+          let long = fits .long in
+          let x : Row = rowIn (fiveAt area row) in
+          let empty : (q : List Slot) → SlotsLeft ws (at + 1 + 2 * j) scope (getD ws at 0 - j) q → q ≡ [] = λ q l. slots-none (getD ws at 0 - j) (omega arith) l in
+          record {
+            unchanged = iv .unchanged;
+            means = λ p s. iv .slots .means (some (take scope valuesNow)) (λ q l.
+                ap (λ (u : List Slot). match u (take scope valuesNow) (drop j x)) (empty q l) ∙ ap (λ (u : Row). match [] (take scope valuesNow) u) (none-left x j (omega arith))) p (slots-inside (b .scope) s);
+            scope = λ p s e. iv .slots .count scope (λ q l. let f = ap fresh (empty q l) in omega arith) p (slots-inside (b .scope) s);
+          }

@@ -1,0 +1,184 @@
+-- The term, slot or guard that the code holds is the one that stands in the words.
+use Prim.Native.Nat.{ℕ, _+_, _≤_, _<_}
+use mathlib.Core.Path.{_≡_, refl, sym, ap, subst, _∙_}
+use mathlib.Core.Logic.{_⊎_, inl, inr}
+use mathlib.Core.Bool.{false, not}
+use mathlib.Core.List.{List, _∷_, _++_}
+use native.Mathlib.Omega.{arith}
+use lib.Dec.{eqb}
+use lib.ListN.{length, take, getD, length-take, List·getD-eq-default}
+use lib.Seq.{getD-take}
+use Rattle.policy.specs.Syntax.{Term, atom, var, Slot, old, new, Body, head, draw, same, different, absent}
+use Rattle.policy.specs.Words.{termWords, slotWords, guardCount, exprWords, bodyWords}
+use Rattle.policy.specs.Held.{termOf}
+use Rattle.meaning.specs.Values.{Values, value}
+use Rattle.read_values.specs.Values.{termHeld, slotHeld, guardHeld, passing}
+use Rattle.read_values.specs.Places.{At, SomeGuard, IsTerm, IsSlot, IsGuard}
+use Rattle.read_values.proofs.Places.{at-word, at-next, at-front, at-long, body-some, two-terms}
+use Rattle.policy.specs.declared.Term as Held-term
+use Rattle.policy.specs.declared.Term.the-variants.{Atom, Variable}
+use Rattle.policy.specs.declared.Slot as Held-slot
+use Rattle.policy.specs.declared.Slot.the-variants.{Old, New}
+use Rattle.policy.specs.declared.Guard as Held-guard
+use Rattle.policy.specs.declared.Guard.the-variants.{Draw, Same, Different, Absent}
+use Rattle.policy.proofs.Guard.{the-type}
+use denote.Enum.Declared.{tagOf}
+
+-- ---- values
+
+module _ {x : Held-term.Term} {v : ℕ} where
+  pub value-atom : (vs : Values) → x ≡ Atom v → v ≡ value vs (termOf x)
+  unfolding value termOf
+  value-atom vs is = rw is refl
+
+  module _ {i : ℕ} (values : List ℕ) (count : ℕ) (is : x ≡ Variable v) (index : i ≡ v) where
+    pub value-in : i < count → getD values i 0 ≡ value (take count values) (termOf x)
+    unfolding value termOf
+    value-in h = rw (is, ← index) (sym (getD-take count values i 0 h))
+
+    pub value-out : count ≤ i → 0 ≡ value (take count values) (termOf x)
+    unfolding value termOf
+    value-out h = rw (is, ← index) (sym (List·getD-eq-default (take count values) 0 {n = i} (omega (arith, length-take count values))))
+
+term-back : (t : Term) → termOf (termHeld t) ≡ t
+unfolding termOf termHeld
+term-back (atom a) = refl
+term-back (var i) = refl
+
+-- the value of a term is that of the term held
+pub held-value : (vs : Values) {x : Held-term.Term} (t : Term) → x ≡ termHeld t → value vs (termOf x) ≡ value vs t
+held-value vs t h = ap (λ (y : Held-term.Term). value vs (termOf y)) h ∙ ap (value vs) (term-back t)
+
+-- whether a comparison passes, from the two atoms
+module _ (vs : Values) {x y : Held-term.Term} {a b : ℕ} (first : a ≡ value vs (termOf x)) (second : b ≡ value vs (termOf y)) {g : Held-guard.Guard} where
+  pub same-passes : g ≡ Same x y → eqb a b ≡ passing vs g
+  unfolding passing
+  same-passes e = rw (first, second, e) refl
+
+  pub different-passes : g ≡ Different x y → not (eqb a b) ≡ passing vs g
+  unfolding passing
+  different-passes e = rw (first, second, e) refl
+
+pub none-passes : (vs : Values) (g : Held-guard.Guard) → (tagOf the-type g ≡ 0) ⊎ (tagOf the-type g ≡ 3) → false ≡ passing vs g
+unfolding passing
+none-passes vs Draw t = refl
+none-passes vs (Same x y) (inl e) = absurd (omega (arith, e))
+none-passes vs (Same x y) (inr e) = absurd (omega (arith, e))
+none-passes vs (Different x y) (inl e) = absurd (omega (arith, e))
+none-passes vs (Different x y) (inr e) = absurd (omega (arith, e))
+none-passes vs Absent t = refl
+
+-- ---- terms, slots and guards
+
+module _ {ws : List ℕ} {at : ℕ} where
+  pub is-atom : getD ws at 0 ≡ 0 → IsTerm ws at (Atom (getD ws (at + 1) 0))
+  unfolding termWords termHeld
+  is-atom z = record { is = λ t h. go t h }
+    where
+      go : (t : Term) → At ws at (termWords t) → Atom (getD ws (at + 1) 0) ≡ termHeld t
+      go (atom a) h = ap Atom (at-word (at-next h))
+      go (var i) h = absurd (omega (arith, at-word h))
+
+  pub is-variable : (getD ws at 0 ≡ 0 → ⊥) → IsTerm ws at (Variable (getD ws (at + 1) 0))
+  unfolding termWords termHeld
+  is-variable z = record { is = λ t h. go t h }
+    where
+      go : (t : Term) → At ws at (termWords t) → Variable (getD ws (at + 1) 0) ≡ termHeld t
+      go (atom a) h = absurd (z (at-word h))
+      go (var i) h = ap Variable (at-word (at-next h))
+
+  -- a slot that is a term has its tag
+  old-tag : (t : Term) (rest : List ℕ) → At ws at (termWords t ++ rest) → getD ws at 0 ≤ 1
+  unfolding termWords
+  old-tag (atom a) rest h = omega (arith, at-word h)
+  old-tag (var i) rest h = omega (arith, at-word h)
+
+  pub is-new : getD ws at 0 ≡ 2 → IsSlot ws at New
+  unfolding slotWords slotHeld
+  is-new z = record { is = λ n s p h. go n s p h }
+    where
+      go : (n : ℕ) (s : Slot) (p : List Slot) → At ws at (slotWords n (s ∷ p)) → New ≡ slotHeld s
+      go n (old t) p h = absurd (omega (arith, old-tag t (slotWords n p) h))
+      go n new p h = refl
+
+  pub is-old : (getD ws at 0 ≡ 2 → ⊥) → (x : Held-term.Term) → IsTerm ws at x → IsSlot ws at (Old x)
+  unfolding slotWords slotHeld
+  is-old z x i = record { is = λ n s p h. go n s p h }
+    where
+      go : (n : ℕ) (s : Slot) (p : List Slot) → At ws at (slotWords n (s ∷ p)) → Old x ≡ slotHeld s
+      go n (old t) p h = ap Old (i .is t (at-front (termWords t) (slotWords n p) h))
+      go n new p h = absurd (z (at-word h))
+
+  pub slot-told : {s t : Held-slot.Slot} → IsSlot ws at s → s ≡ t → IsSlot ws at t
+  slot-told i e = subst (IsSlot ws at) e i
+
+  pub guard-told : {g h : Held-guard.Guard} → IsGuard ws at g → g ≡ h → IsGuard ws at h
+  guard-told i e = subst (IsGuard ws at) e i
+
+  pub guard-inside : SomeGuard ws at → at < length ws
+  guard-inside s = omega (arith, body-some (s .b) (s .n), at-long (body-some (s .b) (s .n)) (s .words))
+
+  -- two terms stand in a guard that is neither a draw nor absent
+  pub guard-terms : SomeGuard ws at → (getD ws at 0 ≡ 1 → ⊥) → (getD ws at 0 ≡ 4 → ⊥) → at + 5 ≤ length ws
+  unfolding exprWords guardCount
+  guard-terms s t u = go (s .n) (s .b) (s .some) (s .words)
+    where
+      go : (n : ℕ) (b : Body) → 1 ≤ guardCount b → At ws at (bodyWords b n) → at + 5 ≤ length ws
+      go n (head r) z h = absurd (omega arith)
+      go n (draw e p b) z h = absurd (t (at-word h))
+      go n (same x y b) z h = two-terms 2 x y (bodyWords b n) h .inside
+      go n (different x y b) z h = two-terms 3 x y (bodyWords b n) h .inside
+      go n (absent r e b) z h = absurd (u (at-word h))
+
+  pub is-draw : getD ws at 0 ≡ 1 → IsGuard ws at Draw
+  unfolding exprWords guardCount guardHeld
+  is-draw t = record { is = λ n b z h. go n b z h }
+    where
+      go : (n : ℕ) (b : Body) → 1 ≤ guardCount b → At ws at (bodyWords b n) → Draw ≡ guardHeld b
+      go n (head r) z h = absurd (omega arith)
+      go n (draw e p b) z h = refl
+      go n (same x y b) z h = absurd (omega (arith, at-word h))
+      go n (different x y b) z h = absurd (omega (arith, at-word h))
+      go n (absent r e b) z h = absurd (omega (arith, at-word h))
+
+  pub is-absent : getD ws at 0 ≡ 4 → IsGuard ws at Absent
+  unfolding exprWords guardCount guardHeld
+  is-absent t = record { is = λ n b z h. go n b z h }
+    where
+      go : (n : ℕ) (b : Body) → 1 ≤ guardCount b → At ws at (bodyWords b n) → Absent ≡ guardHeld b
+      go n (head r) z h = absurd (omega arith)
+      go n (draw e p b) z h = absurd (omega (arith, at-word h))
+      go n (same x y b) z h = absurd (omega (arith, at-word h))
+      go n (different x y b) z h = absurd (omega (arith, at-word h))
+      go n (absent r e b) z h = refl
+
+  module _ {x y : Held-term.Term} (first : IsTerm ws (at + 1) x) (second : IsTerm ws (at + 3) y) where
+    pub is-same : getD ws at 0 ≡ 2 → IsGuard ws at (Same x y)
+    unfolding exprWords guardCount guardHeld
+    is-same t = record { is = λ n b z h. go n b z h }
+      where
+        go : (n : ℕ) (b : Body) → 1 ≤ guardCount b → At ws at (bodyWords b n) → Same x y ≡ guardHeld b
+        go n (head r) z h = absurd (omega arith)
+        go n (draw e p b) z h = absurd (omega (arith, at-word h))
+        go n (same u v b) z h =
+            let q = two-terms 2 u v (bodyWords b n) h in
+            let f : x ≡ termHeld u = first .is u (q .first) in
+            let g : y ≡ termHeld v = second .is v (q .second) in
+            cc
+        go n (different u v b) z h = absurd (omega (arith, at-word h))
+        go n (absent r e b) z h = absurd (omega (arith, at-word h))
+
+    pub is-different : (getD ws at 0 ≡ 1 → ⊥) → (getD ws at 0 ≡ 2 → ⊥) → (getD ws at 0 ≡ 4 → ⊥) → IsGuard ws at (Different x y)
+    unfolding exprWords guardCount guardHeld
+    is-different t k m = record { is = λ n b z h. go n b z h }
+      where
+        go : (n : ℕ) (b : Body) → 1 ≤ guardCount b → At ws at (bodyWords b n) → Different x y ≡ guardHeld b
+        go n (head r) z h = absurd (omega arith)
+        go n (draw e p b) z h = absurd (t (at-word h))
+        go n (same u v b) z h = absurd (k (at-word h))
+        go n (different u v b) z h =
+            let q = two-terms 3 u v (bodyWords b n) h in
+            let f : x ≡ termHeld u = first .is u (q .first) in
+            let g : y ≡ termHeld v = second .is v (q .second) in
+            cc
+        go n (absent r e b) z h = absurd (m (at-word h))

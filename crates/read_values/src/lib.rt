@@ -1,0 +1,164 @@
+// Terms, slots, guards and rows of terms that stand in the words, and what they come to. The values of the variables in scope are the first `count` of the
+// sixteen that the readers lend each other, variable 0 first.
+pub mod skip;
+
+ghost use mathlib.Core.Path.{_≡_};
+ghost use Prim.Native.Nat.{_+_, _≤_};
+ghost use lib.ListN.{length, take};
+ghost use Rattle.policy.specs.Held.{termOf};
+ghost use Rattle.meaning.specs.Reading.{tick};
+ghost use Rattle.meaning.specs.Values.{value};
+ghost use Rattle.read_values.specs.Values.{Bound, passing};
+ghost use Rattle.read_values.specs.Places.{IsTerm, IsSlot, IsGuard, SomeRow, SomeGuard};
+ghost use Rattle.read_values.specs.Rows.{SayAtom, SayRow};
+ghost use Rattle.read_values.specs.Answers.{ticked, testedAnswer};
+ghost use Rattle.meaning.specs.Reading.{done};
+use policy::GUARD_ABSENT;
+use policy::GUARD_DRAW;
+use policy::GUARD_SAME;
+use policy::Guard;
+use policy::Slot;
+use policy::TAG_ATOM;
+use policy::TAG_NEW;
+use policy::Term;
+use refusals::TOO_MANY_DRAWS;
+use row_words::row::Row;
+use row_words::row::wide;
+
+// The numbers that stay the same through a reading: how many definitions were read before.
+pub struct Given {
+    pub known: usize,
+}
+
+// The draws made so far, or the number of a refusal.
+pub enum Read {
+    Done(u32),
+    Refused(u32),
+}
+
+// Whether a row belongs to an expression, with the draws made so far; or the number of a refusal.
+pub enum Tested {
+    Has(u32),
+    Lacks(u32),
+    Refused(u32),
+}
+
+const MOST_DRAWS: u32 = 1000000;
+
+// One draw more, unless as many were made as may be.
+pub fn tick(draws: u32) -> Read
+    ensures { λ r. ⌜ ticked r ≡ tick draws ⌝ }
+{
+    if MOST_DRAWS <= draws {
+        return Read::Refused(TOO_MANY_DRAWS);
+    }
+    Read::Done(draws + 1)
+}
+
+pub fn told(has: bool, draws: u32) -> Tested
+    ensures { λ r. ⌜ testedAnswer r ≡ done has draws ⌝ }
+{
+    if has {
+        Tested::Has(draws)
+    } else {
+        Tested::Lacks(draws)
+    }
+}
+
+pub fn term_at(words: &[u32], at: usize) -> Term
+    requires { ⌜ at + 2 ≤ length (now words) ⌝ }
+    ensures { λ r. ⌜ IsTerm (now (words .entry)) at r ⌝ }
+{
+    let word = words[at + 1];
+    if words[at] == TAG_ATOM {
+        Term::Atom(word)
+    } else {
+        Term::Variable(word)
+    }
+}
+
+pub fn slot_at(words: &[u32], at: usize) -> Slot
+    requires { ⌜ at + 2 ≤ length (now words) ⌝ }
+    ensures { λ r. ⌜ IsSlot (now (words .entry)) at r ⌝ }
+{
+    if words[at] == TAG_NEW {
+        return Slot::New;
+    }
+    let term = term_at(words, at);
+    Slot::Old(term)
+}
+
+pub fn guard_at(words: &[u32], at: usize) -> Guard
+    requires { ⌜ SomeGuard (now words) at ⌝ }
+    ensures { λ r. ⌜ IsGuard (now (words .entry)) at r ⌝ }
+{
+    let code = words[at];
+    if code == GUARD_DRAW {
+        return Guard::Draw;
+    }
+    if code == GUARD_ABSENT {
+        return Guard::Absent;
+    }
+    let x = term_at(words, at + 1);
+    let y = term_at(words, at + 3);
+    if code == GUARD_SAME {
+        Guard::Same(x, y)
+    } else {
+        Guard::Different(x, y)
+    }
+}
+
+// What a term comes to; a checked one names a variable in scope.
+pub fn value_of(values: &[u32; 16], count: usize, term: Term) -> u32
+    requires { ⌜ Bound (now values) count ⌝ }
+    ensures { λ r. ⌜ r ≡ value (take count (now (values .entry))) (termOf term) ⌝ }
+{
+    match term {
+        Term::Atom(a) => a,
+        Term::Variable(v) => {
+            let i = wide(v);
+            if i < count { values[i] } else { 0 }
+        }
+    }
+}
+
+// Whether a comparison passes: the two atoms are equal, or differ. A draw and an absent guard compare nothing; of them it says no.
+pub fn passes(values: &[u32; 16], count: usize, guard: Guard) -> bool
+    requires { ⌜ Bound (now values) count ⌝ }
+    ensures { λ r. ⌜ r ≡ passing (take count (now (values .entry))) guard ⌝ }
+{
+    match guard {
+        Guard::Same(x, y) => value_of(values, count, x) == value_of(values, count, y),
+        Guard::Different(x, y) => value_of(values, count, x) != value_of(values, count, y),
+        Guard::Draw | Guard::Absent => false,
+    }
+}
+
+// What term `j` of a row of terms comes to; 0 behind the last.
+pub fn atom_of(words: &[u32], at: usize, values: &[u32; 16], count: usize, j: usize) -> u32
+    requires { ⌜ Bound (now values) count × SomeRow (now words) at ⌝ }
+    ensures { λ r. ⌜ SayAtom (now (words .entry)) at (take count (now (values .entry))) j r ⌝ }
+{
+    let width = words[at];
+    if wide(width) <= j {
+        return 0;
+    }
+    let term = term_at(words, at + 1 + 2 * j);
+    value_of(values, count, term)
+}
+
+// The row that the terms come to. Its atoms are not written one by one: a processor waits where words written apart are read back together.
+pub fn row_of(words: &[u32], at: usize, values: &[u32; 16], count: usize) -> Row
+    requires { ⌜ Bound (now values) count × SomeRow (now words) at ⌝ }
+    ensures { λ r. ⌜ SayRow (now (words .entry)) at (take count (now (values .entry))) r ⌝ }
+{
+    let width = words[at];
+    let a = atom_of(words, at, values, count, 0);
+    let b = atom_of(words, at, values, count, 1);
+    let c = atom_of(words, at, values, count, 2);
+    let d = atom_of(words, at, values, count, 3);
+    Row {
+        width: width,
+        atoms: [a, b, c, d],
+    }
+}

@@ -1,0 +1,293 @@
+-- A row in words and in hand, and which of two comes first.
+use Prim.Native.Nat.{ℕ, zero, suc, _+_, _-_, _≤_, _<_}
+use mathlib.Core.Path.{_≡_, refl, sym, _∙_, ap}
+use mathlib.Core.Bool.{true, false}
+use mathlib.Core.List.{List, [], _∷_, _++_}
+use native.Mathlib.Omega.{arith}
+use lib.ListN.{length, getD, take, drop, replicate, length-drop, getD-replicate, List·getD-append}
+use lib.Seq.{drop-cons, getD-take, getD-drop, getD-append-add, take-suc, take-all, length-take-le}
+use borrow.Author.Tests.{le-leb, lt-leb}
+use Rattle.rows.specs.Ordered.{wordsBefore}
+use Rattle.rows.specs.Row.{Row, rowBefore}
+use Rattle.rows.specs.Layout.{rowIn, rowWords, fiveAt, zeros, soundRow}
+use Rattle.row_words.specs.Values.{wordsOf, rowOf, orderOf}
+use Rattle.row_words.specs.declared.row.Row as Held
+use Rattle.row_words.specs.declared.row.Order.the-variants.{Before, Same, After}
+use Rattle.rows.proofs.Case.{Case, isTrue, isFalse, split, never}
+use Rattle.rows.proofs.LayoutLaws.{row-length, sound-width}
+use Rattle.rows.proofs.Scan.{and-true-left, and-false-left, zeros-next, zeros-fails, zeros-end}
+use Rattle.rows.proofs.Order.{step-less, step-equal, row-order}
+
+-- ---- five words
+
+drop-next : (ws : List ℕ) (at next : ℕ) → next ≡ suc at → at < length ws → drop at ws ≡ getD ws at 0 ∷ drop next ws
+drop-next ws at next e h = rw e (drop-cons ws at 0 h)
+
+pub five-words : (ws : List ℕ) (at : ℕ) → at + 5 ≤ length ws → fiveAt ws at ≡ getD ws at 0 ∷ getD ws (at + 1) 0 ∷ getD ws (at + 2) 0 ∷ getD ws (at + 3) 0 ∷ getD ws (at + 4) 0 ∷ []
+five-words ws at h =
+    let a = drop-next ws at (at + 1) (omega arith) (omega arith) in
+    let b = drop-next ws (at + 1) (at + 2) (omega arith) (omega arith) in
+    let c = drop-next ws (at + 2) (at + 3) (omega arith) (omega arith) in
+    let d = drop-next ws (at + 3) (at + 4) (omega arith) (omega arith) in
+    let e = drop-next ws (at + 4) (at + 5) (omega arith) (omega arith) in
+    rw (a, b, c, d, e)
+
+pub five-length : (ws : List ℕ) (at : ℕ) → at + 5 ≤ length ws → length (fiveAt ws at) ≡ 5
+five-length ws at h = length-take-le 5 (drop at ws) (omega (arith, length-drop at ws))
+
+pub five-at : (ws : List ℕ) (at i : ℕ) → i < 5 → getD (fiveAt ws at) i 0 ≡ getD ws (at + i) 0
+five-at ws at i h = getD-take 5 (drop at ws) i 0 h ∙ getD-drop at ws i 0
+
+pub five-width : (ws : List ℕ) (at : ℕ) → getD (fiveAt ws at) 0 0 ≡ getD ws at 0
+five-width ws at = let e : at + 0 ≡ at = omega arith in five-at ws at 0 (omega arith) ∙ ap (λ (k : ℕ). getD ws k 0) e
+
+-- a row of five words: its width and its atoms
+pub row-in-length : (ws : List ℕ) → length ws ≡ 5 → getD ws 0 0 ≤ 4 → length (rowIn ws) ≡ getD ws 0 0
+unfolding rowIn
+row-in-length ws l h = length-take-le (getD ws 0 0) (drop 1 ws) (omega (arith, length-drop 1 ws))
+
+pub row-in-atom : (ws : List ℕ) (j : ℕ) → j < getD ws 0 0 → getD (rowIn ws) j 0 ≡ getD ws (1 + j) 0
+unfolding rowIn
+row-in-atom ws j h = getD-take (getD ws 0 0) (drop 1 ws) j 0 h ∙ getD-drop 1 ws j 0
+
+-- the row whose five words stand at a place
+pub row-at-length : (ws : List ℕ) (at : ℕ) → at + 5 ≤ length ws → getD ws at 0 ≤ 4 → length (rowIn (fiveAt ws at)) ≡ getD ws at 0
+row-at-length ws at room few = let e = five-width ws at in row-in-length (fiveAt ws at) (five-length ws at room) (omega arith) ∙ e
+
+pub row-at-atom : (ws : List ℕ) (at j : ℕ) → getD ws at 0 ≤ 4 → j < getD ws at 0 → getD (rowIn (fiveAt ws at)) j 0 ≡ getD ws (at + 1 + j) 0
+row-at-atom ws at j few h =
+    let e = five-width ws at in
+    let s : at + (1 + j) ≡ at + 1 + j = omega arith in
+    row-in-atom (fiveAt ws at) j (omega arith) ∙ five-at ws at (1 + j) (omega arith) ∙ ap (λ (k : ℕ). getD ws k 0) s
+
+pub sound-narrow : (ws : List ℕ) (at : ℕ) → soundRow (fiveAt ws at) ≡ true → getD ws at 0 ≤ 4
+sound-narrow ws at e = let s = sound-width (fiveAt ws at) e .few in omega (arith, five-width ws at)
+
+-- is it a sound row? the words from `j` on are still to be looked at
+pub record Looked (ws : List ℕ) (at j : ℕ) : Type 0 where
+  pub within : j ≤ 4
+  pub rest : soundRow (fiveAt ws at) ≡ zeros (drop j (drop 1 (fiveAt ws at)))
+
+module _ (ws : List ℕ) (at : ℕ) (room : at + 5 ≤ length ws) where
+  pub no-width : getD ws at 0 < 1 → soundRow (fiveAt ws at) ≡ false
+  unfolding soundRow
+  no-width h = and-false-left _ _ (lt-leb 1 (getD (fiveAt ws at) 0 0) (omega (arith, five-width ws at)))
+
+  pub too-wide : 4 < getD ws at 0 → soundRow (fiveAt ws at) ≡ false
+  unfolding soundRow
+  too-wide h =
+      let w = five-width ws at in
+      and-true-left _ _ (le-leb 1 (getD (fiveAt ws at) 0 0) (omega arith)) ∙ and-false-left _ _ (lt-leb (getD (fiveAt ws at) 0 0) 4 (omega arith))
+
+  pub looked-start : (j : ℕ) → j ≡ getD ws at 0 → 1 ≤ j → j ≤ 4 → Looked ws at j
+  unfolding soundRow
+  looked-start j e a b =
+      let w = five-width ws at in
+      record {
+        within = b;
+        rest = and-true-left _ _ (le-leb 1 (getD (fiveAt ws at) 0 0) (omega arith)) ∙ and-true-left _ _ (le-leb (getD (fiveAt ws at) 0 0) 4 (omega arith))
+            ∙ ap (λ (k : ℕ). zeros (drop k (drop 1 (fiveAt ws at)))) (w ∙ sym e);
+      }
+
+  atoms-length : length (drop 1 (fiveAt ws at)) ≡ 4
+  atoms-length = omega (arith, length-drop 1 (fiveAt ws at), five-length ws at room)
+
+  module _ (j : ℕ) (l : Looked ws at j) where
+    pub looked-end : 4 ≤ j → soundRow (fiveAt ws at) ≡ true
+    looked-end h = l .rest ∙ zeros-end (drop 1 (fiveAt ws at)) j (omega (arith, atoms-length))
+
+    module _ (h : j < 4) where
+      atom-word : getD (drop 1 (fiveAt ws at)) j 0 ≡ getD ws (at + 1 + j) 0
+      atom-word =
+          let e : at + (1 + j) ≡ at + 1 + j = omega arith in
+          getD-drop 1 (fiveAt ws at) j 0 ∙ five-at ws at (1 + j) (omega arith) ∙ ap (λ (k : ℕ). getD ws k 0) e
+
+      pub looked-next : getD ws (at + 1 + j) 0 ≡ 0 → Looked ws at (j + 1)
+      looked-next e = record { within = omega arith; rest = l .rest ∙ zeros-next (drop 1 (fiveAt ws at)) j (omega (arith, atoms-length)) (atom-word ∙ e) }
+
+      pub looked-fails : (getD ws (at + 1 + j) 0 ≡ 0 → ⊥) → soundRow (fiveAt ws at) ≡ false
+      looked-fails e = l .rest ∙ zeros-fails (drop 1 (fiveAt ws at)) j (omega (arith, atoms-length)) (λ z. e (sym atom-word ∙ z))
+
+-- ---- which comes first
+
+pub first-differs : (x y : List ℕ) (j : ℕ) → take j x ≡ take j y → j < length x → j < length y → getD x j 0 < getD y j 0 → wordsBefore x y ≡ true
+unfolding wordsBefore
+first-differs [] y j e h k l = absurd (omega arith)
+first-differs (a ∷ x) [] j e h k l = absurd (omega arith)
+first-differs (a ∷ x) (b ∷ y) zero e h k l = step-less a b (wordsBefore x y) l
+first-differs (a ∷ x) (b ∷ y) (suc j) e h k l =
+    let f : a ≡ b = cc in
+    let g : take j x ≡ take j y = cc in
+    step-equal a b (wordsBefore x y) f ∙ first-differs x y j g (omega arith) (omega arith) l
+
+module _ (x y : Row) where
+  pub order-before : rowBefore x y ≡ true → orderOf x y ≡ Before
+  unfolding orderOf
+  order-before e = rw (e, orderOf)
+
+  pub order-after : rowBefore y x ≡ true → orderOf x y ≡ After
+  unfolding orderOf
+  order-after e = go (split (rowBefore x y))
+    where
+      go : Case (rowBefore x y) → orderOf x y ≡ After
+      go (isTrue f) = never (row-order .transitive x y x f e) (row-order .irreflexive x)
+      go (isFalse f) = rw (f, e, orderOf)
+
+  pub order-same : x ≡ y → orderOf x y ≡ Same
+  unfolding orderOf
+  order-same e =
+      let f : rowBefore x y ≡ false = ap (rowBefore x) (sym e) ∙ row-order .irreflexive x in
+      let g : rowBefore y x ≡ false = ap (rowBefore y) e ∙ row-order .irreflexive y in
+      rw (f, g, orderOf)
+
+  -- and back
+  pub before-order : orderOf x y ≡ Before → rowBefore x y ≡ true
+  unfolding orderOf
+  before-order e = go (split (rowBefore x y)) (split (rowBefore y x))
+    where
+      go : Case (rowBefore x y) → Case (rowBefore y x) → rowBefore x y ≡ true
+      go (isTrue f) g = f
+      go (isFalse f) (isTrue g) = let h = rw (f, g, orderOf) at e in let z : _≡_ {A = ℕ} 0 1 = cc in absurd (omega arith)
+      go (isFalse f) (isFalse g) = let h = rw (f, g, orderOf) at e in let z : _≡_ {A = ℕ} 0 1 = cc in absurd (omega arith)
+
+  pub after-order : orderOf x y ≡ After → rowBefore y x ≡ true
+  unfolding orderOf
+  after-order e = go (split (rowBefore x y)) (split (rowBefore y x))
+    where
+      go : Case (rowBefore x y) → Case (rowBefore y x) → rowBefore y x ≡ true
+      go (isTrue f) g = let h = rw (f, orderOf) at e in let z : _≡_ {A = ℕ} 0 1 = cc in absurd (omega arith)
+      go (isFalse f) (isTrue g) = g
+      go (isFalse f) (isFalse g) = let h = rw (f, g, orderOf) at e in let z : _≡_ {A = ℕ} 0 1 = cc in absurd (omega arith)
+
+  pub same-order : orderOf x y ≡ Same → x ≡ y
+  unfolding orderOf
+  same-order e = go (split (rowBefore x y)) (split (rowBefore y x))
+    where
+      go : Case (rowBefore x y) → Case (rowBefore y x) → x ≡ y
+      go (isTrue f) g = let h = rw (f, orderOf) at e in let z : _≡_ {A = ℕ} 0 1 = cc in absurd (omega arith)
+      go (isFalse f) (isTrue g) = let h = rw (f, g, orderOf) at e in let z : _≡_ {A = ℕ} 0 1 = cc in absurd (omega arith)
+      go (isFalse f) (isFalse g) = row-order .total x y f g
+
+  -- narrower, or wider
+  pub narrower : length x < length y → rowBefore x y ≡ true
+  unfolding rowBefore
+  narrower h = step-less (length x) (length y) (wordsBefore x y) h
+
+pub not-before : (x y : Row) → rowBefore y x ≡ true → rowBefore x y ≡ false
+not-before x y e = go (split (rowBefore x y))
+  where
+    go : Case (rowBefore x y) → rowBefore x y ≡ false
+    go (isTrue f) = never (row-order .transitive x y x f e) (row-order .irreflexive x)
+    go (isFalse f) = f
+
+-- the first atoms of two rows of one width are the same
+pub record Agree (x y : Row) (j : ℕ) : Type 0 where
+  pub width : length x ≡ length y
+  pub within : j ≤ length x
+  pub front : take j x ≡ take j y
+
+pub agree-start : (x y : Row) → length x ≡ length y → Agree x y 0
+agree-start x y e = record { width = e; within = omega arith; front = refl }
+
+pub agree-next : (x y : Row) (j : ℕ) → Agree x y j → j < length x → getD x j 0 ≡ getD y j 0 → Agree x y (j + 1)
+agree-next x y j a h e =
+    let w = a .width in
+    let s : j + 1 ≡ suc j = omega arith in
+    let f : take j x ≡ take j y = a .front in
+    let p : take (suc j) x ≡ take j x ++ (getD x j 0 ∷ []) = take-suc x j 0 h in
+    let q : take (suc j) y ≡ take j y ++ (getD y j 0 ∷ []) = take-suc y j 0 (omega arith) in
+    record { width = a .width; within = omega arith; front = rw s (cc) }
+
+pub agree-before : (x y : Row) (j : ℕ) → Agree x y j → j < length x → getD x j 0 < getD y j 0 → rowBefore x y ≡ true
+unfolding rowBefore
+agree-before x y j a h l =
+    let w = a .width in
+    step-equal (length x) (length y) (wordsBefore x y) w ∙ first-differs x y j (a .front) h (omega arith) l
+
+pub agree-turned : (x y : Row) (j : ℕ) → Agree x y j → Agree y x j
+agree-turned x y j a = let w = a .width in let i = a .within in record { width = sym w; within = omega arith; front = sym (a .front) }
+
+pub agree-end : (x y : Row) (j : ℕ) → Agree x y j → length x ≤ j → x ≡ y
+agree-end x y j a h = let w = a .width in sym (take-all j x h) ∙ a .front ∙ take-all j y (omega arith)
+
+-- ---- a row in hand
+
+pub held-length : (r : Held.Row) → length (r .atoms) ≡ 4 → r .width ≤ 4 → length (rowOf r) ≡ r .width
+unfolding rowOf
+held-length r l h = length-take-le (r .width) (r .atoms) (omega arith)
+
+pub held-atom : (r : Held.Row) (j : ℕ) → j < r .width → getD (rowOf r) j 0 ≡ getD (r .atoms) j 0
+unfolding rowOf
+held-atom r j h = getD-take (r .width) (r .atoms) j 0 h
+
+-- one that was loaded
+pub loaded-row : (r : Held.Row) (ws : List ℕ) (at : ℕ) → wordsOf r ≡ fiveAt ws at → rowOf r ≡ rowIn (fiveAt ws at)
+unfolding rowOf
+loaded-row r ws at e = ap rowIn e
+
+pub loaded-width : (r : Held.Row) (ws : List ℕ) (at : ℕ) → wordsOf r ≡ fiveAt ws at → r .width ≡ getD ws at 0
+unfolding wordsOf
+loaded-width r ws at e = ap (λ (l : List ℕ). getD l 0 0) e ∙ five-width ws at
+
+-- its five words: the width, the atoms, and zeros
+module _ (r : Held.Row) (four : length (r .atoms) ≡ 4) (few : r .width ≤ 4) where
+  pub held-width : getD (rowWords (rowOf r)) 0 0 ≡ r .width
+  unfolding rowWords
+  held-width = held-length r four few
+
+  pub held-words-length : length (rowWords (rowOf r)) ≡ 5
+  held-words-length = row-length (rowOf r) (omega (arith, held-length r four few))
+
+  pub held-used : (j : ℕ) → 0 < j → j ≤ r .width → getD (rowWords (rowOf r)) j 0 ≡ getD (r .atoms) (j - 1) 0
+  unfolding rowWords
+  held-used j a h =
+      let e : j ≡ suc (j - 1) = omega arith in
+      ap (λ (k : ℕ). getD (rowWords (rowOf r)) k 0) e
+      ∙ List·getD-append (rowOf r) (replicate (4 - length (rowOf r)) 0) 0 (j - 1) (omega (arith, held-length r four few)) ∙ held-atom r (j - 1) (omega arith)
+
+  pub held-unused : (j : ℕ) → r .width < j → j < 5 → getD (rowWords (rowOf r)) j 0 ≡ 0
+  unfolding rowWords
+  held-unused j h k =
+      let l = held-length r four few in
+      let e : j ≡ suc (length (rowOf r) + (j - 1 - length (rowOf r))) = omega arith in
+      ap (λ (k : ℕ). getD (rowWords (rowOf r)) k 0) e
+      ∙ getD-append-add (rowOf r) (replicate (4 - length (rowOf r)) 0) (j - 1 - length (rowOf r)) 0
+      ∙ getD-replicate (4 - length (rowOf r)) (j - 1 - length (rowOf r)) 0 0 (omega arith)
+
+-- against the five words at a place
+module _ (r : Held.Row) (ws : List ℕ) (at : ℕ) (room : at + 5 ≤ length ws) (four : length (r .atoms) ≡ 4) (few : r .width ≤ 4) (narrow : getD ws at 0 ≤ 4) where
+  mine-width : length (rowOf r) ≡ r .width
+  mine-width = held-length r four few
+
+  their-width : length (rowIn (fiveAt ws at)) ≡ getD ws at 0
+  their-width = row-at-length ws at room narrow
+
+  pub compare-narrower : r .width < getD ws at 0 → orderOf (rowOf r) (rowIn (fiveAt ws at)) ≡ Before
+  compare-narrower h = order-before _ _ (narrower _ _ (omega (arith, mine-width, their-width)))
+
+  pub compare-wider : getD ws at 0 < r .width → orderOf (rowOf r) (rowIn (fiveAt ws at)) ≡ After
+  compare-wider h = order-after _ _ (narrower _ _ (omega (arith, mine-width, their-width)))
+
+  module _ (alike : r .width ≡ getD ws at 0) where
+    pub compare-start : Agree (rowOf r) (rowIn (fiveAt ws at)) 0
+    compare-start = agree-start _ _ (omega (arith, mine-width, their-width))
+
+    module _ (j : ℕ) (a : Agree (rowOf r) (rowIn (fiveAt ws at)) j) where
+      pub compare-end : r .width ≤ j → orderOf (rowOf r) (rowIn (fiveAt ws at)) ≡ Same
+      compare-end h = order-same _ _ (agree-end _ _ j a (omega (arith, mine-width)))
+
+      module _ (h : j < r .width) where
+        here : getD (rowOf r) j 0 ≡ getD (r .atoms) j 0
+        here = held-atom r j h
+
+        there : getD (rowIn (fiveAt ws at)) j 0 ≡ getD ws (at + 1 + j) 0
+        there = row-at-atom ws at j narrow (omega arith)
+
+        pub compare-less : getD (r .atoms) j 0 < getD ws (at + 1 + j) 0 → orderOf (rowOf r) (rowIn (fiveAt ws at)) ≡ Before
+        compare-less l = order-before _ _ (agree-before _ _ j a (omega (arith, mine-width)) (omega (arith, here, there)))
+
+        pub compare-more : getD ws (at + 1 + j) 0 < getD (r .atoms) j 0 → orderOf (rowOf r) (rowIn (fiveAt ws at)) ≡ After
+        compare-more l = order-after _ _ (agree-before _ _ j (agree-turned _ _ j a) (omega (arith, their-width)) (omega (arith, here, there)))
+
+        pub compare-next : getD ws (at + 1 + j) 0 ≤ getD (r .atoms) j 0 → getD (r .atoms) j 0 ≤ getD ws (at + 1 + j) 0 → Agree (rowOf r) (rowIn (fiveAt ws at)) (j + 1)
+        compare-next l m = agree-next _ _ j a (omega (arith, mine-width)) (omega (arith, here, there))
