@@ -5,14 +5,16 @@ use mathlib.Core.Bool.{Bool, true, false, _&&_}
 use mathlib.Core.List.{List, [], _∷_}
 use native.Mathlib.Omega.{arith}
 use lib.Dec.{leb, ltb, eqb}
-use Rattle.refusals.specs.Table.{badWord, notInScope, tooDeep}
+use Rattle.refusals.specs.RefusalTable.{badWord, notInScope, tooDeep}
 use Rattle.rows.specs.Row.{isKey}
 use Rattle.rows.specs.Name.{isName, isPolarity}
 use Rattle.policy.specs.Syntax.{Expr, Body}
 use Rattle.policy.specs.Decode.{Read, got, refused, Reader, after, need, word, wordWhere, countDraw, times, polarity, Tag, isAtom, isVar, isNew, noTag, tagOf}
 use Rattle.policy.specs.Decode.{termAs, anyAtom, term, issuer, width, row, rows, Pattern, slotAs, slots, guardOf, guardAs, body, codeOf, isCode, exprAs, expr}
 use Rattle.policy.specs.Leaf.{LeafCode, isFinite, isCofinite, isDefinition, isListed, noLeaf, leafAs}
-use Rattle.policy.specs.Decode.{Guard, isDraw, isSame, isDifferent, isAbsent, noGuard, Code, isLeaf, isUnion, isDifference, isComprehension, unparsed, noneLeft, parse}
+use Rattle.policy.specs.Parse.{noneLeft, parse}
+use Rattle.policy.specs.Parse as Parse
+use Rattle.policy.specs.Decode.{Guard, isDraw, isSame, isDifferent, isAbsent, noGuard, Code, isLeaf, isUnion, isDifference, isComprehension}
 use Rattle.policy.proofs.Basics.{impossible}
 
 -- a reader that refuses with 5 at most
@@ -155,7 +157,7 @@ unfolding expr
 expr-low known zero n = after-low (wordWhere badWord isCode) _ (where-low badWord (omega arith) isCode) (λ c. refuse-low tooDeep (omega arith))
 expr-low known (suc levels) n = after-low word _ word-low (λ c. exprAs-low (λ m. expr known levels m) (λ m. expr-low known levels m) known n (codeOf c))
 
-none-left : (r : Read Expr) (n : ℕ) → ((m : ℕ) → r ≡ refused m → m ≤ 5) → noneLeft r ≡ unparsed n → n ≤ 5
+none-left : (r : Read Expr) (n : ℕ) → ((m : ℕ) → r ≡ refused m → m ≤ 5) → noneLeft r ≡ Parse.refused n → n ≤ 5
 unfolding noneLeft
 none-left (got e [] k) n h f = impossible cc
 none-left (got e (w ∷ ws) k) n h f = let z : badWord ≡ n = cc in omega arith
@@ -164,6 +166,6 @@ none-left (refused m) n h f =
     let l = h m refl in
     omega arith
 
-pub parse-low : (known : ℕ) (ws : List ℕ) (n : ℕ) → parse known ws ≡ unparsed n → n ≤ 5
+pub parse-low : (known : ℕ) (ws : List ℕ) (n : ℕ) → parse known ws ≡ Parse.refused n → n ≤ 5
 unfolding parse
 parse-low known ws n e = none-left (expr known 15 0 ws 0) n (λ m f. expr-low known 15 0 ws 0 m f) e

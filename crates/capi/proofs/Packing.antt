@@ -4,17 +4,17 @@ use mathlib.Core.Path.{_≡_, sym, _∙_, ap}
 use mathlib.Core.List.{List}
 use native.Mathlib.Omega.{arith}
 use Rattle.certificates.specs.Filing.{FilingReply}
-use Rattle.store.specs.Reply.{replyIs}
+use Rattle.store.specs.Reply.{filingIs}
 use Rattle.store.specs.declared.Filing.{Filing}
 use Rattle.store.specs.declared.Filing.the-variants as filing
 use Rattle.policy.specs.Polarity.{verdictWord}
 use Rattle.policy.specs.Judgement.{judge}
-use Rattle.judging.specs.Reply.{judgementOf}
+use Rattle.judging.specs.Reply.{judgementFor}
 use Rattle.judging.specs.declared.Judgement.{Judgement}
 use Rattle.judging.specs.declared.Judgement.the-variants as judgement
 use Rattle.policy.proofs.Basics.{impossible}
-use Rattle.demands.specs.Query.{Outcome, answered, declined, Call, queryCall}
-use Rattle.engine.specs.Reply.{replyTo}
+use Rattle.demands.specs.Query.{Outcome, answered, refused, Call, queryCall}
+use Rattle.engine.specs.Reply.{replyFor}
 use Rattle.engine.specs.declared.Reply.{Reply}
 use Rattle.engine.specs.declared.Reply.the-variants as reply
 use Rattle.engine.specs.Reply.{Replied}
@@ -25,21 +25,21 @@ use Rattle.capi.proofs.Refusals.{Small, judge-low, call-low}
 use Rattle.capi.proofs.Fields.{verdict-low}
 
 -- filing
-module _ (f : FilingReply) (r : Filing) (is : replyIs r ≡ f) where
+module _ (f : FilingReply) (r : Filing) (is : filingIs r ≡ f) where
   pub filed-word : r ≡ filing.Filed → 0 ≡ filingWord f
-  unfolding replyIs filingWord
-  filed-word e = ap filingWord (ap replyIs (sym e) ∙ is)
+  unfolding filingIs filingWord
+  filed-word e = ap filingWord (ap filingIs (sym e) ∙ is)
 
   pub held-word : r ≡ filing.Held → 1 ≡ filingWord f
-  unfolding replyIs filingWord
-  held-word e = ap filingWord (ap replyIs (sym e) ∙ is)
+  unfolding filingIs filingWord
+  held-word e = ap filingWord (ap filingIs (sym e) ∙ is)
 
   pub refused-word : (n : ℕ) → r ≡ filing.Refused n → n ≡ filingWord f
-  unfolding replyIs filingWord
-  refused-word n e = ap filingWord (ap replyIs (sym e) ∙ is)
+  unfolding filingIs filingWord
+  refused-word n e = ap filingWord (ap filingIs (sym e) ∙ is)
 
 -- judging
-module _ (policy query : List ℕ) (r : Judgement) (is : r ≡ judgementOf (judge policy query)) where
+module _ (policy query : List ℕ) (r : Judgement) (is : r ≡ judgementFor (judge policy query)) where
   pub verdict-small : (v : ℕ) → r ≡ judgement.Verdict v → v ≤ 2
   verdict-small v e =
       let t = verdict-in (judge policy query) v (sym e ∙ is) in
@@ -60,18 +60,18 @@ module _ (policy query : List ℕ) (r : Judgement) (is : r ≡ judgementOf (judg
   refusal-word n part e = rw (refusal-in (judge policy query) n part (sym e ∙ is))
 
 -- asking
-answered-in : (o : Outcome) (v k : ℕ) → reply.Answered v k ≡ replyTo o → (v ≤ 2) × (replyWord 0 0 v k ≡ outcomeWord o)
-unfolding replyTo outcomeWord
+answered-in : (o : Outcome) (v k : ℕ) → reply.Answered v k ≡ replyFor o → (v ≤ 2) × (replyWord 0 0 v k ≡ outcomeWord o)
+unfolding replyFor outcomeWord
 answered-in (answered w j s) v k e =
     let x : v ≡ verdictWord w = cc in
     let y : k ≡ j = cc in
     (omega (arith, verdict-low w), cc)
-answered-in (declined n part) v k e = impossible cc
+answered-in (refused n part) v k e = impossible cc
 
-declined-in : (o : Outcome) (n part : ℕ) → reply.Refused n part ≡ replyTo o → o ≡ declined n part
-unfolding replyTo
+declined-in : (o : Outcome) (n part : ℕ) → reply.Refused n part ≡ replyFor o → o ≡ refused n part
+unfolding replyFor
 declined-in (answered w j s) n part e = impossible cc
-declined-in (declined m p) n part e =
+declined-in (refused m p) n part e =
     let x : n ≡ m = cc in
     let y : part ≡ p = cc in
     cc
@@ -83,7 +83,7 @@ module _ (store : List ℕ) (c : Call) (r : Reply) (answer : List ℕ) (said : R
   pub asked-answered : (v k word : ℕ) → r ≡ reply.Answered v k → word ≡ replyWord 0 0 v k → Asked store c word answer
   asked-answered v k word e w = record { reply = w ∙ answered-in (queryCall store c) v k (sym e ∙ said .reply) .1; area = said .area }
 
-  declines : (n part : ℕ) → r ≡ reply.Refused n part → queryCall store c ≡ declined n part
+  declines : (n part : ℕ) → r ≡ reply.Refused n part → queryCall store c ≡ refused n part
   declines n part e = declined-in (queryCall store c) n part (sym e ∙ said .reply)
 
   pub declined-small : (n part : ℕ) → r ≡ reply.Refused n part → Small 14 n part

@@ -7,15 +7,15 @@ use lib.Dec.{leb}
 use lib.ListN.{length, take, drop, length-drop}
 use lib.Seq.{length-take-le, take-all}
 use borrow.Author.Tests.{le-leb, lt-leb, leb-true}
-use Rattle.refusals.specs.Table.{badHeader}
+use Rattle.refusals.specs.RefusalTable.{badHeader}
 use Rattle.rows.proofs.Case.{Case, isTrue, isFalse, split, and-true}
 use Rattle.certificates.specs.NamePart.{namePart}
 use Rattle.certificates.specs.Spans.{Spans}
-use Rattle.policy.specs.Table.{Entry, Table, table, noTable, soundHeader, readTable}
-use Rattle.policy.specs.Part.{inPolicy, nowhere, placeOf}
-use Rattle.policy_table.specs.Places.{placeIs}
-use Rattle.policy_table.specs.declared.parts.Place as Held
-use Rattle.policy_table.specs.declared.parts.Place.the-variants as place
+use Rattle.policy.specs.Table.{Entry, Table, table, refused, soundHeader, readTable}
+use Rattle.policy.specs.Part.{inPolicy, nowhere, partSpan}
+use Rattle.policy_table.specs.Spans.{partSpanIs}
+use Rattle.policy_table.specs.declared.parts.PartSpan as Held
+use Rattle.policy_table.specs.declared.parts.PartSpan.the-variants as place
 use Rattle.policy.proofs.Basics.{impossible}
 use Rattle.policy_table.proofs.PartAnswers.{place-inside, place-held, query-held, query-part, policy-part}
 use Rattle.packing.specs.Words.{spanWord}
@@ -48,29 +48,29 @@ policy-short policy xs e = go (split (soundHeader policy))
   where
     go : Case (soundHeader policy) → length policy ≤ 8192
     go (isTrue h) = leb-true (length policy) 8192 (and-true (leb (length policy) 8192) _ (and-true (leb 2 (length policy)) _ h .1) .0)
-    go (isFalse h) = impossible (let f : noTable badHeader ≡ table xs = rw (h, readTable) at e in cc)
+    go (isFalse h) = impossible (let f : refused badHeader ≡ table xs = rw (h, readTable) at e in cc)
 
-place-near : (policy : List ℕ) (number start size : ℕ) → inPolicy start size ≡ placeOf policy number → start + size ≤ 8192
-unfolding placeOf nowhere
+place-near : (policy : List ℕ) (number start size : ℕ) → inPolicy start size ≡ partSpan policy number → start + size ≤ 8192
+unfolding partSpan nowhere
 place-near policy number start size e = go (readTable policy) refl
   where
     go : (t : Table) → readTable policy ≡ t → start + size ≤ 8192
     go (table xs) f = omega (arith, place-inside policy number start size e, policy-short policy xs f)
-    go (noTable n) f =
-        let g : inPolicy start size ≡ inPolicy 0 0 = rw (f, placeOf) at e in
+    go (refused n) f =
+        let g : inPolicy start size ≡ inPolicy 0 0 = rw (f, partSpan) at e in
         let x : start ≡ 0 = cc in
         let y : size ≡ 0 = cc in
         omega arith
 
 -- a part, from the place that the code found
-module _ (policy : List ℕ) (number : ℕ) (r : Held.Place) (is : placeIs r ≡ placeOf policy number) where
+module _ (policy : List ℕ) (number : ℕ) (r : Held.Place) (is : partSpanIs r ≡ partSpan policy number) where
   pub place-small : (start size : ℕ) → r ≡ place.InPolicy start size → start + size ≤ 8192
-  place-small start size e = place-near policy number start size (place-held (placeOf policy number) r start size is e)
+  place-small start size e = place-near policy number start size (place-held (partSpan policy number) r start size is e)
 
   pub in-policy : (query : List ℕ) (start size word : ℕ) → r ≡ place.InPolicy start size → word ≡ spanWord start size → PartAt policy query number word
   unfolding placeWord placeWords spanWord
   in-policy query start size word e w =
-      let p = place-held (placeOf policy number) r start size is e in
+      let p = place-held (partSpan policy number) r start size is e in
       let near = place-near policy number start size p in
       let below = lt-leb ofQuery word (omega arith) in
       let whole : start + size - start ≡ size = omega arith in
@@ -85,7 +85,7 @@ module _ (policy : List ℕ) (number : ℕ) (r : Held.Place) (is : placeIs r ≡
   pub in-query : (query : List ℕ) → r ≡ place.WholeQuery → PartAt policy query number (length query + 9223372036854775808)
   unfolding placeWord placeWords
   in-query query e =
-      let p = query-held (placeOf policy number) r is e in
+      let p = query-held (partSpan policy number) r is e in
       let above = le-leb ofQuery (length query + 9223372036854775808) (omega arith) in
       record {
         place = ap (placeWord query) p;

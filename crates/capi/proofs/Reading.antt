@@ -8,7 +8,7 @@ use mathlib.Core.List.{List, [], _∷_}
 use native.Mathlib.Omega.{arith}
 use lib.Dec.{leb, ltb, eqb}
 use lib.ListN.{length}
-use Rattle.refusals.specs.Table.{complementDrawn, tooManyRows, tooManyDraws}
+use Rattle.refusals.specs.RefusalTable.{complementDrawn, tooManyRows, tooManyDraws}
 use Rattle.rows.specs.Ordered.{insert}
 use Rattle.rows.specs.Row.{Row, rowBefore}
 use Rattle.rows.specs.Sets.{RowSet, only, allBut, listing, mostRows, has, unite, subtract}
@@ -16,7 +16,7 @@ use Rattle.policy.specs.Leaf.{Leaf, finite, cofinite, definition, listed}
 use Rattle.policy.specs.Syntax.{Slot, Expr, leaf, union, difference, comprehension, Body, head, draw, same, different, absent}
 use Rattle.meaning.specs.Values.{Values, value, rowOf}
 use Rattle.meaning.specs.Evidence.{Evidence}
-use Rattle.meaning.specs.Reading.{Answer, done, refused, Reading, after, within, small, drawable, tick, rowsOf, match, onMatch, drawEach, readLeaf, read, gather}
+use Rattle.meaning.specs.Reading.{Result, done, refused, Reading, after, within, small, drawable, tick, rowsOf, match, onMatch, drawEach, readLeaf, read, gather}
 use Rattle.meaning.proofs.Steps.{refused-number, not-refused, after-refused, either}
 
 -- a reading that is refused with 14 at most
@@ -49,7 +49,7 @@ unfolding tick
 tick-low k n e = go (ltb k 1000000) e
   where
     go : (b : Bool) →
-        _≡_ {A = Answer (Unit {0})} (elim b as (λ c. Answer (Unit {0})) [ true ↦ done tt (k + 1) | false ↦ refused tooManyDraws ]) (refused n) → n ≤ 14
+        _≡_ {A = Result (Unit {0})} (elim b as (λ c. Result (Unit {0})) [ true ↦ done tt (k + 1) | false ↦ refused tooManyDraws ]) (refused n) → n ≤ 14
     go true q = not-refused q
     go false q = let z : tooManyDraws ≡ n = refused-number q in omega arith
 

@@ -6,22 +6,27 @@ use mathlib.Core.List.{List, [], _∷_, _++_}
 use native.Mathlib.Omega.{arith}
 use lib.Dec.{leb, eqb}
 use lib.ListN.{length, getD, length-append}
-use Rattle.refusals.specs.Table.{badHeader, badTable, badWord, noPolarity, openDraw, queryPart, noPart}
+use Rattle.refusals.specs.RefusalTable.{badHeader, badTable, badWord, noPolarity, openDraw, queryPart, noPart}
 use Rattle.rows.specs.Name.{plus, minus, polarityOf}
 use Rattle.rows.specs.Sets.{RowSet}
 use Rattle.certificates.specs.Store.{soundStore, certificates}
 use Rattle.policy.specs.Syntax.{Expr}
-use Rattle.policy.specs.Decode.{Parsed, parsed, unparsed, parse}
+use Rattle.policy.specs.Parse.{Parsed, parsed, parse}
+use Rattle.policy.specs.Parse as Parse
 use Rattle.policy.specs.Polarity.{Known, hasPolarity, drawsClosed, Verdict}
-use Rattle.policy.specs.Table.{Entry, entryAt, entryWords, Table, table, noTable, soundEntry, push, entries, soundHeader, readTable}
-use Rattle.policy.specs.Judgement.{Checked, checked, unchecked, polarized, checkDefinition, checkQuery, verdictOf, knownOf, withDefinition}
-use Rattle.policy.specs.Judgement.{checkFrom, check, refused, judge}
+use Rattle.policy.specs.Table.{Entry, entryAt, entryWords, Table, table, soundEntry, pushEntry, entries, soundHeader, readTable}
+use Rattle.policy.specs.Table as Tables
+use Rattle.policy.specs.Checking.{Checked, checked, polarized, checkDefinition, checkQuery, verdictOf, knownOf, withDefinition}
+use Rattle.policy.specs.Checking as Checking
+use Rattle.policy.specs.Checking.{checkFrom, check}
+use Rattle.policy.specs.Judgement.{refused, judge}
 use Rattle.policy.proofs.Basics.{impossible}
 use Rattle.policy_table.proofs.PartAnswers.{table-sound}
 use Rattle.policy.proofs.Judging.{Accepted, none, one, check-accepted, judge-refused}
 use Rattle.meaning.specs.Evidence.{Evidence, namesHeld}
 use Rattle.meaning.specs.Reading as Reading
-use Rattle.demands.specs.Query.{Outcome, answered, declined, readFrom, Call, queryCall}
+use Rattle.demands.specs.Query.{Outcome, answered, readFrom, Call, queryCall}
+use Rattle.demands.specs.Query as Query
 use Rattle.demands.specs.Refusal.{Refusal, judged, unsound, short, reading}
 use Rattle.demands.proofs.Outcome.{not-both, call-declined}
 use Rattle.capi.proofs.Decoding.{parse-low}
@@ -32,16 +37,16 @@ pub record Small (limit n part : ℕ) : Type 0 where
   pub place : part ≤ 17
 
 -- 1 and 2
-push-none : (x : Entry) (t : Table) (n : ℕ) → push x t ≡ noTable n → t ≡ noTable n
-unfolding push
+push-none : (x : Entry) (t : Table) (n : ℕ) → pushEntry x t ≡ Tables.refused n → t ≡ Tables.refused n
+unfolding pushEntry
 push-none x (table ys) n e = impossible cc
-push-none x (noTable m) n e = cc
+push-none x (Tables.refused m) n e = cc
 
-entries-low : (m : ℕ) (policy : List ℕ) (at due : ℕ) (earlier : List Entry) (n : ℕ) → entries m policy at due earlier ≡ noTable n → n ≤ 7
+entries-low : (m : ℕ) (policy : List ℕ) (at due : ℕ) (earlier : List Entry) (n : ℕ) → entries m policy at due earlier ≡ Tables.refused n → n ≤ 7
 unfolding entries
 entries-low zero policy at due earlier n e = go (eqb due (length policy)) e
   where
-    go : (b : Bool) → (elim b as (λ c. Table) [ true ↦ table [] | false ↦ noTable badTable ]) ≡ noTable n → n ≤ 7
+    go : (b : Bool) → (elim b as (λ c. Table) [ true ↦ table [] | false ↦ Tables.refused badTable ]) ≡ Tables.refused n → n ≤ 7
     go true f = impossible cc
     go false f = let z : badTable ≡ n = cc in omega arith
 entries-low (suc m) policy at due earlier n e =
@@ -53,41 +58,41 @@ entries-low (suc m) policy at due earlier n e =
     rest : Table
     rest = entries m policy (at + 4) (x .offset + x .size) (x ∷ earlier)
 
-    go : (b : Bool) → (rest ≡ noTable n → n ≤ 7) → (elim b as (λ c. Table) [ true ↦ push x rest | false ↦ noTable badTable ]) ≡ noTable n → n ≤ 7
+    go : (b : Bool) → (rest ≡ Tables.refused n → n ≤ 7) → (elim b as (λ c. Table) [ true ↦ pushEntry x rest | false ↦ Tables.refused badTable ]) ≡ Tables.refused n → n ≤ 7
     go true ih f = ih (push-none x rest n f)
     go false ih f = let z : badTable ≡ n = cc in omega arith
 
-table-low : (policy : List ℕ) (n : ℕ) → readTable policy ≡ noTable n → n ≤ 7
+table-low : (policy : List ℕ) (n : ℕ) → readTable policy ≡ Tables.refused n → n ≤ 7
 unfolding readTable
 table-low policy n e = go (soundHeader policy) e
   where
     go : (b : Bool) →
-        (elim b as (λ c. Table) [ true ↦ entries (getD policy 1 0) policy 2 (2 + 4 * getD policy 1 0) [] | false ↦ noTable badHeader ]) ≡ noTable n → n ≤ 7
+        (elim b as (λ c. Table) [ true ↦ entries (getD policy 1 0) policy 2 (2 + 4 * getD policy 1 0) [] | false ↦ Tables.refused badHeader ]) ≡ Tables.refused n → n ≤ 7
     go true f = entries-low (getD policy 1 0) policy 2 (2 + 4 * getD policy 1 0) [] n f
     go false f = let z : badHeader ≡ n = cc in omega arith
 
 -- 3 to 7 in one expression
-polarized-low : (fine closed : Bool) (e : Expr) (n : ℕ) → polarized fine closed e ≡ unparsed n → n ≤ 7
+polarized-low : (fine closed : Bool) (e : Expr) (n : ℕ) → polarized fine closed e ≡ Parse.refused n → n ≤ 7
 unfolding polarized
 polarized-low true true e n h = impossible cc
 polarized-low true false e n h = let z : openDraw ≡ n = cc in omega arith
 polarized-low false closed e n h = let z : noPolarity ≡ n = cc in omega arith
 
-whole-low : (fine closed : Expr → Bool) (p : Parsed) (n : ℕ) → ((m : ℕ) → p ≡ unparsed m → m ≤ 5) →
-    (elim p as (λ c. Parsed) [ parsed e ↦ polarized (fine e) (closed e) e | unparsed m ↦ unparsed m ]) ≡ unparsed n → n ≤ 7
+whole-low : (fine closed : Expr → Bool) (p : Parsed) (n : ℕ) → ((m : ℕ) → p ≡ Parse.refused m → m ≤ 5) →
+    (elim p as (λ c. Parsed) [ parsed e ↦ polarized (fine e) (closed e) e | Parse.refused m ↦ Parse.refused m ]) ≡ Parse.refused n → n ≤ 7
 whole-low fine closed (parsed e) n low h = polarized-low (fine e) (closed e) e n h
-whole-low fine closed (unparsed m) n low h =
+whole-low fine closed (Parse.refused m) n low h =
     let z : m ≡ n = cc in
     let l = low m refl in
     omega arith
 
-definition-low : (policy : List ℕ) (ks : List Known) (x : Entry) (n : ℕ) → checkDefinition policy ks x ≡ unparsed n → n ≤ 7
+definition-low : (policy : List ℕ) (ks : List Known) (x : Entry) (n : ℕ) → checkDefinition policy ks x ≡ Parse.refused n → n ≤ 7
 unfolding checkDefinition
 definition-low policy ks x n h =
     whole-low (λ e. hasPolarity e ks (polarityOf (x .polarity))) (λ e. drawsClosed e ks) (parse (length ks) (entryWords policy x)) n
     (parse-low (length ks) (entryWords policy x)) h
 
-query-low : (ks : List Known) (query : List ℕ) (n : ℕ) → checkQuery ks query ≡ unparsed n → n ≤ 7
+query-low : (ks : List Known) (query : List ℕ) (n : ℕ) → checkQuery ks query ≡ Parse.refused n → n ≤ 7
 unfolding checkQuery
 query-low ks query n h = go (leb 1 (length query) && leb (length query) 1024) h
   where
@@ -95,32 +100,32 @@ query-low ks query n h = go (leb 1 (length query) && leb (length query) 1024) h
         (elim b as (λ c. Parsed) [
           | true ↦ elim (parse (length ks) query) as (λ c. Parsed) [
             | parsed e ↦ polarized (hasPolarity e ks plus || hasPolarity e ks minus) (drawsClosed e ks) e
-            | unparsed m ↦ unparsed m
+            | Parse.refused m ↦ Parse.refused m
           ]
-          | false ↦ unparsed badWord
-        ]) ≡ unparsed n → n ≤ 7
+          | false ↦ Parse.refused badWord
+        ]) ≡ Parse.refused n → n ≤ 7
     go true f =
         whole-low (λ e. hasPolarity e ks plus || hasPolarity e ks minus) (λ e. drawsClosed e ks) (parse (length ks) query) n (parse-low (length ks) query) f
     go false f = let z : badWord ≡ n = cc in omega arith
 
 -- the definitions and the query, no more than 16 definitions in all
-with-unchecked : (e : Expr) (c : Checked) (n part : ℕ) → withDefinition e c ≡ unchecked n part → c ≡ unchecked n part
+with-unchecked : (e : Expr) (c : Checked) (n part : ℕ) → withDefinition e c ≡ Checking.refused n part → c ≡ Checking.refused n part
 unfolding withDefinition
 with-unchecked e (checked es q v) n part h = impossible cc
-with-unchecked e (unchecked m p) n part h = cc
+with-unchecked e (Checking.refused m p) n part h = cc
 
 from-low : (policy : List ℕ) (xs : List Entry) (ks : List Known) (query : List ℕ) → length ks + length xs ≤ 16 → (n part : ℕ) →
-    checkFrom policy xs ks query ≡ unchecked n part → Small 7 n part
+    checkFrom policy xs ks query ≡ Checking.refused n part → Small 7 n part
 unfolding checkFrom
 from-low policy [] ks query l n part h = go (checkQuery ks query) refl h
   where
     go : (p : Parsed) → checkQuery ks query ≡ p →
         (elim p as (λ c. Checked) [
           | parsed q ↦ checked [] q (verdictOf (hasPolarity q ks plus) (hasPolarity q ks minus))
-          | unparsed m ↦ unchecked m queryPart
-        ]) ≡ unchecked n part → Small 7 n part
+          | Parse.refused m ↦ Checking.refused m queryPart
+        ]) ≡ Checking.refused n part → Small 7 n part
     go (parsed q) p f = impossible cc
-    go (unparsed m) p f =
+    go (Parse.refused m) p f =
         let z : m ≡ n = cc in
         let y : queryPart ≡ part = cc in
         let b = query-low ks query m p in
@@ -129,14 +134,14 @@ from-low policy (x ∷ xs) ks query l n part h =
     go (λ e. from-low policy xs (ks ++ (knownOf x e ks ∷ [])) query (omega (arith, length-append ks (knownOf x e ks ∷ []))) n part)
     (checkDefinition policy ks x) refl h
   where
-    go : ((e : Expr) → checkFrom policy xs (ks ++ (knownOf x e ks ∷ [])) query ≡ unchecked n part → Small 7 n part) →
+    go : ((e : Expr) → checkFrom policy xs (ks ++ (knownOf x e ks ∷ [])) query ≡ Checking.refused n part → Small 7 n part) →
         (p : Parsed) → checkDefinition policy ks x ≡ p →
         (elim p as (λ c. Checked) [
           | parsed e ↦ withDefinition e (checkFrom policy xs (ks ++ (knownOf x e ks ∷ [])) query)
-          | unparsed m ↦ unchecked m (length ks)
-        ]) ≡ unchecked n part → Small 7 n part
+          | Parse.refused m ↦ Checking.refused m (length ks)
+        ]) ≡ Checking.refused n part → Small 7 n part
     go ih (parsed e) p f = ih e (with-unchecked e (checkFrom policy xs (ks ++ (knownOf x e ks ∷ [])) query) n part f)
-    go ih (unparsed m) p f =
+    go ih (Parse.refused m) p f =
         let z : m ≡ n = cc in
         let y : length ks ≡ part = cc in
         let b = definition-low policy ks x m p in
@@ -149,14 +154,14 @@ few-entries policy xs e =
     let count = t .count in
     omega arith
 
-check-low : (policy query : List ℕ) (n part : ℕ) → check policy query ≡ unchecked n part → Small 7 n part
+check-low : (policy query : List ℕ) (n part : ℕ) → check policy query ≡ Checking.refused n part → Small 7 n part
 unfolding check
 check-low policy query n part h = go (readTable policy) refl h
   where
     go : (t : Table) → readTable policy ≡ t →
-        (elim t as (λ c. Checked) [ table xs ↦ checkFrom policy xs [] query | noTable m ↦ unchecked m noPart ]) ≡ unchecked n part → Small 7 n part
+        (elim t as (λ c. Checked) [ table xs ↦ checkFrom policy xs [] query | Tables.refused m ↦ Checking.refused m noPart ]) ≡ Checking.refused n part → Small 7 n part
     go (table xs) r f = from-low policy xs [] query (omega (arith, few-entries policy xs r)) n part f
-    go (noTable m) r f =
+    go (Tables.refused m) r f =
         let z : m ≡ n = cc in
         let y : noPart ≡ part = cc in
         let b = table-low policy m r in
@@ -178,12 +183,12 @@ few-definitions policy query es q v h =
     omega arith
 
 readFrom-low : (names : Evidence) (es : List Expr) (q : Expr) (v : Verdict) (sets : List RowSet) (k : ℕ) → length sets + length es ≤ 16 → (n part : ℕ) →
-    readFrom names es q v sets k ≡ declined n part → Small 14 n part
+    readFrom names es q v sets k ≡ Query.refused n part → Small 14 n part
 unfolding readFrom
 readFrom-low names [] q v sets k l n part h = go (Reading.read names sets q [] k) refl h
   where
-    go : (a : Reading.Answer RowSet) → Reading.read names sets q [] k ≡ a →
-        (elim a as (λ c. Outcome) [ Reading.done s j ↦ answered v j s | Reading.refused m ↦ declined m queryPart ]) ≡ declined n part → Small 14 n part
+    go : (a : Reading.Result RowSet) → Reading.read names sets q [] k ≡ a →
+        (elim a as (λ c. Outcome) [ Reading.done s j ↦ answered v j s | Reading.refused m ↦ Query.refused m queryPart ]) ≡ Query.refused n part → Small 14 n part
     go (Reading.done s j) e f = not-both f
     go (Reading.refused m) e f =
         let z : m ≡ n = cc in
@@ -193,12 +198,12 @@ readFrom-low names [] q v sets k l n part h = go (Reading.read names sets q [] k
 readFrom-low names (e ∷ es) q v sets k l n part h =
     go (λ s j. readFrom-low names es q v (sets ++ (s ∷ [])) j (omega (arith, length-append sets (s ∷ []))) n part) (Reading.read names sets e [] k) refl h
   where
-    go : ((s : RowSet) (j : ℕ) → readFrom names es q v (sets ++ (s ∷ [])) j ≡ declined n part → Small 14 n part) →
-        (a : Reading.Answer RowSet) → Reading.read names sets e [] k ≡ a →
+    go : ((s : RowSet) (j : ℕ) → readFrom names es q v (sets ++ (s ∷ [])) j ≡ Query.refused n part → Small 14 n part) →
+        (a : Reading.Result RowSet) → Reading.read names sets e [] k ≡ a →
         (elim a as (λ c. Outcome) [
           | Reading.done s j ↦ readFrom names es q v (sets ++ (s ∷ [])) j
-          | Reading.refused m ↦ declined m (length sets)
-        ]) ≡ declined n part → Small 14 n part
+          | Reading.refused m ↦ Query.refused m (length sets)
+        ]) ≡ Query.refused n part → Small 14 n part
     go ih (Reading.done s j) d f = ih s j f
     go ih (Reading.refused m) d f =
         let z : m ≡ n = cc in
@@ -215,5 +220,5 @@ refusal-low sound names c n part (short f a b) = record { number = omega arith; 
 refusal-low sound names c n part (reading {es} {q} {v} f a b e) =
     readFrom-low names es q v [] 0 (omega (arith, few-definitions (c .policy) (c .query) es q v f)) n part e
 
-pub call-low : (store : List ℕ) (c : Call) (n part : ℕ) → queryCall store c ≡ declined n part → Small 14 n part
+pub call-low : (store : List ℕ) (c : Call) (n part : ℕ) → queryCall store c ≡ Query.refused n part → Small 14 n part
 call-low store c n part e = refusal-low (soundStore store) (namesHeld (certificates store)) c n part (call-declined store c n part .0 e)

@@ -5,7 +5,8 @@ use mathlib.Core.List.{List}
 use Rattle.rows.specs.Sets.{RowSet}
 use Rattle.policy.specs.Polarity.{Verdict, verdictWord}
 use Rattle.policy.specs.Judgement.{verdict, refused, judge}
-use Rattle.demands.specs.Query.{answered, declined, Call, queryCall}
+use Rattle.demands.specs.Query.{answered, Call, queryCall}
+use Rattle.demands.specs.Query as Query
 use Rattle.capi.specs.Replies.{judgementWord, outcomeWord}
 
 -- `word & 0xFF`, `word >> 8 & 0xFF`, `word >> 16 & 0xFF` and `word >> 32`
@@ -21,4 +22,4 @@ pub record Theorem : Type 0 where
   pub unjudged : (policy query : List ℕ) (n part : ℕ) → judge policy query ≡ refused n part → Fields (judgementWord (judge policy query)) n part 0 0
   pub asked : (store : List ℕ) (c : Call) (v : Verdict) (draws : ℕ) (s : RowSet) → queryCall store c ≡ answered v draws s →
       Fields (outcomeWord (queryCall store c)) 0 0 (verdictWord v) draws
-  pub unasked : (store : List ℕ) (c : Call) (n part : ℕ) → queryCall store c ≡ declined n part → Fields (outcomeWord (queryCall store c)) n part 0 0
+  pub unasked : (store : List ℕ) (c : Call) (n part : ℕ) → queryCall store c ≡ Query.refused n part → Fields (outcomeWord (queryCall store c)) n part 0 0

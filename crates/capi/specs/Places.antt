@@ -6,7 +6,7 @@ use mathlib.Core.List.{List}
 use lib.Dec.{leb}
 use lib.ListN.{length, take, drop}
 use Rattle.certificates.specs.NamePart.{namePart, nameStart}
-use Rattle.policy.specs.Part.{Place, inPolicy, wholeQuery, placeOf, partWords}
+use Rattle.policy.specs.Part.{PartSpan, inPolicy, wholeQuery, partSpan, partWords}
 use Rattle.packing.specs.Words.{spanWord}
 
 -- the words that a span's number points to
@@ -23,7 +23,7 @@ abbrev pub ofQuery : ℕ
 ofQuery = 2 ^ 63
 
 -- a part's place: some words of the policy, or the query
-unfoldable pub placeWord : List ℕ → Place → ℕ
+unfoldable pub placeWord : List ℕ → PartSpan → ℕ
 placeWord query (inPolicy start size) = spanWord start size
 placeWord query wholeQuery = length query + ofQuery
 
@@ -33,5 +33,5 @@ placeWords policy query w = elim (leb ofQuery w) [ true ↦ take (w - ofQuery) q
 
 -- a part: the number, and the words that it points to, which are those that `part` hands back
 pub record PartAt (policy query : List ℕ) (number word : ℕ) : Type 0 where
-  pub place : word ≡ placeWord query (placeOf policy number)
+  pub place : word ≡ placeWord query (partSpan policy number)
   pub words : placeWords policy query word ≡ partWords policy query number

@@ -5,7 +5,8 @@ use mathlib.Core.List.{List}
 use Rattle.certificates.specs.Filing.{FilingReply, filed, held, refused}
 use Rattle.policy.specs.Polarity.{verdictWord}
 use Rattle.policy.specs.Judgement as Judgement
-use Rattle.demands.specs.Query.{Outcome, answered, declined, Call, queryCall, answerArea}
+use Rattle.demands.specs.Query.{Outcome, answered, Call, queryCall, answerArea}
+use Rattle.demands.specs.Query as Query
 use Rattle.packing.specs.Words.{replyWord}
 
 -- 0 Filed, 1 Held, else the refusal's number (8, 9 or 10)
@@ -22,7 +23,7 @@ judgementWord (Judgement.refused n part) = replyWord n part 0 0
 -- a query call: the number is 0 where it is answered, verdict and draws where it is refused
 unfoldable pub outcomeWord : Outcome → ℕ
 outcomeWord (answered v draws s) = replyWord 0 0 (verdictWord v) draws
-outcomeWord (declined n part) = replyWord n part 0 0
+outcomeWord (Query.refused n part) = replyWord n part 0 0
 
 -- what is lent to a query call besides the store
 abbrev pub lent : List ℕ → List ℕ → List ℕ → List ℕ → List ℕ → Call

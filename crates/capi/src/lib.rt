@@ -10,8 +10,8 @@ use judging::Judgement;
 use judging::judge;
 use packing::reply_word;
 use packing::span_word;
-use policy_table::parts::Place;
-use policy_table::parts::place_of;
+use policy_table::parts::PartSpan;
+use policy_table::parts::part_span;
 use store::Filing;
 use store::file;
 use store::span_of;
@@ -68,9 +68,9 @@ pub extern "C" fn txb_judge(policy: &[u32], query: &[u32]) -> u32
 pub extern "C" fn txb_part(policy: &[u32], query: &[u32], number: u32) -> u64
     ensures { λ r. ⌜ PartAt (now (policy .entry)) (now (query .entry)) number r ⌝ }
 {
-    match place_of(policy, number) {
-        Place::WholeQuery => query.len() as u64 + OF_QUERY,
-        Place::InPolicy { start, size } => span_word(start, size),
+    match part_span(policy, number) {
+        PartSpan::WholeQuery => query.len() as u64 + OF_QUERY,
+        PartSpan::InPolicy { start, size } => span_word(start, size),
     }
 }
 

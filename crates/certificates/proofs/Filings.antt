@@ -9,7 +9,7 @@ use lib.Dec.{T, ltb}
 use lib.ListN.{length, drop, length-append, length-drop}
 use lib.Seq.{drop-at, drop-drop}
 use borrow.Author.Tests.{ltb-true, ltb-false}
-use Rattle.refusals.specs.Table.{badCertificate, storeFull}
+use Rattle.refusals.specs.RefusalTable.{badCertificate, storeFull}
 use Rattle.rows.specs.Word.{All, Words}
 use Rattle.rows.specs.Ordered.{_∈_, lists, insert}
 use Rattle.rows.specs.Layout.{flat, pieces}

@@ -8,7 +8,7 @@ use native.Mathlib.Omega.{arith}
 use lib.Dec.{ltb, leb·suc-suc}
 use lib.ListN.{length, getD, take, drop}
 use borrow.Author.Tests.{lt-ltb, le-ltb}
-use Rattle.rows.specs.Ordered.{_∈_, StrictTotal, same, lists, insert}
+use Rattle.rows.specs.Ordered.{_∈_, StrictTotal, tied, lists, insert}
 use Rattle.rows.proofs.Case.{Case, isTrue, isFalse, split, never, T-true}
 use Rattle.rows.proofs.Ordered.{Under, Ascending, under-in, lists-iff}
 use Rattle.certificates.specs.Steps.{leading}
@@ -68,7 +68,7 @@ module _ {A : Type 0} (before : A → A → Bool) (laws : StrictTotal before) (w
   -- w is listed if it lies at its place
   pub place-held : (xs : List A) (d : A) → Ascending before laws xs →
       (ltb (leading (λ x. before x w) xs) (length xs) && not (before w (getD xs (leading (λ x. before x w) xs) d))) ≡ lists before xs w
-  unfolding leading lists same Ascending
+  unfolding leading lists tied Ascending
   place-held [] d a = rw (le-ltb 0 0 (omega arith))
   place-held (x ∷ xs) d a = go (place-held xs d (a .1)) (split (before x w)) (split (before w x))
     where

@@ -4,8 +4,8 @@ use mathlib.Core.Bool.{true, false}
 use mathlib.Core.List.{List, [], _∷_}
 use lib.Dec.{ltb}
 use lib.ListN.{length}
-use Rattle.refusals.specs.Table.{badStore, badCertificate, storeFull}
-use Rattle.rows.specs.Ordered.{lists, same, insert, wordsBefore}
+use Rattle.refusals.specs.RefusalTable.{badStore, badCertificate, storeFull}
+use Rattle.rows.specs.Ordered.{lists, tied, insert, wordsBefore}
 use Rattle.certificates.specs.Certificate.{soundRecord, recordBefore}
 use Rattle.certificates.specs.Store.{capacity, records, soundStore, withRecords}
 
@@ -16,7 +16,7 @@ pub data FilingReply : Type 0 where
 
 -- the reply to words filed where these records are held: "Filing: 8, 9, Held, 10"; 8 is the store's, below
 unfoldable pub replyGiven : List (List ℕ) → List ℕ → FilingReply
-unfolding soundRecord lists same wordsBefore
+unfolding soundRecord lists tied wordsBefore
 replyGiven records-held w = elim (soundRecord w) [
   | false ↦ refused badCertificate
   | true ↦ elim (lists recordBefore records-held w) [

@@ -9,14 +9,15 @@ use lib.Dec.{eqb}
 use lib.ListN.{length, drop}
 use denote.Enum.Declared.{tagOf}
 use borrow.Author.Tests.{lt-ltb, le-ltb, eq-eqb, ne-eqb}
-use Rattle.refusals.specs.Table.{badWord, tooDeep}
+use Rattle.refusals.specs.RefusalTable.{badWord, tooDeep}
 use Rattle.policy.specs.Leaf.{leafOf, lastCode, leafAs}
 use Rattle.policy.specs.Syntax.{Expr, leaf, union, difference, comprehension, Body, draw, same, different}
 use Rattle.policy.specs.Decode.{Read, got, refused, Reader, after, give, wordWhere, countDraw, term, width, row, Pattern, slots, isDraw, isAbsent, guardOf, guardAs, body, codeOf, isCode, exprAs, expr}
 use Rattle.policy.specs.Polarity.{Known, hasPolarity, guardsHave, openExpr, drawsClosed, guardsClosed}
-use Rattle.policy.specs.Held.{termOf}
-use Rattle.check_terms.specs.Answers.{Answer, found, stopped, Onward, Answers, Follows, kept, keeping, nothing, between, pattern, scope, patternIs, Opening, drawOpens, absentOpens, sameOpens, differentOpens, openingFor, opening, openingOf, openingIs}
-use Rattle.check_polarity.specs.Facts.{factsOf, unionOf, differenceOf, drawOf, absentOf}
+use Rattle.policy.specs.Held.{termIs}
+use Rattle.check_terms.specs.Answers.{Step, found, Onward, Answers, Follows, kept, keeping, nothing, between, pattern, scope, patternReadIs, Opening, drawOpens, absentOpens, sameOpens, differentOpens, openingFor, opening, guardIs, guardReadIs}
+use Rattle.check_terms.specs.Answers as Steps
+use Rattle.check_polarity.specs.Facts.{factsFor, unionOf, differenceOf, drawOf, absentOf}
 use Rattle.check_polarity.specs.declared.Facts.{Facts}
 use Rattle.check_leaves.specs.Checks.{checkingIs, noneInside, leafFacts, bodyFacts}
 use Rattle.check_leaves.specs.declared.Checking.the-variants as checking
@@ -32,18 +33,18 @@ use Rattle.policy.proofs.Guard.{the-type}
 use Rattle.check_terms.proofs.Answering.{Got, Lost, got-of, lost-of, tested-first, same-rule}
 use Rattle.check_terms.proofs.TermAnswers.{guard-found}
 use Rattle.check_terms.proofs.RowAnswers.{after-after}
-use Rattle.check_leaves.proofs.CheckAnswers.{kept-then, kept-stops, read-then, read-stops, shows, refuses, Checked, at-most, bodyFactsOf}
+use Rattle.check_leaves.proofs.CheckAnswers.{kept-then, kept-refused, read-then, read-refused, facts-answer, refusal-answers, Checked, at-most, bodyFactsOf}
 
 -- an answer from a later word on is one from an earlier word on
-pub sooner : {A : Type 0} {ws : List ℕ} {at from : ℕ} {x : Answer A} {y : Read A} → Answers ws from x y → at ≤ from → Answers ws at x y
+pub sooner : {A : Type 0} {ws : List ℕ} {at from : ℕ} {x : Step A} {y : Read A} → Answers ws from x y → at ≤ from → Answers ws at x y
 unfolding Onward
 sooner {A} {ws} {at} {from} {x} {y} a h = record { agrees = a .agrees; onward = go x (a .onward) }
   where
-    go : (x : Answer A) → Onward ws from x → Onward ws at x
+    go : (x : Step A) → Onward ws from x → Onward ws at x
     go (found b next k) o = (omega (arith, o .0), o .1)
-    go (stopped n) o = tt
+    go (Steps.refused n) o = tt
 
-pub answers-as : {A : Type 0} {ws : List ℕ} {at : ℕ} {x : Answer A} {y z : Read A} → z ≡ y → Answers ws at x y → Answers ws at x z
+pub answers-as : {A : Type 0} {ws : List ℕ} {at : ℕ} {x : Step A} {y z : Read A} → z ≡ y → Answers ws at x y → Answers ws at x z
 answers-as e a = record { agrees = a .agrees ∙ sym e; onward = a .onward }
 
 kept-give : {A B C : Type 0} (F : B → C) (g : A → B) (x : Read A) → kept F (after x (λ a. give (g a))) ≡ kept (λ a. F (g a)) x
@@ -65,50 +66,50 @@ code-tested = same-rule badWord isCode (between 1 lastCode) code-bounds
 module _ {ws : List ℕ} {at : ℕ} (n k : ℕ) (ks : List Known) where
   pub expr-uncoded : (levels : ℕ) {m : ℕ} → Lost ws at (wordWhere badWord (between 1 lastCode)) m → Answers ws at (checkingIs (checking.Refused m)) (exprFacts ks levels n (drop at ws) k)
   unfolding exprFacts keeping expr
-  expr-uncoded zero l = refuses (read-stops (factsOf ks) _ (code-tested (drop at ws) k ∙ l .reads k))
-  expr-uncoded (suc levels) l = refuses (ap (kept (factsOf ks)) (expr-tested (length ks) levels n (drop at ws) k) ∙ read-stops (factsOf ks) _ (l .reads k))
+  expr-uncoded zero l = refusal-answers (read-refused (factsFor ks) _ (code-tested (drop at ws) k ∙ l .reads k))
+  expr-uncoded (suc levels) l = refusal-answers (ap (kept (factsFor ks)) (expr-tested (length ks) levels n (drop at ws) k) ∙ read-refused (factsFor ks) _ (l .reads k))
 
   module _ {code : ℕ} (g : Got ws at (wordWhere badWord (between 1 lastCode)) code (at + 1)) where
     pub expr-deep : (levels : ℕ) → levels ≡ 0 → Answers ws at (checkingIs (checking.Refused tooDeep)) (exprFacts ks levels n (drop at ws) k)
     unfolding exprFacts keeping kept expr
-    expr-deep zero z = refuses (read-then (factsOf ks) _ (code-tested (drop at ws) k ∙ g .reads k) refl)
+    expr-deep zero z = refusal-answers (read-then (factsFor ks) _ (code-tested (drop at ws) k ∙ g .reads k) refl)
     expr-deep (suc levels) z = absurd (omega arith)
 
-    pub expr-coded : (levels : ℕ) → (levels ≡ 0 → ⊥) → {x : Answer Facts} → Answers ws (at + 1) x (codeFacts ks (inside ks (levels - 1)) n code (drop (at + 1) ws) k) →
+    pub expr-coded : (levels : ℕ) → (levels ≡ 0 → ⊥) → {x : Step Facts} → Answers ws (at + 1) x (codeFacts ks (inside ks (levels - 1)) n code (drop (at + 1) ws) k) →
         Answers ws at x (exprFacts ks levels n (drop at ws) k)
     unfolding exprFacts codeFacts keeping inside
     expr-coded zero z a = absurd (z refl)
     expr-coded (suc levels) z a =
         let p : suc levels - 1 ≡ levels = omega arith in
-        sooner (answers-as (ap (kept (factsOf ks)) (expr-tested (length ks) levels n (drop at ws) k) ∙ read-then (factsOf ks) _ (g .reads k) refl) (rw p at a)) (omega arith)
+        sooner (answers-as (ap (kept (factsFor ks)) (expr-tested (length ks) levels n (drop at ws) k) ∙ read-then (factsFor ks) _ (g .reads k) refl) (rw p at a)) (omega arith)
 
 -- a code that is no node's: a leaf, or refused
 leaf-facts : (ks : List Known) (inner : ℕ → Reader Expr) (n code : ℕ) → (code ≡ 5 → ⊥) → (code ≡ 6 → ⊥) → (code ≡ 7 → ⊥) → (us : List ℕ) (k : ℕ) →
     codeFacts ks inner n code us k ≡ leafFacts ks n code us k
 unfolding codeFacts leafFacts keeping exprAs
-leaf-facts ks inner n code u d c us k = rw (no-node code (not-node code u d c)) (kept-give (factsOf ks) leaf (leafAs (length ks) n (leafOf code) us k))
+leaf-facts ks inner n code u d c us k = rw (no-node code (not-node code u d c)) (kept-give (factsFor ks) leaf (leafAs (length ks) n (leafOf code) us k))
 
 -- a comprehension's code, and the count of its guards
 counted : (n k : ℕ) (ks : List Known) (inner : ℕ → Reader Expr) (code : ℕ) → code ≡ 7 → (us : List ℕ) →
-    codeFacts ks inner n code us k ≡ kept (factsOf ks) (after (wordWhere badWord (between 0 8) us k) (λ c us i. after (body inner c n us i) (λ b. give (comprehension b))))
+    codeFacts ks inner n code us k ≡ kept (factsFor ks) (after (wordWhere badWord (between 0 8) us k) (λ c us i. after (body inner c n us i) (λ b. give (comprehension b))))
 unfolding codeFacts keeping exprAs codeOf
 counted n k ks inner code e us =
-    ap (λ c. codeFacts ks inner n c us k) e ∙ ap (λ x. kept (factsOf ks) (after x (λ c us i. after (body inner c n us i) (λ b. give (comprehension b))))) (at-most 8 us k)
+    ap (λ c. codeFacts ks inner n c us k) e ∙ ap (λ x. kept (factsFor ks) (after x (λ c us i. after (body inner c n us i) (λ b. give (comprehension b))))) (at-most 8 us k)
 
 module _ {ws : List ℕ} {at : ℕ} (levels n k : ℕ) (ks : List Known) (code : ℕ) where
-  pub leaf-answers : (code ≡ 5 → ⊥) → (code ≡ 6 → ⊥) → (code ≡ 7 → ⊥) → {x : Answer Facts} →
+  pub leaf-answers : (code ≡ 5 → ⊥) → (code ≡ 6 → ⊥) → (code ≡ 7 → ⊥) → {x : Step Facts} →
       Answers ws at x (leafFacts ks n code (drop at ws) k) → Answers ws at x (codeFacts ks (inside ks levels) n code (drop at ws) k)
   leaf-answers u d c a = answers-as (leaf-facts ks (inside ks levels) n code u d c (drop at ws) k) a
 
   pub comprehension-uncounted : code ≡ 7 → {m : ℕ} → Lost ws at (wordWhere badWord (between 0 8)) m → Answers ws at (checkingIs (checking.Refused m)) (codeFacts ks (inside ks levels) n code (drop at ws) k)
-  comprehension-uncounted e l = refuses (counted n k ks (inside ks levels) code e (drop at ws) ∙ read-stops (factsOf ks) _ (l .reads k))
+  comprehension-uncounted e l = refusal-answers (counted n k ks (inside ks levels) code e (drop at ws) ∙ read-refused (factsFor ks) _ (l .reads k))
 
-  pub comprehension-counted : code ≡ 7 → {c : ℕ} → Got ws at (wordWhere badWord (between 0 8)) c (at + 1) → {x : Answer Facts} →
+  pub comprehension-counted : code ≡ 7 → {c : ℕ} → Got ws at (wordWhere badWord (between 0 8)) c (at + 1) → {x : Step Facts} →
       Answers ws (at + 1) x (bodyFacts ks (inside ks levels) c n (drop (at + 1) ws) k) → Answers ws at x (codeFacts ks (inside ks levels) n code (drop at ws) k)
   unfolding bodyFacts keeping
   comprehension-counted e {c} g a =
-      let kept-body = kept-give (factsOf ks) comprehension (body (inside ks levels) c n (drop (at + 1) ws) k) in
-      sooner (answers-as (counted n k ks (inside ks levels) code e (drop at ws) ∙ read-then (factsOf ks) _ (g .reads k) kept-body) a) (omega arith)
+      let kept-body = kept-give (factsFor ks) comprehension (body (inside ks levels) c n (drop (at + 1) ws) k) in
+      sooner (answers-as (counted n k ks (inside ks levels) code e (drop at ws) ∙ read-then (factsFor ks) _ (g .reads k) kept-body) a) (omega arith)
 
 -- a union or a difference
 twoFacts : ℕ → Facts → Facts → Facts
@@ -123,9 +124,9 @@ unfolding twoFacts
 two-difference code e a b = ap (λ t. elim t as (λ c. Facts) [ true ↦ unionOf a b | false ↦ differenceOf a b ]) (ne-eqb code 5 e)
 
 two-parts : (ks : List Known) (inner : ℕ → Reader Expr) (n code : ℕ) (us : List ℕ) (k : ℕ) → 5 ≤ code → code ≤ 6 → (y : Read Facts) →
-    ((g : Expr → Expr → Expr) → ((a b : Expr) → factsOf ks (g a b) ≡ twoFacts code (factsOf ks a) (factsOf ks b)) → kept (factsOf ks) (after (inner n us k) (λ a us i. after (inner n us i) (λ b. give (g a b)))) ≡ y) →
+    ((g : Expr → Expr → Expr) → ((a b : Expr) → factsFor ks (g a b) ≡ twoFacts code (factsFor ks a) (factsFor ks b)) → kept (factsFor ks) (after (inner n us k) (λ a us i. after (inner n us i) (λ b. give (g a b)))) ≡ y) →
     codeFacts ks inner n code us k ≡ y
-unfolding codeFacts keeping exprAs codeOf twoFacts unionOf differenceOf factsOf hasPolarity openExpr drawsClosed
+unfolding codeFacts keeping exprAs codeOf twoFacts unionOf differenceOf factsFor hasPolarity openExpr drawsClosed
 two-parts ks inner n zero us k l h y g = absurd (omega arith)
 two-parts ks inner n (suc zero) us k l h y g = absurd (omega arith)
 two-parts ks inner n (suc (suc zero)) us k l h y g = absurd (omega arith)
@@ -138,25 +139,25 @@ two-parts ks inner n (suc (suc (suc (suc (suc (suc (suc c))))))) us k l h y g = 
 module _ {ws : List ℕ} {at : ℕ} (levels n k : ℕ) (ks : List Known) (code : ℕ) (low : 5 ≤ code) (high : code ≤ 6) where
   pub two-first : {m : ℕ} → exprFacts ks levels n (drop at ws) k ≡ refused m → Answers ws at (checkingIs (checking.Refused m)) (codeFacts ks (inside ks levels) n code (drop at ws) k)
   unfolding exprFacts keeping inside
-  two-first {m} e = refuses (two-parts ks (inside ks levels) n code (drop at ws) k low high (refused m) (λ g p. kept-stops (factsOf ks) (factsOf ks) (inside ks levels n (drop at ws) k) _ e))
+  two-first {m} e = refusal-answers (two-parts ks (inside ks levels) n code (drop at ws) k low high (refused m) (λ g p. kept-refused (factsFor ks) (factsFor ks) (inside ks levels n (drop at ws) k) _ e))
 
   module _ {a : Facts} {mid j : ℕ} (f : Checked ws at (exprFacts ks levels n (drop at ws) k) a mid j) where
     pub two-second : {m : ℕ} → exprFacts ks levels n (drop mid ws) j ≡ refused m → Answers ws at (checkingIs (checking.Refused m)) (codeFacts ks (inside ks levels) n code (drop at ws) k)
     unfolding exprFacts keeping inside
-    two-second {m} e = refuses (two-parts ks (inside ks levels) n code (drop at ws) k low high (refused m) (λ g p.
-        kept-then (factsOf ks) (factsOf ks) (inside ks levels n (drop at ws) k) _ (f .comes) (λ x q.
-        kept-stops (factsOf ks) (factsOf ks) (inside ks levels n (drop mid ws) j) _ e)))
+    two-second {m} e = refusal-answers (two-parts ks (inside ks levels) n code (drop at ws) k low high (refused m) (λ g p.
+        kept-then (factsFor ks) (factsFor ks) (inside ks levels n (drop at ws) k) _ (f .comes) (λ x q.
+        kept-refused (factsFor ks) (factsFor ks) (inside ks levels n (drop mid ws) j) _ e)))
 
     module _ {b : Facts} {next i : ℕ} (g : Checked ws mid (exprFacts ks levels n (drop mid ws) j) b next i) where
       two-both : codeFacts ks (inside ks levels) n code (drop at ws) k ≡ got (twoFacts code a b) (drop next ws) i
       unfolding exprFacts keeping kept inside
       two-both = two-parts ks (inside ks levels) n code (drop at ws) k low high (got (twoFacts code a b) (drop next ws) i) (λ h p.
-          kept-then (factsOf ks) (factsOf ks) (inside ks levels n (drop at ws) k) _ (f .comes) (λ x q.
-          kept-then (factsOf ks) (factsOf ks) (inside ks levels n (drop mid ws) j) _ (g .comes) (λ y t.
-          ap (λ z. got z (drop next ws) i) (p x y ∙ (ap (λ z. twoFacts code z (factsOf ks y)) q ∙ ap (twoFacts code a) t)))))
+          kept-then (factsFor ks) (factsFor ks) (inside ks levels n (drop at ws) k) _ (f .comes) (λ x q.
+          kept-then (factsFor ks) (factsFor ks) (inside ks levels n (drop mid ws) j) _ (g .comes) (λ y t.
+          ap (λ z. got z (drop next ws) i) (p x y ∙ (ap (λ z. twoFacts code z (factsFor ks y)) q ∙ ap (twoFacts code a) t)))))
 
       two-found : {z : Facts} → twoFacts code a b ≡ z → Answers ws at (checkingIs (checking.Found z next i)) (codeFacts ks (inside ks levels) n code (drop at ws) k)
-      two-found e = shows (two-both ∙ ap (λ z. got z (drop next ws) i) e) (omega (arith, f .onward, g .onward)) (g .within)
+      two-found e = facts-answer (two-both ∙ ap (λ z. got z (drop next ws) i) e) (omega (arith, f .onward, g .onward)) (g .within)
 
       pub union-found : {z : Facts} → code ≡ 5 → z ≡ unionOf a b → Answers ws at (checkingIs (checking.Found z next i)) (codeFacts ks (inside ks levels) n code (drop at ws) k)
       union-found t e = two-found (two-union code t a b ∙ sym e)
@@ -187,7 +188,7 @@ body-opening inner c n (suc (suc (suc (suc zero))) ∷ us) k = refl
 body-opening inner c n (suc (suc (suc (suc (suc w)))) ∷ us) k = refl
 
 -- no guards are left, and the head comes
-pub head-answers : {ws : List ℕ} {at : ℕ} (levels n k : ℕ) (ks : List Known) (left : ℕ) → left ≡ 0 → {x : Answer Facts} → Answers ws at x (bodyFacts ks noneInside 0 n (drop at ws) k) →
+pub head-answers : {ws : List ℕ} {at : ℕ} (levels n k : ℕ) (ks : List Known) (left : ℕ) → left ≡ 0 → {x : Step Facts} → Answers ws at x (bodyFacts ks noneInside 0 n (drop at ws) k) →
     Answers ws at x (bodyFacts ks (inside ks levels) left n (drop at ws) k)
 unfolding bodyFacts keeping body
 head-answers levels n k ks zero e a = a
@@ -203,31 +204,31 @@ opened levels n k ks left some us =
 
 module _ {ws : List ℕ} {at : ℕ} (levels n k : ℕ) (ks : List Known) (left : ℕ) (some : left ≡ 0 → ⊥) where
   pub guards-unopened : {m : ℕ} → Lost ws at (opening n) m → Answers ws at (checkingIs (checking.Refused m)) (bodyFacts ks (inside ks levels) left n (drop at ws) k)
-  guards-unopened l = refuses (opened levels n k ks left some (drop at ws) ∙ read-stops (bodyFactsOf ks) _ (l .reads k))
+  guards-unopened l = refusal-answers (opened levels n k ks left some (drop at ws) ∙ read-refused (bodyFactsOf ks) _ (l .reads k))
 
   -- what follows the opening is what the body comes to
   followed : {o : Opening} {next : ℕ} → Got ws at (opening n) o next → {y : Read Facts} → kept (bodyFactsOf ks) (bodyFrom (inside ks levels) (left - 1) n o (drop next ws) k) ≡ y →
-      {x : Answer Facts} → Answers ws next x y → Answers ws at x (bodyFacts ks (inside ks levels) left n (drop at ws) k)
+      {x : Step Facts} → Answers ws next x y → Answers ws at x (bodyFacts ks (inside ks levels) left n (drop at ws) k)
   followed f e a = sooner (answers-as (opened levels n k ks left some (drop at ws) ∙ read-then (bodyFactsOf ks) _ (f .reads k) e) a) (omega (arith, f .onward))
 
-  module _ {r : GuardRead.GuardRead} (f : Follows ws at (openingIs r) (opening n)) {g : GuardHeld.Guard} {next : ℕ} (e : r ≡ guardRead.Found g next) where
-    opens : (h : GuardHeld.Guard) → g ≡ h → Got ws at (opening n) (openingOf h) next
+  module _ {r : GuardRead.GuardRead} (f : Follows ws at (guardReadIs r) (opening n)) {g : GuardHeld.Guard} {next : ℕ} (e : r ≡ guardRead.Found g next) where
+    opens : (h : GuardHeld.Guard) → g ≡ h → Got ws at (opening n) (guardIs h) next
     opens h d = rw d at (guard-found f e)
 
-    pub guards-draw : g ≡ Draw → {x : Answer Facts} → Answers ws next x (guardFacts ks (inside ks levels) (left - 1) n isDraw (drop next ws) k) →
+    pub guards-draw : g ≡ Draw → {x : Step Facts} → Answers ws next x (guardFacts ks (inside ks levels) (left - 1) n isDraw (drop next ws) k) →
         Answers ws at x (bodyFacts ks (inside ks levels) left n (drop at ws) k)
-    unfolding guardFacts keeping bodyFrom openingOf
+    unfolding guardFacts keeping bodyFrom guardIs
     guards-draw d = followed (opens Draw d) refl
 
-    pub guards-absent : g ≡ Absent → {x : Answer Facts} → Answers ws next x (guardFacts ks (inside ks levels) (left - 1) n isAbsent (drop next ws) k) →
+    pub guards-absent : g ≡ Absent → {x : Step Facts} → Answers ws next x (guardFacts ks (inside ks levels) (left - 1) n isAbsent (drop next ws) k) →
         Answers ws at x (bodyFacts ks (inside ks levels) left n (drop at ws) k)
-    unfolding guardFacts keeping bodyFrom openingOf
+    unfolding guardFacts keeping bodyFrom guardIs
     guards-absent d = followed (opens Absent d) refl
 
     -- "No other operand counts": a comparison, whichever it is, as the `match` on it tells, leaves the facts as they are
-    pub guards-compared : (tagOf the-type g ≡ 1) ⊎ (tagOf the-type g ≡ 2) → {x : Answer Facts} → Answers ws next x (bodyFacts ks (inside ks levels) (left - 1) n (drop next ws) k) →
+    pub guards-compared : (tagOf the-type g ≡ 1) ⊎ (tagOf the-type g ≡ 2) → {x : Step Facts} → Answers ws next x (bodyFacts ks (inside ks levels) (left - 1) n (drop next ws) k) →
         Answers ws at x (bodyFacts ks (inside ks levels) left n (drop at ws) k)
-    unfolding bodyFacts keeping bodyFrom openingOf factsOf hasPolarity guardsHave openExpr drawsClosed guardsClosed
+    unfolding bodyFacts keeping bodyFrom guardIs factsFor hasPolarity guardsHave openExpr drawsClosed guardsClosed
     guards-compared t {x} a = go g refl t
       where
         rest : Read Body
@@ -236,18 +237,18 @@ module _ {ws : List ℕ} {at : ℕ} (levels n k : ℕ) (ks : List Known) (left :
         go : (h : GuardHeld.Guard) → g ≡ h → (tagOf the-type h ≡ 1) ⊎ (tagOf the-type h ≡ 2) → Answers ws at x (bodyFacts ks (inside ks levels) left n (drop at ws) k)
         go Draw d (inl p) = absurd (omega (arith, p))
         go Draw d (inr p) = absurd (omega (arith, p))
-        go (Same y z) d t = followed (opens (Same y z) d) (kept-give (bodyFactsOf ks) (same (termOf y) (termOf z)) rest) a
-        go (Different y z) d t = followed (opens (Different y z) d) (kept-give (bodyFactsOf ks) (different (termOf y) (termOf z)) rest) a
+        go (Same y z) d t = followed (opens (Same y z) d) (kept-give (bodyFactsOf ks) (same (termIs y) (termIs z)) rest) a
+        go (Different y z) d t = followed (opens (Different y z) d) (kept-give (bodyFactsOf ks) (different (termIs y) (termIs z)) rest) a
         go Absent d (inl p) = absurd (omega (arith, p))
         go Absent d (inr p) = absurd (omega (arith, p))
 
-pub pattern-found : {ws : List ℕ} {at c next : ℕ} {m : Reader ℕ} {r : PatternRead.PatternRead} → Follows ws at (patternIs r) m → r ≡ patternRead.Found c next → Got ws at m c next
-unfolding patternIs
-pattern-found f e = got-of f (λ k. ap (λ r. patternIs r k) e)
+pub pattern-found : {ws : List ℕ} {at c next : ℕ} {m : Reader ℕ} {r : PatternRead.PatternRead} → Follows ws at (patternReadIs r) m → r ≡ patternRead.Found c next → Got ws at m c next
+unfolding patternReadIs
+pattern-found f e = got-of f (λ k. ap (λ r. patternReadIs r k) e)
 
-pub pattern-lost : {ws : List ℕ} {at n : ℕ} {m : Reader ℕ} {r : PatternRead.PatternRead} → Follows ws at (patternIs r) m → r ≡ patternRead.Refused n → Lost ws at m n
-unfolding patternIs
-pattern-lost f e = lost-of f (λ k. ap (λ r. patternIs r k) e)
+pub pattern-lost : {ws : List ℕ} {at n : ℕ} {m : Reader ℕ} {r : PatternRead.PatternRead} → Follows ws at (patternReadIs r) m → r ≡ patternRead.Refused n → Lost ws at m n
+unfolding patternReadIs
+pattern-lost f e = lost-of f (λ k. ap (λ r. patternReadIs r k) e)
 
 -- a draw
 eight-draws : (us : List ℕ) (k : ℕ) → 8 ≤ k → countDraw us k ≡ refused tooDeep
@@ -261,7 +262,7 @@ one-draw us k h = ap (λ b. elim b as (λ c. Read (Unit {0})) [ true ↦ got tt 
 pub draw-ninth : {ws : List ℕ} {at : ℕ} (levels n k : ℕ) (ks : List Known) (c : ℕ) → 8 ≤ k →
     Answers ws at (checkingIs (checking.Refused tooDeep)) (guardFacts ks (inside ks levels) c n isDraw (drop at ws) k)
 unfolding guardFacts keeping guardAs
-draw-ninth {ws} {at} levels n k ks c h = refuses (read-stops (bodyFactsOf ks) _ (eight-draws (drop at ws) k h))
+draw-ninth {ws} {at} levels n k ks c h = refusal-answers (read-refused (bodyFactsOf ks) _ (eight-draws (drop at ws) k h))
 
 module _ (levels n : ℕ) (ks : List Known) (c : ℕ) where
   -- what is read once its expression is, and once its pattern is
@@ -282,21 +283,21 @@ module _ (levels n : ℕ) (ks : List Known) (c : ℕ) where
 module _ {ws : List ℕ} {at : ℕ} (levels n k : ℕ) (ks : List Known) (c : ℕ) (few : k < 8) where
   pub draw-unread : {m : ℕ} → exprFacts ks levels n (drop at ws) (k + 1) ≡ refused m → Answers ws at (checkingIs (checking.Refused m)) (guardFacts ks (inside ks levels) c n isDraw (drop at ws) k)
   unfolding exprFacts keeping inside
-  draw-unread e = refuses (drawn levels n ks c (drop at ws) k few ∙ kept-stops (factsOf ks) (bodyFactsOf ks) (inside ks levels n (drop at ws) (k + 1)) _ e)
+  draw-unread e = refusal-answers (drawn levels n ks c (drop at ws) k few ∙ kept-refused (factsFor ks) (bodyFactsOf ks) (inside ks levels n (drop at ws) (k + 1)) _ e)
 
   module _ {a : Facts} {mid j : ℕ} (f : Checked ws at (exprFacts ks levels n (drop at ws) (k + 1)) a mid j) where
-    then-pattern : {y : Read Facts} → ((x : Expr) → factsOf ks x ≡ a → kept (bodyFactsOf ks) (after (pattern n (drop mid ws) j) (afterPattern levels n ks c x)) ≡ y) →
+    then-pattern : {y : Read Facts} → ((x : Expr) → factsFor ks x ≡ a → kept (bodyFactsOf ks) (after (pattern n (drop mid ws) j) (afterPattern levels n ks c x)) ≡ y) →
         guardFacts ks (inside ks levels) c n isDraw (drop at ws) k ≡ y
     unfolding exprFacts keeping inside
-    then-pattern h = drawn levels n ks c (drop at ws) k few ∙ kept-then (factsOf ks) (bodyFactsOf ks) (inside ks levels n (drop at ws) (k + 1)) _ (f .comes) (λ x q.
+    then-pattern h = drawn levels n ks c (drop at ws) k few ∙ kept-then (factsFor ks) (bodyFactsOf ks) (inside ks levels n (drop at ws) (k + 1)) _ (f .comes) (λ x q.
         ap (kept (bodyFactsOf ks)) (patterned levels n ks c x (drop mid ws) j) ∙ h x q)
 
     pub draw-unmatched : {m : ℕ} → Lost ws mid (keeping scope (pattern n)) m → Answers ws at (checkingIs (checking.Refused m)) (guardFacts ks (inside ks levels) c n isDraw (drop at ws) k)
     unfolding keeping
-    draw-unmatched l = refuses (then-pattern (λ x q. kept-stops scope (bodyFactsOf ks) (pattern n (drop mid ws) j) (afterPattern levels n ks c x) (l .reads j)))
+    draw-unmatched l = refusal-answers (then-pattern (λ x q. kept-refused scope (bodyFactsOf ks) (pattern n (drop mid ws) j) (afterPattern levels n ks c x) (l .reads j)))
 
     module _ {v rest : ℕ} (g : Got ws mid (keeping scope (pattern n)) v rest) where
-      then-rest : {y : Read Facts} → ((x : Expr) (p : Pattern) → factsOf ks x ≡ a → kept (bodyFactsOf ks) (after (body (inside ks levels) c v (drop rest ws) j) (λ b. give (draw x (p .0) b))) ≡ y) →
+      then-rest : {y : Read Facts} → ((x : Expr) (p : Pattern) → factsFor ks x ≡ a → kept (bodyFactsOf ks) (after (body (inside ks levels) c v (drop rest ws) j) (λ b. give (draw x (p .0) b))) ≡ y) →
           guardFacts ks (inside ks levels) c n isDraw (drop at ws) k ≡ y
       unfolding keeping afterPattern
       then-rest h = then-pattern (λ x q. kept-then scope (bodyFactsOf ks) (pattern n (drop mid ws) j) (afterPattern levels n ks c x) (g .reads j) (λ p t.
@@ -304,12 +305,12 @@ module _ {ws : List ℕ} {at : ℕ} (levels n k : ℕ) (ks : List Known) (c : �
 
       pub draw-rest : {m : ℕ} → bodyFacts ks (inside ks levels) c v (drop rest ws) j ≡ refused m → Answers ws at (checkingIs (checking.Refused m)) (guardFacts ks (inside ks levels) c n isDraw (drop at ws) k)
       unfolding bodyFacts keeping
-      draw-rest e = refuses (then-rest (λ x p q. kept-stops (bodyFactsOf ks) (bodyFactsOf ks) (body (inside ks levels) c v (drop rest ws) j) _ e))
+      draw-rest e = refusal-answers (then-rest (λ x p q. kept-refused (bodyFactsOf ks) (bodyFactsOf ks) (body (inside ks levels) c v (drop rest ws) j) _ e))
 
       pub draw-found : {b z : Facts} {next l : ℕ} → Checked ws rest (bodyFacts ks (inside ks levels) c v (drop rest ws) j) b next l → z ≡ drawOf a b →
           Answers ws at (checkingIs (checking.Found z next l)) (guardFacts ks (inside ks levels) c n isDraw (drop at ws) k)
-      unfolding bodyFacts keeping kept drawOf factsOf hasPolarity guardsHave openExpr drawsClosed guardsClosed
-      draw-found {b} {z} {next} {l} h e = shows
+      unfolding bodyFacts keeping kept drawOf factsFor hasPolarity guardsHave openExpr drawsClosed guardsClosed
+      draw-found {b} {z} {next} {l} h e = facts-answer
           (then-rest (λ x p q. kept-then (bodyFactsOf ks) (bodyFactsOf ks) (body (inside ks levels) c v (drop rest ws) j) _ (h .comes) (λ y t.
           ap (λ o. got o (drop next ws) l) (ap (λ o. drawOf o (bodyFactsOf ks y)) q ∙ (ap (drawOf a) t ∙ sym e)))))
           (omega (arith, f .onward, g .onward, h .onward)) (h .within)
@@ -318,27 +319,27 @@ module _ {ws : List ℕ} {at : ℕ} (levels n k : ℕ) (ks : List Known) (c : �
 module _ {ws : List ℕ} {at : ℕ} (levels n k : ℕ) (ks : List Known) (c : ℕ) where
   pub absent-unread : {m : ℕ} → Lost ws at (keeping nothing (row n)) m → Answers ws at (checkingIs (checking.Refused m)) (guardFacts ks (inside ks levels) c n isAbsent (drop at ws) k)
   unfolding guardFacts keeping guardAs
-  absent-unread l = refuses (kept-stops nothing (bodyFactsOf ks) (row n (drop at ws) k) _ (l .reads k))
+  absent-unread l = refusal-answers (kept-refused nothing (bodyFactsOf ks) (row n (drop at ws) k) _ (l .reads k))
 
   module _ {mid : ℕ} (f : Got ws at (keeping nothing (row n)) tt mid) where
     pub absent-set : {m : ℕ} → exprFacts ks levels n (drop mid ws) k ≡ refused m → Answers ws at (checkingIs (checking.Refused m)) (guardFacts ks (inside ks levels) c n isAbsent (drop at ws) k)
     unfolding guardFacts exprFacts keeping guardAs inside
-    absent-set e = refuses (kept-then nothing (bodyFactsOf ks) (row n (drop at ws) k) _ (f .reads k) (λ t p.
-        kept-stops (factsOf ks) (bodyFactsOf ks) (inside ks levels n (drop mid ws) k) _ e))
+    absent-set e = refusal-answers (kept-then nothing (bodyFactsOf ks) (row n (drop at ws) k) _ (f .reads k) (λ t p.
+        kept-refused (factsFor ks) (bodyFactsOf ks) (inside ks levels n (drop mid ws) k) _ e))
 
     module _ {a : Facts} {rest j : ℕ} (g : Checked ws mid (exprFacts ks levels n (drop mid ws) k) a rest j) where
       pub absent-rest : {m : ℕ} → bodyFacts ks (inside ks levels) c n (drop rest ws) j ≡ refused m → Answers ws at (checkingIs (checking.Refused m)) (guardFacts ks (inside ks levels) c n isAbsent (drop at ws) k)
       unfolding guardFacts exprFacts bodyFacts keeping guardAs inside
-      absent-rest e = refuses (kept-then nothing (bodyFactsOf ks) (row n (drop at ws) k) _ (f .reads k) (λ t p.
-          kept-then (factsOf ks) (bodyFactsOf ks) (inside ks levels n (drop mid ws) k) _ (g .comes) (λ x q.
-          kept-stops (bodyFactsOf ks) (bodyFactsOf ks) (body (inside ks levels) c n (drop rest ws) j) _ e)))
+      absent-rest e = refusal-answers (kept-then nothing (bodyFactsOf ks) (row n (drop at ws) k) _ (f .reads k) (λ t p.
+          kept-then (factsFor ks) (bodyFactsOf ks) (inside ks levels n (drop mid ws) k) _ (g .comes) (λ x q.
+          kept-refused (bodyFactsOf ks) (bodyFactsOf ks) (body (inside ks levels) c n (drop rest ws) j) _ e)))
 
       pub absent-found : {b z : Facts} {next l : ℕ} → Checked ws rest (bodyFacts ks (inside ks levels) c n (drop rest ws) j) b next l → z ≡ absentOf a b →
           Answers ws at (checkingIs (checking.Found z next l)) (guardFacts ks (inside ks levels) c n isAbsent (drop at ws) k)
-      unfolding guardFacts exprFacts bodyFacts keeping kept guardAs inside absentOf factsOf hasPolarity guardsHave openExpr drawsClosed guardsClosed
-      absent-found {b} {z} {next} {l} h e = shows
+      unfolding guardFacts exprFacts bodyFacts keeping kept guardAs inside absentOf factsFor hasPolarity guardsHave openExpr drawsClosed guardsClosed
+      absent-found {b} {z} {next} {l} h e = facts-answer
           (kept-then nothing (bodyFactsOf ks) (row n (drop at ws) k) _ (f .reads k) (λ t p.
-          kept-then (factsOf ks) (bodyFactsOf ks) (inside ks levels n (drop mid ws) k) _ (g .comes) (λ x q.
+          kept-then (factsFor ks) (bodyFactsOf ks) (inside ks levels n (drop mid ws) k) _ (g .comes) (λ x q.
           kept-then (bodyFactsOf ks) (bodyFactsOf ks) (body (inside ks levels) c n (drop rest ws) j) _ (h .comes) (λ y v.
           ap (λ o. got o (drop next ws) l) (ap (λ o. absentOf o (bodyFactsOf ks y)) q ∙ (ap (absentOf a) v ∙ sym e))))))
           (omega (arith, f .onward, g .onward, h .onward)) (h .within)

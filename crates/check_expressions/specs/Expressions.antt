@@ -7,7 +7,7 @@ use Rattle.policy.specs.Syntax.{Expr, comprehension}
 use Rattle.policy.specs.Decode.{Reader, Guard, guardAs, body, codeOf, exprAs, expr}
 use Rattle.policy.specs.Polarity.{Known}
 use Rattle.check_terms.specs.Answers.{keeping}
-use Rattle.check_polarity.specs.Facts.{factsOf}
+use Rattle.check_polarity.specs.Facts.{factsFor}
 use Rattle.check_polarity.specs.declared.Facts.{Facts}
 
 -- the reader of the expressions inside, so many levels being left for them
@@ -17,12 +17,12 @@ inside ks levels = λ n. expr (length ks) levels n
 
 unfoldable pub exprFacts : List Known → ℕ → ℕ → Reader Facts
 unfolding expr
-exprFacts ks levels n = keeping (factsOf ks) (expr (length ks) levels n)
+exprFacts ks levels n = keeping (factsFor ks) (expr (length ks) levels n)
 
 unfoldable pub codeFacts : List Known → (ℕ → Reader Expr) → ℕ → ℕ → Reader Facts
 unfolding exprAs codeOf
-codeFacts ks inner n code = keeping (factsOf ks) (exprAs (length ks) inner n (codeOf code))
+codeFacts ks inner n code = keeping (factsFor ks) (exprAs (length ks) inner n (codeOf code))
 
 unfoldable pub guardFacts : List Known → (ℕ → Reader Expr) → ℕ → ℕ → Guard → Reader Facts
 unfolding guardAs body
-guardFacts ks inner c n g = keeping (λ b. factsOf ks (comprehension b)) (guardAs inner n (λ m. body inner c m) g)
+guardFacts ks inner c n g = keeping (λ b. factsFor ks (comprehension b)) (guardAs inner n (λ m. body inner c m) g)

@@ -4,7 +4,7 @@ ghost use Prim.Native.Nat.{_≤_};
 ghost use lib.ListN.{length, drop};
 ghost use Rattle.policy.specs.Decode.{isDraw, isAbsent};
 ghost use Rattle.check_terms.specs.Answers.{Answers};
-ghost use Rattle.check_polarity.specs.Earlier.{knownIn};
+ghost use Rattle.check_polarity.specs.Earlier.{earlierIs};
 ghost use Rattle.check_leaves.specs.Checks.{checkingIs, bodyFacts};
 ghost use Rattle.check_expressions.specs.Expressions.{inside, exprFacts, codeFacts, guardFacts};
 use check_leaves::Checking;
@@ -19,9 +19,9 @@ use check_terms::GuardRead;
 use check_terms::Passed;
 use check_terms::PatternRead;
 use check_terms::WordRead;
+use check_terms::pass_row;
 use check_terms::read_guard;
 use check_terms::read_pattern;
-use check_terms::read_row;
 use check_terms::word_between;
 use policy::CODE_COMPREHENSION;
 use policy::CODE_DIFFERENCE;
@@ -31,7 +31,7 @@ use policy::LAST_CODE;
 
 const MOST_GUARDS: u32 = 8;
 
-const MOST_DRAWS: u32 = 8;
+const MOST_DRAW_GUARDS: u32 = 8;
 
 // An expression, with so many levels of depth left; with none left it is refused at its code word.
 pub fn check_expr(
@@ -43,7 +43,7 @@ pub fn check_expr(
     earlier: Earlier,
 ) -> Checking
     requires { ⌜ earlier .count ≤ 16 ⌝ }
-    ensures { λ r. ⌜ Answers (now (words .entry)) at (checkingIs r) (exprFacts (knownIn earlier) levels variables (drop at (now (words .entry))) draws) ⌝ }
+    ensures { λ r. ⌜ Answers (now (words .entry)) at (checkingIs r) (exprFacts (earlierIs earlier) levels variables (drop at (now (words .entry))) draws) ⌝ }
 {
     match word_between(words, at, 1, LAST_CODE) {
         WordRead::Refused(n) => Checking::Refused(n),
@@ -68,7 +68,7 @@ fn check_code(
     code: u32,
 ) -> Checking
     requires { ⌜ (earlier .count ≤ 16) × (at ≤ length (now words)) ⌝ }
-    ensures { λ r. ⌜ Answers (now (words .entry)) at (checkingIs r) (codeFacts (knownIn earlier) (inside (knownIn earlier) levels) variables code (drop at (now (words .entry))) draws) ⌝ }
+    ensures { λ r. ⌜ Answers (now (words .entry)) at (checkingIs r) (codeFacts (earlierIs earlier) (inside (earlierIs earlier) levels) variables code (drop at (now (words .entry))) draws) ⌝ }
 {
     if code == CODE_UNION {
         return check_two(words, at, levels, variables, draws, earlier, code);
@@ -104,7 +104,7 @@ fn check_two(
     code: u32,
 ) -> Checking
     requires { ⌜ (earlier .count ≤ 16) × (5 ≤ code) × (code ≤ 6) ⌝ }
-    ensures { λ r. ⌜ Answers (now (words .entry)) at (checkingIs r) (codeFacts (knownIn earlier) (inside (knownIn earlier) levels) variables code (drop at (now (words .entry))) draws) ⌝ }
+    ensures { λ r. ⌜ Answers (now (words .entry)) at (checkingIs r) (codeFacts (earlierIs earlier) (inside (earlierIs earlier) levels) variables code (drop at (now (words .entry))) draws) ⌝ }
 {
     match check_expr(words, at, levels, variables, draws, earlier) {
         Checking::Refused(n) => Checking::Refused(n),
@@ -139,7 +139,7 @@ fn check_guards(
     left: u32,
 ) -> Checking
     requires { ⌜ earlier .count ≤ 16 ⌝ }
-    ensures { λ r. ⌜ Answers (now (words .entry)) at (checkingIs r) (bodyFacts (knownIn earlier) (inside (knownIn earlier) levels) left variables (drop at (now (words .entry))) draws) ⌝ }
+    ensures { λ r. ⌜ Answers (now (words .entry)) at (checkingIs r) (bodyFacts (earlierIs earlier) (inside (earlierIs earlier) levels) left variables (drop at (now (words .entry))) draws) ⌝ }
 {
     if left == 0 {
         return check_head(words, at, variables, draws, earlier);
@@ -173,9 +173,9 @@ fn check_draw(
     left: u32,
 ) -> Checking
     requires { ⌜ earlier .count ≤ 16 ⌝ }
-    ensures { λ r. ⌜ Answers (now (words .entry)) at (checkingIs r) (guardFacts (knownIn earlier) (inside (knownIn earlier) levels) left variables isDraw (drop at (now (words .entry))) draws) ⌝ }
+    ensures { λ r. ⌜ Answers (now (words .entry)) at (checkingIs r) (guardFacts (earlierIs earlier) (inside (earlierIs earlier) levels) left variables isDraw (drop at (now (words .entry))) draws) ⌝ }
 {
-    if MOST_DRAWS <= draws {
+    if MOST_DRAW_GUARDS <= draws {
         return Checking::Refused(refusals::TOO_DEEP);
     }
     match check_expr(words, at, levels, variables, draws + 1, earlier) {
@@ -213,9 +213,9 @@ fn check_absent(
     left: u32,
 ) -> Checking
     requires { ⌜ earlier .count ≤ 16 ⌝ }
-    ensures { λ r. ⌜ Answers (now (words .entry)) at (checkingIs r) (guardFacts (knownIn earlier) (inside (knownIn earlier) levels) left variables isAbsent (drop at (now (words .entry))) draws) ⌝ }
+    ensures { λ r. ⌜ Answers (now (words .entry)) at (checkingIs r) (guardFacts (earlierIs earlier) (inside (earlierIs earlier) levels) left variables isAbsent (drop at (now (words .entry))) draws) ⌝ }
 {
-    match read_row(words, at, variables) {
+    match pass_row(words, at, variables) {
         Passed::Refused(n) => Checking::Refused(n),
         Passed::To(set) => match check_expr(words, set, levels, variables, draws, earlier) {
             Checking::Refused(n) => Checking::Refused(n),

@@ -2,20 +2,20 @@
 use Prim.Native.Nat.{ℕ}
 use mathlib.Core.List.{List}
 use lib.ListN.{length}
-use Rattle.refusals.specs.Table.{badWord}
+use Rattle.refusals.specs.RefusalTable.{badWord}
 use Rattle.policy.specs.Leaf.{leafOf, leafAs}
 use Rattle.policy.specs.Syntax.{Expr, leaf, comprehension}
 use Rattle.policy.specs.Decode.{Reader, refuse, body}
 use Rattle.policy.specs.Polarity.{Known}
-use Rattle.check_terms.specs.Answers.{Answer, found, stopped, keeping}
-use Rattle.check_polarity.specs.Facts.{factsOf}
+use Rattle.check_terms.specs.Answers.{Step, found, refused, keeping}
+use Rattle.check_polarity.specs.Facts.{factsFor}
 use Rattle.check_polarity.specs.declared.Facts.{Facts}
 use Rattle.check_leaves.specs.declared.Checking.{Checking}
 use Rattle.check_leaves.specs.declared.Checking.the-variants as checking
 
-unfoldable pub checkingIs : Checking → Answer Facts
+unfoldable pub checkingIs : Checking → Step Facts
 checkingIs (checking.Found f next k) = found f next k
-checkingIs (checking.Refused n) = stopped n
+checkingIs (checking.Refused n) = refused n
 
 -- no reader of the expressions inside, for what holds none
 unfoldable pub noneInside : ℕ → Reader Expr
@@ -24,8 +24,8 @@ noneInside = λ n. refuse badWord
 -- the facts of a leaf, from what follows its code on; and of a comprehension, from its guards on
 unfoldable pub leafFacts : List Known → ℕ → ℕ → Reader Facts
 unfolding leafAs leafOf
-leafFacts ks n code = keeping (λ x. factsOf ks (leaf x)) (leafAs (length ks) n (leafOf code))
+leafFacts ks n code = keeping (λ x. factsFor ks (leaf x)) (leafAs (length ks) n (leafOf code))
 
 unfoldable pub bodyFacts : List Known → (ℕ → Reader Expr) → ℕ → ℕ → Reader Facts
 unfolding body
-bodyFacts ks inner c n = keeping (λ b. factsOf ks (comprehension b)) (body inner c n)
+bodyFacts ks inner c n = keeping (λ b. factsFor ks (comprehension b)) (body inner c n)

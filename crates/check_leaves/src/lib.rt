@@ -2,16 +2,16 @@
 ghost use Prim.Native.Nat.{_≤_};
 ghost use lib.ListN.{length, drop};
 ghost use Rattle.check_terms.specs.Answers.{Answers};
-ghost use Rattle.check_polarity.specs.Earlier.{knownIn};
+ghost use Rattle.check_polarity.specs.Earlier.{earlierIs};
 ghost use Rattle.check_leaves.specs.Checks.{checkingIs, noneInside, leafFacts, bodyFacts};
 use check_polarity::Earlier;
 use check_polarity::Facts;
 use check_polarity::of_terms;
 use check_terms::Passed;
 use check_terms::WordRead;
-use check_terms::read_issuer;
-use check_terms::read_row;
-use check_terms::read_rows;
+use check_terms::pass_issuer;
+use check_terms::pass_row;
+use check_terms::pass_rows;
 use check_terms::word_between;
 use policy::CODE_COFINITE;
 use policy::CODE_DEFINITION;
@@ -35,9 +35,9 @@ fn check_literal(
     code: u32,
 ) -> Checking
     requires { ⌜ (1 ≤ code) × (code ≤ 2) ⌝ }
-    ensures { λ r. ⌜ Answers (now (words .entry)) at (checkingIs r) (leafFacts (knownIn earlier) variables code (drop at (now (words .entry))) draws) ⌝ }
+    ensures { λ r. ⌜ Answers (now (words .entry)) at (checkingIs r) (leafFacts (earlierIs earlier) variables code (drop at (now (words .entry))) draws) ⌝ }
 {
-    match read_rows(words, at, variables) {
+    match pass_rows(words, at, variables) {
         Passed::Refused(n) => Checking::Refused(n),
         Passed::To(next) => {
             let facts = of_terms(code == CODE_COFINITE);
@@ -55,7 +55,7 @@ fn check_definition(
     earlier: Earlier,
 ) -> Checking
     requires { ⌜ earlier .count ≤ 16 ⌝ }
-    ensures { λ r. ⌜ Answers (now (words .entry)) at (checkingIs r) (leafFacts (knownIn earlier) variables 3 (drop at (now (words .entry))) draws) ⌝ }
+    ensures { λ r. ⌜ Answers (now (words .entry)) at (checkingIs r) (leafFacts (earlierIs earlier) variables 3 (drop at (now (words .entry))) draws) ⌝ }
 {
     if words.len() <= at {
         return Checking::Refused(refusals::BAD_WORD);
@@ -77,9 +77,9 @@ fn check_definition(
 
 // A name: issuer, name, polarity.
 fn check_name(words: &[u32], at: usize, variables: u32, draws: u32, earlier: Earlier) -> Checking
-    ensures { λ r. ⌜ Answers (now (words .entry)) at (checkingIs r) (leafFacts (knownIn earlier) variables 4 (drop at (now (words .entry))) draws) ⌝ }
+    ensures { λ r. ⌜ Answers (now (words .entry)) at (checkingIs r) (leafFacts (earlierIs earlier) variables 4 (drop at (now (words .entry))) draws) ⌝ }
 {
-    match read_issuer(words, at, variables) {
+    match pass_issuer(words, at, variables) {
         Passed::Refused(n) => Checking::Refused(n),
         Passed::To(name) => match word_between(words, name, 0, LAST_NAME) {
             WordRead::Refused(n) => Checking::Refused(n),
@@ -110,7 +110,7 @@ pub fn check_leaf(
     code: u32,
 ) -> Checking
     requires { ⌜ (earlier .count ≤ 16) × (at ≤ length (now words)) ⌝ }
-    ensures { λ r. ⌜ Answers (now (words .entry)) at (checkingIs r) (leafFacts (knownIn earlier) variables code (drop at (now (words .entry))) draws) ⌝ }
+    ensures { λ r. ⌜ Answers (now (words .entry)) at (checkingIs r) (leafFacts (earlierIs earlier) variables code (drop at (now (words .entry))) draws) ⌝ }
 {
     if code == CODE_FINITE {
         return check_literal(words, at, variables, draws, earlier, code);
@@ -135,9 +135,9 @@ pub fn check_head(
     draws: u32,
     earlier: Earlier,
 ) -> Checking
-    ensures { λ r. ⌜ Answers (now (words .entry)) at (checkingIs r) (bodyFacts (knownIn earlier) noneInside 0 variables (drop at (now (words .entry))) draws) ⌝ }
+    ensures { λ r. ⌜ Answers (now (words .entry)) at (checkingIs r) (bodyFacts (earlierIs earlier) noneInside 0 variables (drop at (now (words .entry))) draws) ⌝ }
 {
-    match read_row(words, at, variables) {
+    match pass_row(words, at, variables) {
         Passed::Refused(n) => Checking::Refused(n),
         Passed::To(next) => {
             let facts = of_terms(false);

@@ -10,7 +10,7 @@ use lib.Seq.{getD-append-add, getD-set-same, getD-set-other}
 use borrow.Author.Tests.{ltb-true, ltb-false, ne-eqb}
 use Rattle.rows.specs.Name.{polarityOf}
 use Rattle.policy.specs.Polarity.{unknown}
-use Rattle.check_polarity.specs.Earlier.{declaredBy, knownAt, knownUpTo, knownIn, knownAs}
+use Rattle.check_polarity.specs.Earlier.{declaredBy, knownAt, knownUpTo, earlierIs, knownAs}
 use Rattle.check_polarity.specs.declared.Earlier.{Earlier}
 
 known-length : (x : Earlier) (d : ℕ) → length (knownUpTo x d) ≡ d
@@ -18,8 +18,8 @@ unfolding knownUpTo
 known-length x zero = refl
 known-length x (suc d) = length-append (knownUpTo x d) (knownAt x d ∷ []) ∙ omega (arith, known-length x d)
 
-pub known-count : (x : Earlier) → length (knownIn x) ≡ x .count
-unfolding knownIn
+pub known-count : (x : Earlier) → length (earlierIs x) ≡ x .count
+unfolding earlierIs
 known-count x = known-length x (x .count)
 
 known-last : (x : Earlier) (n d : ℕ) → d < suc n → (d < n → getD (knownUpTo x n) d unknown ≡ knownAt x d) → getD (knownUpTo x (suc n)) d unknown ≡ knownAt x d
@@ -53,8 +53,8 @@ module _ (x : Earlier) (p : ℕ) (o : Bool) (l : x .count < length (x .minus)) (
   kept-before (suc d) h =
       rw (kept-before d (omega arith), getD-set-other (x .minus) (x .count) d (not (eqb p 0)) false (omega arith), getD-set-other (x .«open») (x .count) d o false (omega arith))
 
-  pub known-more : knownIn more ≡ knownIn x ++ (knownAs p o ∷ [])
-  unfolding knownIn knownUpTo knownAt knownAs
+  pub known-more : earlierIs more ≡ earlierIs x ++ (knownAs p o ∷ [])
+  unfolding earlierIs knownUpTo knownAt knownAs
   known-more =
       let e : x .count + 1 ≡ suc (x .count) = omega arith in
       ap (knownUpTo more) e ∙ rw (kept-before (x .count) (omega arith), getD-set-same (x .minus) (x .count) (not (eqb p 0)) false l, getD-set-same (x .«open») (x .count) o false m, declared-by p)

@@ -4,7 +4,7 @@ use mathlib.Core.Path.{_≡_, refl, sym, _∙_, ap}
 use mathlib.Core.Bool.{Bool, true, false, not}
 use native.Mathlib.Omega.{arith}
 use borrow.Author.Tests.{not-true, not-false}
-use Rattle.refusals.specs.Table.{noPolarity, openDraw}
+use Rattle.refusals.specs.RefusalTable.{noPolarity, openDraw}
 use Rattle.policy.proofs.Basics.{impossible}
 use Rattle.check_polarity.specs.Facts.{admitOf, declaredOf}
 use Rattle.check_polarity.specs.declared.Facts.{Facts}

@@ -20,9 +20,9 @@ unfolding knownAt
 knownUpTo x zero = []
 knownUpTo x (suc d) = knownUpTo x d ++ (knownAt x d ∷ [])
 
-unfoldable pub knownIn : Earlier → List Known
+unfoldable pub earlierIs : Earlier → List Known
 unfolding knownUpTo
-knownIn x = knownUpTo x (x .count)
+earlierIs x = knownUpTo x (x .count)
 
 -- a definition that declares the polarity of this word
 unfoldable pub knownAs : ℕ → Bool → Known

@@ -2,7 +2,7 @@
 use Prim.Native.Nat.{ℕ, zero, suc}
 use mathlib.Core.Bool.{Bool, true, false, not, _&&_, _||_}
 use mathlib.Core.List.{List}
-use Rattle.refusals.specs.Table.{noPolarity, openDraw}
+use Rattle.refusals.specs.RefusalTable.{noPolarity, openDraw}
 use Rattle.rows.specs.Name.{plus, minus}
 use Rattle.policy.specs.Syntax.{Expr}
 use Rattle.policy.specs.Polarity.{Known, hasPolarity, openExpr, drawsClosed}
@@ -10,9 +10,9 @@ use Rattle.check_polarity.specs.declared.Facts.{Facts}
 use Rattle.check_polarity.specs.declared.Whole.{Whole}
 use Rattle.check_polarity.specs.declared.Whole.the-variants as whole
 
-unfoldable pub factsOf : List Known → Expr → Facts
+unfoldable pub factsFor : List Known → Expr → Facts
 unfolding hasPolarity openExpr drawsClosed
-factsOf ks e = record { plus = hasPolarity e ks plus; minus = hasPolarity e ks minus; «open» = openExpr e ks; «draws_closed» = drawsClosed e ks }
+factsFor ks e = record { plus = hasPolarity e ks plus; minus = hasPolarity e ks minus; «open» = openExpr e ks; «draws_closed» = drawsClosed e ks }
 
 -- of rows of terms alone, or of their complement
 abbrev pub termFacts : Bool → Facts

@@ -4,7 +4,7 @@ ghost use mathlib.Core.Path.{_≡_};
 ghost use mathlib.Core.Bool.{_&&_, _||_};
 ghost use mathlib.Core.List.{[], _∷_, _++_};
 ghost use Rattle.check_polarity.specs.Facts.{termFacts, unionOf, differenceOf, drawOf, absentOf, admitOf, declaredOf};
-ghost use Rattle.check_polarity.specs.Earlier.{knownIn, knownAs};
+ghost use Rattle.check_polarity.specs.Earlier.{earlierIs, knownAs};
 
 // The polarities that an expression has, whether it is open, and whether its draws are from closed sets only.
 pub struct Facts {
@@ -124,7 +124,7 @@ pub fn declared(facts: Facts, polarity: u32) -> bool
 
 // Before any definition.
 pub fn none_earlier() -> Earlier
-    ensures { λ r. ⌜ (r .count ≡ 0) × (knownIn r ≡ []) ⌝ }
+    ensures { λ r. ⌜ (r .count ≡ 0) × (earlierIs r ≡ []) ⌝ }
 {
     Earlier {
         count: 0,
@@ -136,7 +136,7 @@ pub fn none_earlier() -> Earlier
 // One definition more.
 pub fn with_definition(earlier: Earlier, polarity: u32, open: bool) -> Earlier
     requires { ⌜ earlier .count ≤ 15 ⌝ }
-    ensures { λ r. ⌜ (r .count ≡ earlier .count + 1) × (knownIn r ≡ knownIn earlier ++ (knownAs polarity «open» ∷ [])) ⌝ }
+    ensures { λ r. ⌜ (r .count ≡ earlier .count + 1) × (earlierIs r ≡ earlierIs earlier ++ (knownAs polarity «open» ∷ [])) ⌝ }
 {
     let n = earlier.count;
     let i = n as usize;

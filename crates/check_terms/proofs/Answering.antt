@@ -10,10 +10,11 @@ use lib.Dec.{leb}
 use lib.ListN.{length, getD, drop, drop-of-length-le}
 use lib.Seq.{drop-cons}
 use borrow.Author.Tests.{le-leb, lt-leb, leb-true, eq-eqb, ne-eqb}
-use Rattle.refusals.specs.Table.{badWord}
+use Rattle.refusals.specs.RefusalTable.{badWord}
 use Rattle.rows.proofs.Case.{and-true}
 use Rattle.policy.specs.Decode.{Read, got, refused, Reader, after, give, need, word, wordWhere}
-use Rattle.check_terms.specs.Answers.{Answer, found, stopped, outcome, Onward, Answers, Follows, kept, keeping, between, next, wordIs}
+use Rattle.check_terms.specs.Answers.{Step, found, outcome, Onward, Answers, Follows, kept, keeping, between, next, wordReadIs}
+use Rattle.check_terms.specs.Answers as Steps
 use Rattle.check_terms.specs.declared.WordRead as WordRead
 use Rattle.check_terms.specs.declared.WordRead.the-variants as wordRead
 use Rattle.policy.proofs.Basics.{impossible}
@@ -26,13 +27,13 @@ pub no-word : (ws : List ℕ) (at : ℕ) → length ws ≤ at → drop at ws ≡
 no-word ws at h = drop-of-length-le ws h
 
 -- an answer is shown
-pub stops : {A : Type 0} {ws : List ℕ} {at n : ℕ} {y : Read A} → y ≡ refused n → Answers ws at (stopped n) y
+pub refused-answers : {A : Type 0} {ws : List ℕ} {at n : ℕ} {y : Read A} → y ≡ refused n → Answers ws at (Steps.refused n) y
 unfolding outcome Onward
-stops e = record { agrees = sym e; onward = tt }
+refused-answers e = record { agrees = sym e; onward = tt }
 
-pub finds : {A : Type 0} {ws : List ℕ} {at next k : ℕ} {a : A} {y : Read A} → y ≡ got a (drop next ws) k → at ≤ next → next ≤ length ws → Answers ws at (found a next k) y
+pub found-answers : {A : Type 0} {ws : List ℕ} {at next k : ℕ} {a : A} {y : Read A} → y ≡ got a (drop next ws) k → at ≤ next → next ≤ length ws → Answers ws at (found a next k) y
 unfolding outcome Onward
-finds e h l = record { agrees = sym e; onward = (h, l) }
+found-answers e h l = record { agrees = sym e; onward = (h, l) }
 
 -- what a caller has: the reader, from `at` on, comes to this value and leaves the words from `next` on
 pub record Got {A : Type 0} (ws : List ℕ) (at : ℕ) (m : Reader A) (a : A) (next : ℕ) : Type 0 where
@@ -44,7 +45,7 @@ pub record Got {A : Type 0} (ws : List ℕ) (at : ℕ) (m : Reader A) (a : A) (n
 pub record Lost {A : Type 0} (ws : List ℕ) (at : ℕ) (m : Reader A) (n : ℕ) : Type 0 where
   pub reads : (k : ℕ) → m (drop at ws) k ≡ refused n
 
-pub got-of : {A : Type 0} {ws : List ℕ} {at next : ℕ} {x : ℕ → Answer A} {m : Reader A} {a : A} → Follows ws at x m → ((k : ℕ) → x k ≡ found a next k) → Got ws at m a next
+pub got-of : {A : Type 0} {ws : List ℕ} {at next : ℕ} {x : ℕ → Step A} {m : Reader A} {a : A} → Follows ws at x m → ((k : ℕ) → x k ≡ found a next k) → Got ws at m a next
 unfolding outcome Onward
 got-of {ws} {at} {next} {x} {m} {a} f e = record {
   reads = λ k. sym (f .answers k .agrees) ∙ ap (outcome ws) (e k);
@@ -52,15 +53,15 @@ got-of {ws} {at} {next} {x} {m} {a} f e = record {
   within = (rw (e 0) at (f .answers 0 .onward)) .1;
 }
 
-pub lost-of : {A : Type 0} {ws : List ℕ} {at n : ℕ} {x : ℕ → Answer A} {m : Reader A} → Follows ws at x m → ((k : ℕ) → x k ≡ stopped n) → Lost ws at m n
+pub lost-of : {A : Type 0} {ws : List ℕ} {at n : ℕ} {x : ℕ → Step A} {m : Reader A} → Follows ws at x m → ((k : ℕ) → x k ≡ Steps.refused n) → Lost ws at m n
 unfolding outcome
 lost-of {ws} f e = record { reads = λ k. sym (f .answers k .agrees) ∙ ap (outcome ws) (e k) }
 
 pub shows-got : {A : Type 0} {ws : List ℕ} {at next : ℕ} {m : Reader A} {a : A} → Got ws at m a next → Follows ws at (λ k. found a next k) m
-shows-got g = record { answers = λ k. finds (g .reads k) (omega (arith, g .onward)) (g .within) }
+shows-got g = record { answers = λ k. found-answers (g .reads k) (omega (arith, g .onward)) (g .within) }
 
-pub shows-lost : {A : Type 0} {ws : List ℕ} {at n : ℕ} {m : Reader A} → Lost ws at m n → Follows ws at (λ k. stopped n) m
-shows-lost l = record { answers = λ k. stops (l .reads k) }
+pub shows-lost : {A : Type 0} {ws : List ℕ} {at n : ℕ} {m : Reader A} → Lost ws at m n → Follows ws at (λ k. Steps.refused n) m
+shows-lost l = record { answers = λ k. refused-answers (l .reads k) }
 
 -- the reader's word, and what it does with the rest
 pub here : {A : Type 0} (m : Reader A) (ws : List ℕ) (at k : ℕ) → at < length ws → m (drop at ws) k ≡ m (getD ws at 0 ∷ drop (at + 1) ws) k
@@ -80,29 +81,29 @@ module _ (n : ℕ) (rule : ℕ → Bool) (w : ℕ) (us : List ℕ) (k : ℕ) whe
   where-fails e = ap (λ b. after (need n b us k) (λ t. give w)) e
 
 module _ (ws : List ℕ) (at n : ℕ) (rule : ℕ → Bool) where
-  pub word-none : length ws ≤ at → Follows ws at (wordIs at (wordRead.Refused badWord)) (wordWhere n rule)
-  unfolding wordIs wordWhere
+  pub word-none : length ws ≤ at → Follows ws at (wordReadIs at (wordRead.Refused badWord)) (wordWhere n rule)
+  unfolding wordReadIs wordWhere
   word-none h = shows-lost (record { reads = λ k. at-end (wordWhere n rule) ws at k h })
 
-  pub word-kept : at < length ws → rule (getD ws at 0) ≡ true → Follows ws at (wordIs at (wordRead.Found (getD ws at 0))) (wordWhere n rule)
-  unfolding wordIs
+  pub word-kept : at < length ws → rule (getD ws at 0) ≡ true → Follows ws at (wordReadIs at (wordRead.Found (getD ws at 0))) (wordWhere n rule)
+  unfolding wordReadIs
   word-kept h e = shows-got (record {
     reads = λ k. here (wordWhere n rule) ws at k h ∙ where-passes n rule (getD ws at 0) (drop (at + 1) ws) k e;
     onward = omega arith;
     within = omega arith;
   })
 
-  pub word-broken : at < length ws → rule (getD ws at 0) ≡ false → Follows ws at (wordIs at (wordRead.Refused n)) (wordWhere n rule)
-  unfolding wordIs
+  pub word-broken : at < length ws → rule (getD ws at 0) ≡ false → Follows ws at (wordReadIs at (wordRead.Refused n)) (wordWhere n rule)
+  unfolding wordReadIs
   word-broken h e = shows-lost (record { reads = λ k. here (wordWhere n rule) ws at k h ∙ where-fails n rule (getD ws at 0) (drop (at + 1) ws) k e })
 
-pub word-found : {ws : List ℕ} {at w : ℕ} {m : Reader ℕ} {r : WordRead.WordRead} → Follows ws at (wordIs at r) m → r ≡ wordRead.Found w → Got ws at m w (at + 1)
-unfolding wordIs
-word-found {at} f e = got-of f (λ k. ap (λ r. wordIs at r k) e)
+pub word-found : {ws : List ℕ} {at w : ℕ} {m : Reader ℕ} {r : WordRead.WordRead} → Follows ws at (wordReadIs at r) m → r ≡ wordRead.Found w → Got ws at m w (at + 1)
+unfolding wordReadIs
+word-found {at} f e = got-of f (λ k. ap (λ r. wordReadIs at r k) e)
 
-pub word-refused : {ws : List ℕ} {at n : ℕ} {m : Reader ℕ} {r : WordRead.WordRead} → Follows ws at (wordIs at r) m → r ≡ wordRead.Refused n → Lost ws at m n
-unfolding wordIs
-word-refused {at} f e = lost-of f (λ k. ap (λ r. wordIs at r k) e)
+pub word-refused : {ws : List ℕ} {at n : ℕ} {m : Reader ℕ} {r : WordRead.WordRead} → Follows ws at (wordReadIs at r) m → r ≡ wordRead.Refused n → Lost ws at m n
+unfolding wordReadIs
+word-refused {at} f e = lost-of f (λ k. ap (λ r. wordReadIs at r k) e)
 
 -- the rules of words
 module _ (least most w : ℕ) where

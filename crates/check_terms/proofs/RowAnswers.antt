@@ -7,11 +7,11 @@ use native.Mathlib.Omega.{arith}
 use lib.Dec.{leb, eqb}
 use lib.ListN.{length, drop}
 use borrow.Author.Tests.{le-leb}
-use Rattle.refusals.specs.Table.{badWord, notInScope}
+use Rattle.refusals.specs.RefusalTable.{badWord, notInScope}
 use Rattle.policy.specs.Syntax.{Term, Slot}
-use Rattle.policy.specs.Decode.{Read, got, refused, Reader, after, give, wordWhere, times, isAtom, isVar, tagOf, termAs, anyAtom, term, width, row, rows, Pattern, push, slotAs, slots}
-use Rattle.policy.specs.Held.{slotOf}
-use Rattle.check_terms.specs.Answers.{Follows, kept, keeping, nothing, between, wordIs, passedIs, slotFor, slot, scopeAfter, pattern, scope, patternIs}
+use Rattle.policy.specs.Decode.{Read, got, refused, Reader, after, give, wordWhere, times, isAtom, isVar, tagOf, termAs, anyAtom, term, width, row, rows, Pattern, pushSlot, slotAs, slots}
+use Rattle.policy.specs.Held.{slotIs}
+use Rattle.check_terms.specs.Answers.{Follows, kept, keeping, nothing, between, wordReadIs, passedIs, slotFor, slot, scopeAfter, pattern, scope, patternReadIs}
 use Rattle.check_terms.specs.declared.WordRead as WordRead
 use Rattle.check_terms.specs.declared.WordRead.the-variants as wordRead
 use Rattle.policy.specs.declared.Term as TermHeld
@@ -98,17 +98,17 @@ at-most c = rw (le-leb 0 c (omega arith))
 
 -- how a row and the rows of a literal begin
 module _ (ws : List ℕ) (at n : ℕ) {r : WordRead.WordRead} where
-  pub row-starts : {w : ℕ} → Follows ws at (wordIs at r) (wordWhere badWord (between 1 4)) → r ≡ wordRead.Found w → Going ws at (term n) (keeping nothing (row n)) w (at + 1)
+  pub row-starts : {w : ℕ} → Follows ws at (wordReadIs at r) (wordWhere badWord (between 1 4)) → r ≡ wordRead.Found w → Going ws at (term n) (keeping nothing (row n)) w (at + 1)
   unfolding keeping row width between
   row-starts f e =
       let g = word-found f e in
       record { rest = λ k. ap (λ x. kept nothing (after x (λ w. times w (term n)))) (g .reads k); onward = g .onward; within = g .within }
 
-  pub row-refused : {m : ℕ} → Follows ws at (wordIs at r) (wordWhere badWord (between 1 4)) → r ≡ wordRead.Refused m → Lost ws at (keeping nothing (row n)) m
+  pub row-refused : {m : ℕ} → Follows ws at (wordReadIs at r) (wordWhere badWord (between 1 4)) → r ≡ wordRead.Refused m → Lost ws at (keeping nothing (row n)) m
   unfolding row width between
   row-refused f e = keeps-lost nothing (first-lost (λ w. times w (term n)) (word-refused f e))
 
-  pub rows-start : {w : ℕ} → Follows ws at (wordIs at r) (wordWhere badWord (between 0 128)) → r ≡ wordRead.Found w → Going ws at (row n) (keeping nothing (rows n)) w (at + 1)
+  pub rows-start : {w : ℕ} → Follows ws at (wordReadIs at r) (wordWhere badWord (between 0 128)) → r ≡ wordRead.Found w → Going ws at (row n) (keeping nothing (rows n)) w (at + 1)
   unfolding keeping rows
   rows-start f e =
       let g = word-found f e in
@@ -118,7 +118,7 @@ module _ (ws : List ℕ) (at n : ℕ) {r : WordRead.WordRead} where
         within = g .within;
       }
 
-  pub rows-refused : {m : ℕ} → Follows ws at (wordIs at r) (wordWhere badWord (between 0 128)) → r ≡ wordRead.Refused m → Lost ws at (keeping nothing (rows n)) m
+  pub rows-refused : {m : ℕ} → Follows ws at (wordReadIs at r) (wordWhere badWord (between 0 128)) → r ≡ wordRead.Refused m → Lost ws at (keeping nothing (rows n)) m
   unfolding keeping rows kept
   rows-refused f e = record {
     reads = λ k. ap (λ x. kept nothing (after x (λ c. times c (row n)))) (same-rule badWord (λ c. leb c 128) (between 0 128) at-most (drop at ws) k ∙ word-refused f e .reads k);
@@ -129,7 +129,7 @@ pub after-after : {A B C : Type 0} (x : Read A) (f : A → Reader B) (g : B → 
 after-after (got a us k) f g = refl
 after-after (refused n) f g = refl
 
-slots-slot : (w n : ℕ) (us : List ℕ) (k : ℕ) → slots (suc w) n us k ≡ after (slot n us k) (λ s vs j. after (slots w (scopeAfter n s) vs j) (λ p. give (push s p)))
+slots-slot : (w n : ℕ) (us : List ℕ) (k : ℕ) → slots (suc w) n us k ≡ after (slot n us k) (λ s vs j. after (slots w (scopeAfter n s) vs j) (λ p. give (pushSlot s p)))
 unfolding slots slotAs slot slotFor tagOf scopeAfter
 slots-slot w n [] k = refl
 slots-slot w n (zero ∷ us) k = sym (after-after (termAs anyAtom n isAtom us k) _ _)
@@ -144,52 +144,52 @@ pub record Matching (ws : List ℕ) (at n left next count : ℕ) : Type 0 where
   pub within : next ≤ length ws
 
 module _ (ws : List ℕ) (at n : ℕ) where
-  pub pattern-starts : {w : ℕ} {r : WordRead.WordRead} → Follows ws at (wordIs at r) (wordWhere badWord (between 1 4)) → r ≡ wordRead.Found w → Matching ws at n w (at + 1) n
+  pub pattern-starts : {w : ℕ} {r : WordRead.WordRead} → Follows ws at (wordReadIs at r) (wordWhere badWord (between 1 4)) → r ≡ wordRead.Found w → Matching ws at n w (at + 1) n
   unfolding keeping pattern width between
   pattern-starts f e =
       let g = word-found f e in
       record { rest = λ k. ap (λ x. kept scope (after x (λ w. slots w n))) (g .reads k); onward = g .onward; within = g .within }
 
-  pub pattern-refused : {m : ℕ} {r : WordRead.WordRead} → Follows ws at (wordIs at r) (wordWhere badWord (between 1 4)) → r ≡ wordRead.Refused m → Follows ws at (patternIs (patternRead.Refused m)) (keeping scope (pattern n))
-  unfolding pattern width between patternIs
+  pub pattern-refused : {m : ℕ} {r : WordRead.WordRead} → Follows ws at (wordReadIs at r) (wordWhere badWord (between 1 4)) → r ≡ wordRead.Refused m → Follows ws at (patternReadIs (patternRead.Refused m)) (keeping scope (pattern n))
+  unfolding pattern width between patternReadIs
   pattern-refused f e = shows-lost (keeps-lost scope (first-lost (λ w. slots w n) (word-refused f e)))
 
-  pub pattern-done : {left next count : ℕ} → Matching ws at n left next count → left ≤ 0 → Follows ws at (patternIs (patternRead.Found count next)) (keeping scope (pattern n))
-  unfolding slots kept patternIs
+  pub pattern-done : {left next count : ℕ} → Matching ws at n left next count → left ≤ 0 → Follows ws at (patternReadIs (patternRead.Found count next)) (keeping scope (pattern n))
+  unfolding slots kept patternReadIs
   pattern-done {left = zero} g h = shows-got (record { reads = g .rest; onward = g .onward; within = g .within })
   pattern-done {left = suc l} g h = absurd (omega arith)
 
   module _ {left next count : ℕ} (g : Matching ws at n left next count) (h : 0 < left) where
     one-more : (k : ℕ) → keeping scope (pattern n) (drop at ws) k ≡
-        kept scope (after (slot count (drop next ws) k) (λ s vs j. after (slots (left - 1) (scopeAfter count s) vs j) (λ p. give (push s p))))
+        kept scope (after (slot count (drop next ws) k) (λ s vs j. after (slots (left - 1) (scopeAfter count s) vs j) (λ p. give (pushSlot s p))))
     one-more k =
         let e : suc (left - 1) ≡ left = omega arith in
         g .rest k ∙ ap (kept scope) (rw e at (slots-slot (left - 1) count (drop next ws) k))
 
-    pub matching-lost : {m : ℕ} → Lost ws next (slot count) m → Follows ws at (patternIs (patternRead.Refused m)) (keeping scope (pattern n))
-    unfolding patternIs kept
-    matching-lost l = shows-lost (record { reads = λ k. one-more k ∙ ap (λ x. kept scope (after x (λ s vs j. after (slots (left - 1) (scopeAfter count s) vs j) (λ p. give (push s p))))) (l .reads k) })
+    pub matching-lost : {m : ℕ} → Lost ws next (slot count) m → Follows ws at (patternReadIs (patternRead.Refused m)) (keeping scope (pattern n))
+    unfolding patternReadIs kept
+    matching-lost l = shows-lost (record { reads = λ k. one-more k ∙ ap (λ x. kept scope (after x (λ s vs j. after (slots (left - 1) (scopeAfter count s) vs j) (λ p. give (pushSlot s p))))) (l .reads k) })
 
     pub matching-on : {s : Slot} {later : ℕ} → Got ws next (slot count) s later → Matching ws at n (left - 1) later (scopeAfter count s)
-    unfolding kept push
+    unfolding kept pushSlot
     matching-on {s} {later} f = record {
-      rest = λ k. one-more k ∙ (ap (λ x. kept scope (after x (λ s vs j. after (slots (left - 1) (scopeAfter count s) vs j) (λ p. give (push s p))))) (f .reads k) ∙ last (slots (left - 1) (scopeAfter count s) (drop later ws) k));
+      rest = λ k. one-more k ∙ (ap (λ x. kept scope (after x (λ s vs j. after (slots (left - 1) (scopeAfter count s) vs j) (λ p. give (pushSlot s p))))) (f .reads k) ∙ last (slots (left - 1) (scopeAfter count s) (drop later ws) k));
       onward = omega (arith, g .onward, f .onward);
       within = f .within;
     }
       where
-        last : (y : Read Pattern) → kept scope (after y (λ p. give (push s p))) ≡ kept scope y
+        last : (y : Read Pattern) → kept scope (after y (λ p. give (pushSlot s p))) ≡ kept scope y
         last (got p us k) = refl
         last (refused m) = refl
 
-    pub matching-new : {s : SlotHeld.Slot} {later : ℕ} → Got ws next (slot count) (slotOf s) later → s ≡ New → Matching ws at n (left - 1) later (count + 1)
-    unfolding slotOf scopeAfter
-    matching-new {later} f e = rw (ap (λ s. scopeAfter count (slotOf s)) e) at (matching-on f)
+    pub matching-new : {s : SlotHeld.Slot} {later : ℕ} → Got ws next (slot count) (slotIs s) later → s ≡ New → Matching ws at n (left - 1) later (count + 1)
+    unfolding slotIs scopeAfter
+    matching-new {later} f e = rw (ap (λ s. scopeAfter count (slotIs s)) e) at (matching-on f)
 
-    pub matching-old : {s : SlotHeld.Slot} {t : TermHeld.Term} {later : ℕ} → Got ws next (slot count) (slotOf s) later → s ≡ Old t → Matching ws at n (left - 1) later count
-    unfolding slotOf scopeAfter
-    matching-old {later} f e = rw (ap (λ s. scopeAfter count (slotOf s)) e) at (matching-on f)
+    pub matching-old : {s : SlotHeld.Slot} {t : TermHeld.Term} {later : ℕ} → Got ws next (slot count) (slotIs s) later → s ≡ Old t → Matching ws at n (left - 1) later count
+    unfolding slotIs scopeAfter
+    matching-old {later} f e = rw (ap (λ s. scopeAfter count (slotIs s)) e) at (matching-on f)
 
-    pub matching-few : {s : SlotHeld.Slot} {later : ℕ} → Got ws next (slot count) (slotOf s) later → s ≡ New → count ≤ 15
-    unfolding slotOf
-    matching-few {later} f e = new-few count (drop next ws) 0 (drop later ws) 0 (f .reads 0 ∙ ap (λ s. got (slotOf s) (drop later ws) 0) e)
+    pub matching-few : {s : SlotHeld.Slot} {later : ℕ} → Got ws next (slot count) (slotIs s) later → s ≡ New → count ≤ 15
+    unfolding slotIs
+    matching-few {later} f e = new-few count (drop next ws) 0 (drop later ws) 0 (f .reads 0 ∙ ap (λ s. got (slotIs s) (drop later ws) 0) e)

@@ -7,12 +7,12 @@ use native.Mathlib.Omega.{arith}
 use lib.Dec.{leb, ltb, eqb}
 use lib.ListN.{length, getD, drop}
 use borrow.Author.Tests.{lt-ltb, le-ltb, le-leb, lt-leb, eq-eqb, ne-eqb, leb-true, eqb-true}
-use Rattle.refusals.specs.Table.{badWord, notInScope}
+use Rattle.refusals.specs.RefusalTable.{badWord, notInScope}
 use Rattle.rows.specs.Row.{isKey}
 use Rattle.policy.specs.Syntax.{Term, atom, var, Slot, old, new}
 use Rattle.policy.specs.Decode.{Read, got, refused, Reader, after, give, need, wordWhere, tagOf, termAs, anyAtom, term, issuer, guardOf}
-use Rattle.policy.specs.Held.{termOf, slotOf}
-use Rattle.check_terms.specs.Answers.{Follows, keeping, nothing, between, next, wordIs, termIs, passedIs, slotFor, slot, slotIs, Opening, sameOpens, differentOpens, openingFor, opening, openingOf, openingIs}
+use Rattle.policy.specs.Held.{termIs, slotIs}
+use Rattle.check_terms.specs.Answers.{Follows, keeping, nothing, between, next, wordReadIs, termReadIs, passedIs, slotFor, slot, slotReadIs, Opening, sameOpens, differentOpens, openingFor, opening, guardIs, guardReadIs}
 use Rattle.policy.specs.declared.Term as TermHeld
 use Rattle.policy.specs.declared.Term.the-variants.{Atom, Variable}
 use Rattle.check_terms.specs.declared.TermRead as TermRead
@@ -49,8 +49,8 @@ tag-alone rule n k (suc (suc zero)) = refl
 tag-alone rule n k (suc (suc (suc w))) = refl
 
 module _ (ws : List ℕ) (at n : ℕ) where
-  pub term-none : length ws ≤ at → Follows ws at (termIs (termRead.Refused badWord)) (term n)
-  unfolding termIs term
+  pub term-none : length ws ≤ at → Follows ws at (termReadIs (termRead.Refused badWord)) (term n)
+  unfolding termReadIs term
   term-none h = shows-lost (record { reads = λ k. at-end (term n) ws at k h })
 
   -- the tag is there
@@ -59,12 +59,12 @@ module _ (ws : List ℕ) (at n : ℕ) where
     unfolding term
     tagged k = here (term n) ws at k h
 
-    pub term-tag : 1 < getD ws at 0 → Follows ws at (termIs (termRead.Refused badWord)) (term n)
-    unfolding termIs
+    pub term-tag : 1 < getD ws at 0 → Follows ws at (termReadIs (termRead.Refused badWord)) (term n)
+    unfolding termReadIs
     term-tag t = shows-lost (record { reads = λ k. tagged k ∙ tag-over anyAtom n (drop (at + 1) ws) k (getD ws at 0) t })
 
-    pub term-cut : length ws ≤ at + 1 → Follows ws at (termIs (termRead.Refused badWord)) (term n)
-    unfolding termIs
+    pub term-cut : length ws ≤ at + 1 → Follows ws at (termReadIs (termRead.Refused badWord)) (term n)
+    unfolding termReadIs
     term-cut l = shows-lost (record { reads = λ k. tagged k ∙ (at-end (termAs anyAtom n (tagOf (getD ws at 0))) ws (at + 1) k l ∙ tag-alone anyAtom n k (getD ws at 0)) })
 
   -- and the word after it
@@ -75,35 +75,35 @@ module _ (ws : List ℕ) (at n : ℕ) where
     past : at + 1 + 1 ≡ at + 2
     past = omega arith
 
-    pub term-atom : getD ws at 0 ≡ 0 → Follows ws at (termIs (termRead.Found (Atom (getD ws (at + 1) 0)) (at + 2))) (term n)
-    unfolding termIs termOf termAs tagOf wordWhere anyAtom
+    pub term-atom : getD ws at 0 ≡ 0 → Follows ws at (termReadIs (termRead.Found (Atom (getD ws (at + 1) 0)) (at + 2))) (term n)
+    unfolding termReadIs termIs termAs tagOf wordWhere anyAtom
     term-atom t = shows-got (record { reads = λ k. with-tag k 0 t ∙ rw past refl; onward = omega arith; within = omega arith })
 
     module _ (t : getD ws at 0 ≤ 1) (u : getD ws at 0 ≡ 0 → ⊥) where
       one : getD ws at 0 ≡ 1
       one = omega arith
 
-      pub term-variable : getD ws (at + 1) 0 < n → Follows ws at (termIs (termRead.Found (Variable (getD ws (at + 1) 0)) (at + 2))) (term n)
-      unfolding termIs termOf termAs tagOf
+      pub term-variable : getD ws (at + 1) 0 < n → Follows ws at (termReadIs (termRead.Found (Variable (getD ws (at + 1) 0)) (at + 2))) (term n)
+      unfolding termReadIs termIs termAs tagOf
       term-variable v = shows-got (record {
         reads = λ k. with-tag k 1 one ∙ (ap (λ r. after r (λ i. give (var i))) (where-passes notInScope (λ i. ltb i n) (getD ws (at + 1) 0) (drop (at + 1 + 1) ws) k (lt-ltb _ _ v)) ∙ rw past refl);
         onward = omega arith;
         within = omega arith;
       })
 
-      pub term-unscoped : n ≤ getD ws (at + 1) 0 → Follows ws at (termIs (termRead.Refused notInScope)) (term n)
-      unfolding termIs termAs tagOf
+      pub term-unscoped : n ≤ getD ws (at + 1) 0 → Follows ws at (termReadIs (termRead.Refused notInScope)) (term n)
+      unfolding termReadIs termAs tagOf
       term-unscoped v = shows-lost (record {
         reads = λ k. with-tag k 1 one ∙ ap (λ r. after r (λ i. give (var i))) (where-fails notInScope (λ i. ltb i n) (getD ws (at + 1) 0) (drop (at + 1 + 1) ws) k (le-ltb _ _ v));
       })
 
-pub term-found : {ws : List ℕ} {at next : ℕ} {m : Reader Term} {t : TermHeld.Term} {r : TermRead.TermRead} → Follows ws at (termIs r) m → r ≡ termRead.Found t next → Got ws at m (termOf t) next
-unfolding termIs
-term-found f e = got-of f (λ k. ap (λ r. termIs r k) e)
+pub term-found : {ws : List ℕ} {at next : ℕ} {m : Reader Term} {t : TermHeld.Term} {r : TermRead.TermRead} → Follows ws at (termReadIs r) m → r ≡ termRead.Found t next → Got ws at m (termIs t) next
+unfolding termReadIs
+term-found f e = got-of f (λ k. ap (λ r. termReadIs r k) e)
 
-pub term-refused : {ws : List ℕ} {at n : ℕ} {m : Reader Term} {r : TermRead.TermRead} → Follows ws at (termIs r) m → r ≡ termRead.Refused n → Lost ws at m n
-unfolding termIs
-term-refused f e = lost-of f (λ k. ap (λ r. termIs r k) e)
+pub term-refused : {ws : List ℕ} {at n : ℕ} {m : Reader Term} {r : TermRead.TermRead} → Follows ws at (termReadIs r) m → r ≡ termRead.Refused n → Lost ws at m n
+unfolding termReadIs
+term-refused f e = lost-of f (λ k. ap (λ r. termReadIs r k) e)
 
 -- an issuer is a term whose atom is a key
 keyed : Read Term → Read Term
@@ -129,18 +129,18 @@ issuer-term n (suc zero ∷ i ∷ us) k = go (ltb i n)
 issuer-term n (suc (suc zero) ∷ us) k = refl
 issuer-term n (suc (suc (suc w)) ∷ us) k = refl
 
-module _ (ws : List ℕ) (at n : ℕ) {r : TermRead.TermRead} (f : Follows ws at (termIs r) (term n)) where
+module _ (ws : List ℕ) (at n : ℕ) {r : TermRead.TermRead} (f : Follows ws at (termReadIs r) (term n)) where
   pub issuer-refused : {m : ℕ} → r ≡ termRead.Refused m → Follows ws at (passedIs (passed.Refused m)) (keeping nothing (issuer n))
   unfolding passedIs keyed
   issuer-refused e = shows-lost (keeps-lost nothing (record { reads = λ k. issuer-term n (drop at ws) k ∙ ap keyed (term-refused f e .reads k) }))
 
   module _ {t : TermHeld.Term} {next : ℕ} (e : r ≡ termRead.Found t next) where
-    held : Got ws at (term n) (termOf t) next
+    held : Got ws at (term n) (termIs t) next
     held = term-found f e
 
     by-key : (a k : ℕ) → t ≡ Atom a → issuer n (drop at ws) k ≡ elim (isKey a) [ true ↦ got (atom a) (drop next ws) k | false ↦ refused badWord ]
-    unfolding keyed termOf
-    by-key a k d = issuer-term n (drop at ws) k ∙ (ap keyed (held .reads k) ∙ ap (λ t. keyed (got (termOf t) (drop next ws) k)) d)
+    unfolding keyed termIs
+    by-key a k d = issuer-term n (drop at ws) k ∙ (ap keyed (held .reads k) ∙ ap (λ t. keyed (got (termIs t) (drop next ws) k)) d)
 
     pub issuer-key : {a : ℕ} → t ≡ Atom a → 2147483648 ≤ a → Follows ws at (passedIs (passed.To next)) (keeping nothing (issuer n))
     unfolding passedIs
@@ -157,9 +157,9 @@ module _ (ws : List ℕ) (at n : ℕ) {r : TermRead.TermRead} (f : Follows ws at
     }))
 
     pub issuer-variable : {i : ℕ} → t ≡ Variable i → Follows ws at (passedIs (passed.To next)) (keeping nothing (issuer n))
-    unfolding passedIs keyed termOf
+    unfolding passedIs keyed termIs
     issuer-variable d = shows-got (keeps-got nothing (record {
-      reads = λ k. issuer-term n (drop at ws) k ∙ (ap keyed (held .reads k) ∙ ap (λ t. keyed (got (termOf t) (drop next ws) k)) d);
+      reads = λ k. issuer-term n (drop at ws) k ∙ (ap keyed (held .reads k) ∙ ap (λ t. keyed (got (termIs t) (drop next ws) k)) d);
       onward = held .onward;
       within = held .within;
     }))
@@ -200,50 +200,50 @@ slot-old n (u ∷ us) k w vs j e h = go (between 0 2 u) refl
         impossible cc
 
 module _ (ws : List ℕ) (at n : ℕ) where
-  pub slot-untagged : {m : ℕ} {r : WordRead.WordRead} → Follows ws at (wordIs at r) (wordWhere badWord (between 0 2)) → r ≡ wordRead.Refused m → Follows ws at (slotIs (slotRead.Refused m)) (slot n)
-  unfolding slotIs
+  pub slot-untagged : {m : ℕ} {r : WordRead.WordRead} → Follows ws at (wordReadIs at r) (wordWhere badWord (between 0 2)) → r ≡ wordRead.Refused m → Follows ws at (slotReadIs (slotRead.Refused m)) (slot n)
+  unfolding slotReadIs
   slot-untagged f e = shows-lost (lost-as (slot-tested n) (first-lost _ (word-refused f e)))
 
   -- the tag is 0 to 2
-  module _ {w : ℕ} {r : WordRead.WordRead} (f : Follows ws at (wordIs at r) (wordWhere badWord (between 0 2))) (e : r ≡ wordRead.Found w) where
+  module _ {w : ℕ} {r : WordRead.WordRead} (f : Follows ws at (wordReadIs at r) (wordWhere badWord (between 0 2))) (e : r ≡ wordRead.Found w) where
     module _ (t : w ≡ 2) where
       new-tagged : (us : List ℕ) (k : ℕ) → slotFor n (tagOf w) us k ≡ after (wordWhere notInScope (next n) us k) (λ v. give new)
       unfolding slotFor tagOf
       new-tagged us k = ap (λ w. slotFor n (tagOf w) us k) t
 
-      module _ {s : WordRead.WordRead} (g : Follows ws (at + 1) (wordIs (at + 1) s) (wordWhere notInScope (next n))) where
-        pub slot-new : {v : ℕ} → s ≡ wordRead.Found v → Follows ws at (slotIs (slotRead.Found New (at + 2))) (slot n)
-        unfolding slotIs slotOf
+      module _ {s : WordRead.WordRead} (g : Follows ws (at + 1) (wordReadIs (at + 1) s) (wordWhere notInScope (next n))) where
+        pub slot-new : {v : ℕ} → s ≡ wordRead.Found v → Follows ws at (slotReadIs (slotRead.Found New (at + 2))) (slot n)
+        unfolding slotReadIs slotIs
         slot-new d =
             let h : at + 1 + 1 ≡ at + 2 = omega arith in
             rw h at (shows-got (got-as (slot-tested n) (then-got _ (word-found f e) (got-as new-tagged (then-gives _ (word-found g d) (λ us k. refl))))))
 
-        pub slot-misnumbered : {m : ℕ} → s ≡ wordRead.Refused m → Follows ws at (slotIs (slotRead.Refused m)) (slot n)
-        unfolding slotIs
+        pub slot-misnumbered : {m : ℕ} → s ≡ wordRead.Refused m → Follows ws at (slotReadIs (slotRead.Refused m)) (slot n)
+        unfolding slotReadIs
         slot-misnumbered d = shows-lost (lost-as (slot-tested n) (then-lost _ (word-found f e) (lost-as new-tagged (first-lost _ (word-refused g d)))))
 
     module _ (t : w ≡ 2 → ⊥) where
       old-tagged : (k : ℕ) → slot n (drop at ws) k ≡ after (term n (drop at ws) k) (λ t. give (old t))
       old-tagged k = slot-old n (drop at ws) k w _ _ (word-found f e .reads k) t
 
-      module _ {s : TermRead.TermRead} (g : Follows ws at (termIs s) (term n)) where
-        pub slot-held : {x : TermHeld.Term} {next : ℕ} → s ≡ termRead.Found x next → Follows ws at (slotIs (slotRead.Found (Old x) next)) (slot n)
-        unfolding slotIs slotOf
+      module _ {s : TermRead.TermRead} (g : Follows ws at (termReadIs s) (term n)) where
+        pub slot-held : {x : TermHeld.Term} {next : ℕ} → s ≡ termRead.Found x next → Follows ws at (slotReadIs (slotRead.Found (Old x) next)) (slot n)
+        unfolding slotReadIs slotIs
         slot-held d =
             let h = term-found g d in
             shows-got (record { reads = λ k. old-tagged k ∙ ap (λ r. after r (λ t. give (old t))) (h .reads k); onward = h .onward; within = h .within })
 
-        pub slot-refused : {m : ℕ} → s ≡ termRead.Refused m → Follows ws at (slotIs (slotRead.Refused m)) (slot n)
-        unfolding slotIs
+        pub slot-refused : {m : ℕ} → s ≡ termRead.Refused m → Follows ws at (slotReadIs (slotRead.Refused m)) (slot n)
+        unfolding slotReadIs
         slot-refused d = shows-lost (record { reads = λ k. old-tagged k ∙ ap (λ r. after r (λ t. give (old t))) (term-refused g d .reads k) })
 
-pub slot-found : {ws : List ℕ} {at next : ℕ} {m : Reader Slot} {s : SlotHeld.Slot} {r : SlotRead.SlotRead} → Follows ws at (slotIs r) m → r ≡ slotRead.Found s next → Got ws at m (slotOf s) next
-unfolding slotIs
-slot-found f e = got-of f (λ k. ap (λ r. slotIs r k) e)
+pub slot-found : {ws : List ℕ} {at next : ℕ} {m : Reader Slot} {s : SlotHeld.Slot} {r : SlotRead.SlotRead} → Follows ws at (slotReadIs r) m → r ≡ slotRead.Found s next → Got ws at m (slotIs s) next
+unfolding slotReadIs
+slot-found f e = got-of f (λ k. ap (λ r. slotReadIs r k) e)
 
-pub slot-lost : {ws : List ℕ} {at n : ℕ} {m : Reader Slot} {r : SlotRead.SlotRead} → Follows ws at (slotIs r) m → r ≡ slotRead.Refused n → Lost ws at m n
-unfolding slotIs
-slot-lost f e = lost-of f (λ k. ap (λ r. slotIs r k) e)
+pub slot-lost : {ws : List ℕ} {at n : ℕ} {m : Reader Slot} {r : SlotRead.SlotRead} → Follows ws at (slotReadIs r) m → r ≡ slotRead.Refused n → Lost ws at m n
+unfolding slotReadIs
+slot-lost f e = lost-of f (λ k. ap (λ r. slotReadIs r k) e)
 
 -- "at most 15"
 pub new-few : (n : ℕ) (us : List ℕ) (k : ℕ) (vs : List ℕ) (j : ℕ) → slot n us k ≡ got new vs j → n ≤ 15
@@ -303,21 +303,21 @@ two-terms n (suc (suc (suc zero))) p q a b us k = refl
 two-terms n (suc (suc (suc (suc zero)))) p q a b us k = absurd (q refl)
 two-terms n (suc (suc (suc (suc (suc w))))) p q a b us k = absurd (omega arith)
 
-module _ (ws : List ℕ) (at n : ℕ) {r : WordRead.WordRead} (f : Follows ws at (wordIs at r) (wordWhere badWord (between 1 4))) where
-  pub guard-uncoded : {m : ℕ} → r ≡ wordRead.Refused m → Follows ws at (openingIs (guardRead.Refused m)) (opening n)
-  unfolding openingIs
+module _ (ws : List ℕ) (at n : ℕ) {r : WordRead.WordRead} (f : Follows ws at (wordReadIs at r) (wordWhere badWord (between 1 4))) where
+  pub guard-uncoded : {m : ℕ} → r ≡ wordRead.Refused m → Follows ws at (guardReadIs (guardRead.Refused m)) (opening n)
+  unfolding guardReadIs
   guard-uncoded e = shows-lost (lost-as (guard-tested n) (first-lost _ (word-refused f e)))
 
   module _ {w : ℕ} (e : r ≡ wordRead.Found w) where
     coded : (c : ℕ) → w ≡ c → (us : List ℕ) (k : ℕ) → openingFor n (guardOf w) us k ≡ openingFor n (guardOf c) us k
     coded c t us k = ap (λ w. openingFor n (guardOf w) us k) t
 
-    pub guard-draw : w ≡ 1 → Follows ws at (openingIs (guardRead.Found Draw (at + 1))) (opening n)
-    unfolding openingIs openingOf openingFor guardOf
+    pub guard-draw : w ≡ 1 → Follows ws at (guardReadIs (guardRead.Found Draw (at + 1))) (opening n)
+    unfolding guardReadIs guardIs openingFor guardOf
     guard-draw t = shows-got (got-as (guard-tested n) (then-gives _ (word-found f e) (coded 1 t)))
 
-    pub guard-absent : w ≡ 4 → Follows ws at (openingIs (guardRead.Found Absent (at + 1))) (opening n)
-    unfolding openingIs openingOf openingFor guardOf
+    pub guard-absent : w ≡ 4 → Follows ws at (guardReadIs (guardRead.Found Absent (at + 1))) (opening n)
+    unfolding guardReadIs guardIs openingFor guardOf
     guard-absent t = shows-got (got-as (guard-tested n) (then-gives _ (word-found f e) (coded 4 t)))
 
     -- a comparison
@@ -325,31 +325,31 @@ module _ (ws : List ℕ) (at n : ℕ) {r : WordRead.WordRead} (f : Follows ws at
       terms : (us : List ℕ) (k : ℕ) → openingFor n (guardOf w) us k ≡ after (term n us k) (λ x us i. after (term n us i) (λ y. give (compared w x y)))
       terms = two-terms n w no-draw no-absent (word-bounds badWord 1 4 (word-found f e) .0) (word-bounds badWord 1 4 (word-found f e) .1)
 
-      module _ {x : TermRead.TermRead} (g : Follows ws (at + 1) (termIs x) (term n)) where
-        pub guard-first : {m : ℕ} → x ≡ termRead.Refused m → Follows ws at (openingIs (guardRead.Refused m)) (opening n)
-        unfolding openingIs
+      module _ {x : TermRead.TermRead} (g : Follows ws (at + 1) (termReadIs x) (term n)) where
+        pub guard-first : {m : ℕ} → x ≡ termRead.Refused m → Follows ws at (guardReadIs (guardRead.Refused m)) (opening n)
+        unfolding guardReadIs
         guard-first d = shows-lost (lost-as (guard-tested n) (then-lost _ (word-found f e) (lost-as terms (first-lost _ (term-refused g d)))))
 
-        module _ {a : TermHeld.Term} {mid : ℕ} (d : x ≡ termRead.Found a mid) {y : TermRead.TermRead} (h : Follows ws mid (termIs y) (term n)) where
-          pub guard-second : {m : ℕ} → y ≡ termRead.Refused m → Follows ws at (openingIs (guardRead.Refused m)) (opening n)
-          unfolding openingIs
+        module _ {a : TermHeld.Term} {mid : ℕ} (d : x ≡ termRead.Found a mid) {y : TermRead.TermRead} (h : Follows ws mid (termReadIs y) (term n)) where
+          pub guard-second : {m : ℕ} → y ≡ termRead.Refused m → Follows ws at (guardReadIs (guardRead.Refused m)) (opening n)
+          unfolding guardReadIs
           guard-second i = shows-lost (lost-as (guard-tested n) (then-lost _ (word-found f e) (lost-as terms (then-lost _ (term-found g d) (first-lost _ (term-refused h i))))))
 
-          both : {b : TermHeld.Term} {next : ℕ} → y ≡ termRead.Found b next → Got ws at (opening n) (compared w (termOf a) (termOf b)) next
+          both : {b : TermHeld.Term} {next : ℕ} → y ≡ termRead.Found b next → Got ws at (opening n) (compared w (termIs a) (termIs b)) next
           both i = got-as (guard-tested n) (then-got _ (word-found f e) (got-as terms (then-got _ (term-found g d) (then-gives _ (term-found h i) (λ us k. refl)))))
 
-          pub guard-same : {b : TermHeld.Term} {next : ℕ} → y ≡ termRead.Found b next → w ≡ 2 → Follows ws at (openingIs (guardRead.Found (Same a b) next)) (opening n)
-          unfolding openingIs openingOf
-          guard-same {b} i t = shows-got (rw (compared-same w t (termOf a) (termOf b)) at (both i))
+          pub guard-same : {b : TermHeld.Term} {next : ℕ} → y ≡ termRead.Found b next → w ≡ 2 → Follows ws at (guardReadIs (guardRead.Found (Same a b) next)) (opening n)
+          unfolding guardReadIs guardIs
+          guard-same {b} i t = shows-got (rw (compared-same w t (termIs a) (termIs b)) at (both i))
 
-          pub guard-different : {b : TermHeld.Term} {next : ℕ} → y ≡ termRead.Found b next → (w ≡ 2 → ⊥) → Follows ws at (openingIs (guardRead.Found (Different a b) next)) (opening n)
-          unfolding openingIs openingOf
-          guard-different {b} i t = shows-got (rw (compared-different w t (termOf a) (termOf b)) at (both i))
+          pub guard-different : {b : TermHeld.Term} {next : ℕ} → y ≡ termRead.Found b next → (w ≡ 2 → ⊥) → Follows ws at (guardReadIs (guardRead.Found (Different a b) next)) (opening n)
+          unfolding guardReadIs guardIs
+          guard-different {b} i t = shows-got (rw (compared-different w t (termIs a) (termIs b)) at (both i))
 
-pub guard-found : {ws : List ℕ} {at next : ℕ} {m : Reader Opening} {g : GuardHeld.Guard} {r : GuardRead.GuardRead} → Follows ws at (openingIs r) m → r ≡ guardRead.Found g next → Got ws at m (openingOf g) next
-unfolding openingIs
-guard-found f e = got-of f (λ k. ap (λ r. openingIs r k) e)
+pub guard-found : {ws : List ℕ} {at next : ℕ} {m : Reader Opening} {g : GuardHeld.Guard} {r : GuardRead.GuardRead} → Follows ws at (guardReadIs r) m → r ≡ guardRead.Found g next → Got ws at m (guardIs g) next
+unfolding guardReadIs
+guard-found f e = got-of f (λ k. ap (λ r. guardReadIs r k) e)
 
-pub guard-refused : {ws : List ℕ} {at n : ℕ} {m : Reader Opening} {r : GuardRead.GuardRead} → Follows ws at (openingIs r) m → r ≡ guardRead.Refused n → Lost ws at m n
-unfolding openingIs
-guard-refused f e = lost-of f (λ k. ap (λ r. openingIs r k) e)
+pub guard-refused : {ws : List ℕ} {at n : ℕ} {m : Reader Opening} {r : GuardRead.GuardRead} → Follows ws at (guardReadIs r) m → r ≡ guardRead.Refused n → Lost ws at m n
+unfolding guardReadIs
+guard-refused f e = lost-of f (λ k. ap (λ r. guardReadIs r k) e)

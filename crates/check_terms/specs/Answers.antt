@@ -6,10 +6,11 @@ use mathlib.Core.Bool.{Bool, _&&_}
 use mathlib.Core.List.{List}
 use lib.Dec.{leb, eqb}
 use lib.ListN.{length, drop}
-use Rattle.refusals.specs.Table.{badWord, notInScope}
+use Rattle.refusals.specs.RefusalTable.{badWord, notInScope}
 use Rattle.policy.specs.Syntax.{Term, Slot, old, new}
-use Rattle.policy.specs.Decode.{Read, got, refused, Reader, _>>=_, give, refuse, word, wordWhere, Tag, isAtom, isVar, isNew, noTag, tagOf, termAs, anyAtom, term, width, Pattern, slots, Guard, isDraw, isSame, isDifferent, isAbsent, noGuard, guardOf}
-use Rattle.policy.specs.Held.{termOf, slotOf}
+use Rattle.policy.specs.Decode.{Read, got, Reader, _>>=_, give, refuse, word, wordWhere, Tag, isAtom, isVar, isNew, noTag, tagOf, termAs, anyAtom, term, width, Pattern, slots, Guard, isDraw, isSame, isDifferent, isAbsent, noGuard, guardOf}
+use Rattle.policy.specs.Decode as Decode
+use Rattle.policy.specs.Held.{termIs, slotIs}
 use Rattle.policy.specs.declared.Guard as GuardHeld
 use Rattle.policy.specs.declared.Guard.the-variants.{Draw, Same, Different, Absent}
 use Rattle.check_terms.specs.declared.WordRead as WordRead
@@ -26,33 +27,33 @@ use Rattle.check_terms.specs.declared.PatternRead as PatternRead
 use Rattle.check_terms.specs.declared.PatternRead.the-variants as patternRead
 
 -- a value, the place of the next word and the draws met so far; or a refusal's number
-pub data Answer (A : Type 0) : Type 0 where
-  found : A → ℕ → ℕ → Answer A
-  stopped : ℕ → Answer A
+pub data Step (A : Type 0) : Type 0 where
+  found : A → ℕ → ℕ → Step A
+  refused : ℕ → Step A
 
 -- what the answer comes to among the words
-unfoldable pub outcome : {A : Type 0} → List ℕ → Answer A → Read A
+unfoldable pub outcome : {A : Type 0} → List ℕ → Step A → Read A
 outcome ws (found a next k) = got a (drop next ws) k
-outcome ws (stopped n) = refused n
+outcome ws (refused n) = Decode.refused n
 
 -- the next word stands there or later, or just past the last
-unfoldable pub Onward : {A : Type 0} → List ℕ → ℕ → Answer A → Type 0
+unfoldable pub Onward : {A : Type 0} → List ℕ → ℕ → Step A → Type 0
 Onward ws at (found a next k) = (at ≤ next) × (next ≤ length ws)
-Onward ws at (stopped n) = Unit {0}
+Onward ws at (refused n) = Unit {0}
 
 -- the answer of a reader that started at word `at`, and what the definition reads there
-pub record Answers {A : Type 0} (ws : List ℕ) (at : ℕ) (x : Answer A) (y : Read A) : Type 0 where
+pub record Answers {A : Type 0} (ws : List ℕ) (at : ℕ) (x : Step A) (y : Read A) : Type 0 where
   pub agrees : outcome ws x ≡ y
   pub onward : Onward ws at x
 
 -- the same of a reader that takes a word at least and meets no draws, whatever their count
-pub record Follows {A : Type 0} (ws : List ℕ) (at : ℕ) (x : ℕ → Answer A) (m : Reader A) : Type 0 where
+pub record Follows {A : Type 0} (ws : List ℕ) (at : ℕ) (x : ℕ → Step A) (m : Reader A) : Type 0 where
   pub answers : (k : ℕ) → Answers ws (at + 1) (x k) (m (drop at ws) k)
 
 -- a reader of whose value only this is kept
 unfoldable pub kept : {A B : Type 0} → (A → B) → Read A → Read B
 kept f (got a ws k) = got (f a) ws k
-kept f (refused n) = refused n
+kept f (Decode.refused n) = Decode.refused n
 
 unfoldable pub keeping : {A B : Type 0} → (A → B) → Reader A → Reader B
 unfolding kept
@@ -68,18 +69,18 @@ between least most w = leb least w && leb w most
 unfoldable pub next : ℕ → ℕ → Bool
 next n v = eqb v n && leb v 15
 
-unfoldable pub wordIs : ℕ → WordRead.WordRead → ℕ → Answer ℕ
-wordIs at (wordRead.Found w) k = found w (at + 1) k
-wordIs at (wordRead.Refused n) k = stopped n
+unfoldable pub wordReadIs : ℕ → WordRead.WordRead → ℕ → Step ℕ
+wordReadIs at (wordRead.Found w) k = found w (at + 1) k
+wordReadIs at (wordRead.Refused n) k = refused n
 
-unfoldable pub termIs : TermRead.TermRead → ℕ → Answer Term
-unfolding termOf
-termIs (termRead.Found t next) k = found (termOf t) next k
-termIs (termRead.Refused n) k = stopped n
+unfoldable pub termReadIs : TermRead.TermRead → ℕ → Step Term
+unfolding termIs
+termReadIs (termRead.Found t next) k = found (termIs t) next k
+termReadIs (termRead.Refused n) k = refused n
 
-unfoldable pub passedIs : Passed.Passed → ℕ → Answer (Unit {0})
+unfoldable pub passedIs : Passed.Passed → ℕ → Step (Unit {0})
 passedIs (passed.To next) k = found tt next k
-passedIs (passed.Refused n) k = stopped n
+passedIs (passed.Refused n) k = refused n
 
 -- one slot of a pattern, and the count of variables in scope after it
 unfoldable pub slotFor : ℕ → Tag → Reader Slot
@@ -105,10 +106,10 @@ unfoldable pub scopeAfter : ℕ → Slot → ℕ
 scopeAfter n (old t) = n
 scopeAfter n new = n + 1
 
-unfoldable pub slotIs : SlotRead.SlotRead → ℕ → Answer Slot
-unfolding slotOf
-slotIs (slotRead.Found s next) k = found (slotOf s) next k
-slotIs (slotRead.Refused n) k = stopped n
+unfoldable pub slotReadIs : SlotRead.SlotRead → ℕ → Step Slot
+unfolding slotIs
+slotReadIs (slotRead.Found s next) k = found (slotIs s) next k
+slotReadIs (slotRead.Refused n) k = refused n
 
 -- a whole pattern; of it the count of variables in scope is kept
 unfoldable pub pattern : ℕ → Reader Pattern
@@ -120,9 +121,9 @@ pattern n = do
 abbrev pub scope : Pattern → ℕ
 scope p = p .1
 
-unfoldable pub patternIs : PatternRead.PatternRead → ℕ → Answer ℕ
-patternIs (patternRead.Found n next) k = found n next k
-patternIs (patternRead.Refused n) k = stopped n
+unfoldable pub patternReadIs : PatternRead.PatternRead → ℕ → Step ℕ
+patternReadIs (patternRead.Found n next) k = found n next k
+patternReadIs (patternRead.Refused n) k = refused n
 
 -- a guard as far as its expression: a comparison whole, of the others the code
 pub data Opening : Type 0 where
@@ -149,14 +150,14 @@ opening n = do
   t ← word
   openingFor n (guardOf t)
 
-unfoldable pub openingOf : GuardHeld.Guard → Opening
-unfolding termOf
-openingOf Draw = drawOpens
-openingOf (Same x y) = sameOpens (termOf x) (termOf y)
-openingOf (Different x y) = differentOpens (termOf x) (termOf y)
-openingOf Absent = absentOpens
+unfoldable pub guardIs : GuardHeld.Guard → Opening
+unfolding termIs
+guardIs Draw = drawOpens
+guardIs (Same x y) = sameOpens (termIs x) (termIs y)
+guardIs (Different x y) = differentOpens (termIs x) (termIs y)
+guardIs Absent = absentOpens
 
-unfoldable pub openingIs : GuardRead.GuardRead → ℕ → Answer Opening
-unfolding openingOf
-openingIs (guardRead.Found g next) k = found (openingOf g) next k
-openingIs (guardRead.Refused n) k = stopped n
+unfoldable pub guardReadIs : GuardRead.GuardRead → ℕ → Step Opening
+unfolding guardIs
+guardReadIs (guardRead.Found g next) k = found (guardIs g) next k
+guardReadIs (guardRead.Refused n) k = refused n

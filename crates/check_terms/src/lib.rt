@@ -1,7 +1,7 @@
 // Terms, slots and the guards that compare terms, decoded word by word.
-ghost use Rattle.refusals.specs.Table.{badWord, notInScope};
+ghost use Rattle.refusals.specs.RefusalTable.{badWord, notInScope};
 ghost use Rattle.policy.specs.Decode.{wordWhere, term, issuer, row, rows};
-ghost use Rattle.check_terms.specs.Answers.{Follows, keeping, nothing, between, next, slot, scope, pattern, opening, wordIs, termIs, slotIs, openingIs, passedIs, patternIs};
+ghost use Rattle.check_terms.specs.Answers.{Follows, keeping, nothing, between, next, slot, scope, pattern, opening, wordReadIs, termReadIs, slotReadIs, guardReadIs, passedIs, patternReadIs};
 use policy::GUARD_ABSENT;
 use policy::GUARD_DRAW;
 use policy::GUARD_SAME;
@@ -53,7 +53,7 @@ pub enum Passed {
 
 // The word at `at`, which is to lie between `least` and `most`.
 pub fn word_between(words: &[u32], at: usize, least: u32, most: u32) -> WordRead
-    ensures { λ r. ⌜ Follows (now (words .entry)) at (wordIs at r) (wordWhere badWord (between least most)) ⌝ }
+    ensures { λ r. ⌜ Follows (now (words .entry)) at (wordReadIs at r) (wordWhere badWord (between least most)) ⌝ }
 {
     if words.len() <= at {
         return WordRead::Refused(refusals::BAD_WORD);
@@ -70,7 +70,7 @@ pub fn word_between(words: &[u32], at: usize, least: u32, most: u32) -> WordRead
 
 // A term: 0 and an atom, or 1 and the number of a variable in scope.
 pub fn read_term(words: &[u32], at: usize, variables: u32) -> TermRead
-    ensures { λ r. ⌜ Follows (now (words .entry)) at (termIs r) (term variables) ⌝ }
+    ensures { λ r. ⌜ Follows (now (words .entry)) at (termReadIs r) (term variables) ⌝ }
 {
     if words.len() <= at {
         return TermRead::Refused(refusals::BAD_WORD);
@@ -95,7 +95,7 @@ pub fn read_term(words: &[u32], at: usize, variables: u32) -> TermRead
 }
 
 // An issuer: a term that is no number.
-pub fn read_issuer(words: &[u32], at: usize, variables: u32) -> Passed
+pub fn pass_issuer(words: &[u32], at: usize, variables: u32) -> Passed
     ensures { λ r. ⌜ Follows (now (words .entry)) at (passedIs r) (keeping nothing (issuer variables)) ⌝ }
 {
     match read_term(words, at, variables) {
@@ -115,7 +115,7 @@ pub fn read_issuer(words: &[u32], at: usize, variables: u32) -> Passed
 
 // The number of a new variable, after its tag: the count of those in scope, at most 15.
 fn read_new(words: &[u32], at: usize, variables: u32) -> WordRead
-    ensures { λ r. ⌜ Follows (now (words .entry)) at (wordIs at r) (wordWhere notInScope (next variables)) ⌝ }
+    ensures { λ r. ⌜ Follows (now (words .entry)) at (wordReadIs at r) (wordWhere notInScope (next variables)) ⌝ }
 {
     if words.len() <= at {
         return WordRead::Refused(refusals::BAD_WORD);
@@ -132,7 +132,7 @@ fn read_new(words: &[u32], at: usize, variables: u32) -> WordRead
 
 // A slot: a term, or 2 and the number of a new variable.
 pub fn read_slot(words: &[u32], at: usize, variables: u32) -> SlotRead
-    ensures { λ r. ⌜ Follows (now (words .entry)) at (slotIs r) (slot variables) ⌝ }
+    ensures { λ r. ⌜ Follows (now (words .entry)) at (slotReadIs r) (slot variables) ⌝ }
 {
     match word_between(words, at, TAG_ATOM, TAG_NEW) {
         WordRead::Refused(n) => SlotRead::Refused(n),
@@ -154,7 +154,7 @@ pub fn read_slot(words: &[u32], at: usize, variables: u32) -> SlotRead
 
 // A guard's code, and the two terms of a comparison.
 pub fn read_guard(words: &[u32], at: usize, variables: u32) -> GuardRead
-    ensures { λ r. ⌜ Follows (now (words .entry)) at (openingIs r) (opening variables) ⌝ }
+    ensures { λ r. ⌜ Follows (now (words .entry)) at (guardReadIs r) (opening variables) ⌝ }
 {
     match word_between(words, at, GUARD_DRAW, GUARD_ABSENT) {
         WordRead::Refused(n) => GuardRead::Refused(n),
@@ -183,7 +183,7 @@ pub fn read_guard(words: &[u32], at: usize, variables: u32) -> GuardRead
 }
 
 // A row: a width and its terms.
-pub fn read_row(words: &[u32], at: usize, variables: u32) -> Passed
+pub fn pass_row(words: &[u32], at: usize, variables: u32) -> Passed
     ensures { λ r. ⌜ Follows (now (words .entry)) at (passedIs r) (keeping nothing (row variables)) ⌝ }
 {
     match word_between(words, at, 1, MOST_ATOMS) {
@@ -208,17 +208,17 @@ pub fn read_row(words: &[u32], at: usize, variables: u32) -> Passed
 }
 
 // The rows of a literal: their count, then each.
-pub fn read_rows(words: &[u32], at: usize, variables: u32) -> Passed
+pub fn pass_rows(words: &[u32], at: usize, variables: u32) -> Passed
     ensures { λ r. ⌜ Follows (now (words .entry)) at (passedIs r) (keeping nothing (rows variables)) ⌝ }
 {
-    match word_between(words, at, 0, MOST_ROWS) {
+    match word_between(words, at, 0, MOST_ROWS as u32) {
         WordRead::Refused(n) => Passed::Refused(n),
         WordRead::Found(count) => {
             let mut next = at + 1;
             let mut left = count;
             while 0 < left {
                 left -= 1;
-                match read_row(words, next, variables) {
+                match pass_row(words, next, variables) {
                     Passed::Refused(n) => {
                         return Passed::Refused(n);
                     }
@@ -234,7 +234,7 @@ pub fn read_rows(words: &[u32], at: usize, variables: u32) -> Passed
 
 // A pattern: a width and its slots, each new variable in scope for those after it.
 pub fn read_pattern(words: &[u32], at: usize, variables: u32) -> PatternRead
-    ensures { λ r. ⌜ Follows (now (words .entry)) at (patternIs r) (keeping scope (pattern variables)) ⌝ }
+    ensures { λ r. ⌜ Follows (now (words .entry)) at (patternReadIs r) (keeping scope (pattern variables)) ⌝ }
 {
     match word_between(words, at, 1, MOST_ATOMS) {
         WordRead::Refused(n) => PatternRead::Refused(n),

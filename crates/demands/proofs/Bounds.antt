@@ -13,7 +13,7 @@ use Rattle.rows.proofs.Case.{T-decided, _then_}
 use Rattle.certificates.specs.Certificate.{Certificate}
 use Rattle.policy.specs.Syntax.{Expr}
 use Rattle.policy.specs.Polarity.{hasPolarity, Verdict, exact, lower, upper}
-use Rattle.policy.specs.Judgement.{checked, check}
+use Rattle.policy.specs.Checking.{checked, check}
 use Rattle.policy.proofs.Judging.{AcceptedPair, check-accepted}
 use Rattle.meaning.specs.Evidence.{namesHeld}
 use Rattle.meaning.specs.World.{World, AllTrue, Minimal, AboutRows}

@@ -1,10 +1,10 @@
 -- The portal cases hold, by computation.
 use mathlib.Core.Path.{refl}
-use Rattle.demands.specs.Cases.{Holds, cases, Table}
+use Rattle.demands.specs.Cases.{Holds, cases, AllHold}
 use Rattle.rows.specs.Word.{All}
 use Rattle.certificates.specs.Filing.{storeAt}
 use Rattle.demands.specs.Query.{queryCall}
 
-pub table : Table
+pub table : AllHold
 unfolding Holds cases All storeAt queryCall
 table = (refl, (refl, (refl, (refl, (refl, (refl, (refl, (refl, (refl, (refl, (refl, (refl, tt))))))))))))

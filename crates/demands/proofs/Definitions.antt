@@ -17,21 +17,22 @@ use Rattle.rows.proofs.Sets.{none-proper}
 use Rattle.policy.specs.Syntax.{Expr}
 use Rattle.policy.specs.Words.{exprWords}
 use Rattle.policy.specs.WellFormed.{Fit}
-use Rattle.policy.specs.Decode.{parse, parsed}
+use Rattle.policy.specs.Parse.{parse, parsed}
 use Rattle.policy.specs.Polarity.{Known, Verdict}
 use Rattle.policy.specs.Table.{Entry, entryWords}
-use Rattle.policy.specs.Judgement.{knownOf}
+use Rattle.policy.specs.Checking.{knownOf}
 use Rattle.policy.proofs.Decoding.{parse-words, parse-fits}
 use Rattle.policy.proofs.Judging.{Accepted, none, one, entry-words}
 use Rattle.meaning.specs.Evidence.{Evidence}
-use Rattle.meaning.specs.Reading.{Answer, done, refused, read}
+use Rattle.meaning.specs.Reading.{Result, done, refused, read}
 use Rattle.meaning.specs.World.{World}
 use Rattle.meaning.specs.Belonging.{Meanings, Belongs, meanings}
 use Rattle.meaning.proofs.Claims.{Tidy, ProperNames, TidySets, Shows, Agree, Below, Along, along-same, Ways}
 use Rattle.meaning.proofs.Proper.{read-tidy}
 use Rattle.meaning.proofs.Faithful.{read-rows}
 use Rattle.meaning.proofs.Monotone.{monotone}
-use Rattle.demands.specs.Query.{Outcome, answered, declined, readFrom}
+use Rattle.demands.specs.Query.{Outcome, answered, readFrom}
+use Rattle.demands.specs.Query as Query
 
 -- a whole expression that was parsed from words keeps the rules, and its words are words
 pub record Sound (known : ℕ) (e : Expr) : Type 0 where
@@ -91,8 +92,8 @@ pub record Reached (names : Evidence) (D : Meanings) (q : Expr) (S : RowSet) (j 
   pub agree : Agree sets D
   pub tidy : TidySets sets
 
-end-reached : (v w : Verdict) (j : ℕ) (S : RowSet) (a : Answer RowSet) →
-    (elim a as (λ c. Outcome) [ done s k ↦ answered v k s | refused n ↦ declined n 16 ]) ≡ answered w j S → a ≡ done S j
+end-reached : (v w : Verdict) (j : ℕ) (S : RowSet) (a : Result RowSet) →
+    (elim a as (λ c. Outcome) [ done s k ↦ answered v k s | refused n ↦ Query.refused n 16 ]) ≡ answered w j S → a ≡ done S j
 end-reached v w j S (done s k) e = cc
 end-reached v w j S (refused n) e = let z : _≡_ {A = ℕ} 0 1 = cc in absurd (omega arith)
 
@@ -107,7 +108,7 @@ module _ (names : Evidence) (W : World) (shows : Shows names W) (proper : Proper
     where
       go : ((s : RowSet) (i : ℕ) → length (sets ++ (s ∷ [])) ≡ length (D ++ (Belongs W D e [] ∷ [])) → Agree (sets ++ (s ∷ [])) (D ++ (Belongs W D e [] ∷ [])) →
           TidySets (sets ++ (s ∷ [])) → readFrom names es q v (sets ++ (s ∷ [])) i ≡ answered w j S → Reached names (meanings W es (D ++ (Belongs W D e [] ∷ []))) q S j) →
-          (b : Answer RowSet) → read names sets e [] k ≡ b → Reached names (meanings W es (D ++ (Belongs W D e [] ∷ []))) q S j
+          (b : Result RowSet) → read names sets e [] k ≡ b → Reached names (meanings W es (D ++ (Belongs W D e [] ∷ []))) q S j
       go ih (done s i) f =
           let o = parsed-sound (length ks) (entryWords policy x) e (a .parses) (entry-words policy x words) in
           ih s i (length-snoc sets s ∙ ap suc m ∙ sym (length-snoc D (Belongs W D e [])))
@@ -115,7 +116,7 @@ module _ (names : Evidence) (W : World) (shows : Shows names W) (proper : Proper
           (tidy-snoc sets t s (read-tidy names sets proper t e (length ks) 0 (o .fit) (o .words) [] no-values k s i f))
           (rw (f, readFrom) at h)
       go ih (refused n) f =
-          let g : declined n (length sets) ≡ answered w j S = rw (f, readFrom) at h in
+          let g : Query.refused n (length sets) ≡ answered w j S = rw (f, readFrom) at h in
           let z : _≡_ {A = ℕ} 0 1 = cc in absurd (omega arith)
 
 -- before the first definition

@@ -13,7 +13,8 @@ use Rattle.certificates.specs.Store.{capacity, records, soundStore}
 use Rattle.certificates.specs.Filing.{FilingReply, refused, replyGiven, fileReply, storeBy, storeAfter}
 use Rattle.certificates.proofs.Sound.{records-length, sound-store}
 use Rattle.certificates.proofs.Filings.{listed, not-listed, Replied, unsound, known, full, new, replied}
-use Rattle.demands.specs.Query.{Call, queryCall, declined, answerArea}
+use Rattle.demands.specs.Query.{Call, queryCall, answerArea}
+use Rattle.demands.specs.Query as Query
 use Rattle.demands.specs.Demand1.{Filing, eight, nine, isHeld, ten, isNew, Theorem}
 use Rattle.demands.proofs.Outcome.{call-declined}
 
@@ -61,7 +62,7 @@ store-stays : (store w : List ℕ) (n : ℕ) → fileReply store w ≡ refused n
 unfolding storeAfter storeBy
 store-stays store w n e = ap (λ (r : FilingReply). storeBy r store w) e
 
-answer-stays : (store : List ℕ) (c : Call) (n part : ℕ) → queryCall store c ≡ declined n part → answerArea (queryCall store c) (c .answer) ≡ c .answer
+answer-stays : (store : List ℕ) (c : Call) (n part : ℕ) → queryCall store c ≡ Query.refused n part → answerArea (queryCall store c) (c .answer) ≡ c .answer
 unfolding answerArea
 answer-stays store c n part e = ap (λ o. answerArea o (c .answer)) e
 

@@ -14,7 +14,7 @@ use Rattle.certificates.specs.Filing.{storeAt, accepted, acceptedFrom}
 use Rattle.certificates.proofs.Filings.{Keeps, empty-keeps, reply-keeps, at-keeps, acceptedFrom-append, accepted-stays, accepted-sound, accepted-words}
 use Rattle.policy.specs.Syntax.{Expr}
 use Rattle.policy.specs.Polarity.{Verdict}
-use Rattle.policy.specs.Judgement.{check, checked}
+use Rattle.policy.specs.Checking.{check, checked}
 use Rattle.meaning.specs.Evidence.{namesHeld}
 use Rattle.meaning.specs.World.{AboutRows}
 use Rattle.meaning.proofs.Minimal.{same-names}

@@ -8,28 +8,30 @@ use native.Mathlib.Omega.{arith}
 use lib.Dec.{leb}
 use lib.ListN.{length}
 use borrow.Author.Tests.{leb-true}
-use Rattle.refusals.specs.Table.{badStore, shortArea, noPart}
+use Rattle.refusals.specs.RefusalTable.{badStore, shortArea, noPart}
 use Rattle.rows.specs.Sets.{RowSet}
 use Rattle.rows.specs.Layout.{setRoom}
 use Rattle.rows.proofs.Case.{Case, isTrue, isFalse, split, and-true}
 use Rattle.certificates.specs.Store.{soundStore, certificates}
 use Rattle.policy.specs.Syntax.{Expr}
 use Rattle.policy.specs.Polarity.{Verdict}
-use Rattle.policy.specs.Judgement.{Checked, checked, unchecked, check}
+use Rattle.policy.specs.Checking.{Checked, checked, check}
+use Rattle.policy.specs.Checking as Checking
 use Rattle.policy.proofs.Judging.{judge-refused}
 use Rattle.meaning.specs.Evidence.{Evidence, namesHeld}
-use Rattle.meaning.specs.Reading.{Answer, done, refused, read}
-use Rattle.demands.specs.Query.{Outcome, answered, declined, readFrom, roomy, Call, outcomeFrom, queryCall}
+use Rattle.meaning.specs.Reading.{Result, done, refused, read}
+use Rattle.demands.specs.Query.{Outcome, answered, readFrom, roomy, Call, outcomeFrom, queryCall}
+use Rattle.demands.specs.Query as Query
 use Rattle.demands.specs.Refusal.{Refusal, judged, unsound, short, reading}
 
-pub not-both : {A : Type 0} {v : Verdict} {k : ℕ} {S : RowSet} {n part : ℕ} → answered v k S ≡ declined n part → A
+pub not-both : {A : Type 0} {v : Verdict} {k : ℕ} {S : RowSet} {n part : ℕ} → answered v k S ≡ Query.refused n part → A
 not-both {v} {k} {S} {n} {part} e = let z : _≡_ {A = ℕ} 0 1 = cc in absurd (omega arith)
 
-not-checked : {A : Type 0} {es : List Expr} {q : Expr} {v : Verdict} {n part : ℕ} → checked es q v ≡ unchecked n part → A
+not-checked : {A : Type 0} {es : List Expr} {q : Expr} {v : Verdict} {n part : ℕ} → checked es q v ≡ Checking.refused n part → A
 not-checked {es} {q} {v} {n} {part} e = let z : _≡_ {A = ℕ} 0 1 = cc in absurd (omega arith)
 
-pub end-verdict : (v w : Verdict) (j : ℕ) (S : RowSet) (a : Answer RowSet) →
-    (elim a as (λ c. Outcome) [ done s k ↦ answered v k s | refused n ↦ declined n 16 ]) ≡ answered w j S → v ≡ w
+pub end-verdict : (v w : Verdict) (j : ℕ) (S : RowSet) (a : Result RowSet) →
+    (elim a as (λ c. Outcome) [ done s k ↦ answered v k s | refused n ↦ Query.refused n 16 ]) ≡ answered w j S → v ≡ w
 end-verdict v w j S (done s k) e = cc
 end-verdict v w j S (refused n) e = not-both (sym e)
 
@@ -39,15 +41,15 @@ unfolding readFrom
 read-verdict names [] q v sets k w j S h = end-verdict v w j S (read names sets q [] k) h
 read-verdict names (e ∷ es) q v sets k w j S h = go (λ s i f. read-verdict names es q v (sets ++ (s ∷ [])) i w j S f) (read names sets e [] k) refl
   where
-    go : ((s : RowSet) (i : ℕ) → readFrom names es q v (sets ++ (s ∷ [])) i ≡ answered w j S → v ≡ w) → (a : Answer RowSet) → read names sets e [] k ≡ a → v ≡ w
+    go : ((s : RowSet) (i : ℕ) → readFrom names es q v (sets ++ (s ∷ [])) i ≡ answered w j S → v ≡ w) → (a : Result RowSet) → read names sets e [] k ≡ a → v ≡ w
     go ih (done s i) f = ih s i (rw (f, readFrom) at h)
-    go ih (refused n) f = not-both (sym (let g : declined n (length sets) ≡ answered w j S = rw (f, readFrom) at h in g))
+    go ih (refused n) f = not-both (sym (let g : Query.refused n (length sets) ≡ answered w j S = rw (f, readFrom) at h in g))
 
 -- the call on a store, by whether it is sound
 callOn : Bool → Evidence → Call → Outcome
 callOn sound names c = elim (check (c .policy) (c .query)) [
-  | unchecked n part ↦ declined n part
-  | checked es q v ↦ elim sound [ false ↦ declined badStore noPart | true ↦ outcomeFrom names c ]
+  | Checking.refused n part ↦ Query.refused n part
+  | checked es q v ↦ elim sound [ false ↦ Query.refused badStore noPart | true ↦ outcomeFrom names c ]
 ]
 
 call-on : (store : List ℕ) (c : Call) → queryCall store c ≡ callOn (soundStore store) (namesHeld (certificates store)) c
@@ -60,7 +62,7 @@ unfolding queryCall outcomeFrom
 call-reads store names sound same c = go (check (c .policy) (c .query)) refl
   where
     go : (k : Checked) → check (c .policy) (c .query) ≡ k → queryCall store c ≡ outcomeFrom names c
-    go (unchecked n part) f = rw (f, queryCall, outcomeFrom)
+    go (Checking.refused n part) f = rw (f, queryCall, outcomeFrom)
     go (checked es q v) f = rw (f, sound, queryCall) (ap (λ (held : Evidence). outcomeFrom held c) same)
 
 -- an answered call: the policy and the query passed, the areas are long enough, and the reading was done
@@ -76,8 +78,8 @@ unfolding outcomeFrom
 answered-by names c w k S h = go (check (c .policy) (c .query)) refl (split (roomy c))
   where
     go : (d : Checked) → check (c .policy) (c .query) ≡ d → Case (roomy c) → AnsweredBy names c w k S
-    go (unchecked n part) f b = not-both (sym (let g : declined n part ≡ answered w k S = rw (f, outcomeFrom) at h in g))
-    go (checked es q v) f (isFalse b) = not-both (sym (let g : declined shortArea noPart ≡ answered w k S = rw (f, b, outcomeFrom) at h in g))
+    go (Checking.refused n part) f b = not-both (sym (let g : Query.refused n part ≡ answered w k S = rw (f, outcomeFrom) at h in g))
+    go (checked es q v) f (isFalse b) = not-both (sym (let g : Query.refused shortArea noPart ≡ answered w k S = rw (f, b, outcomeFrom) at h in g))
     go (checked es q v) f (isTrue b) =
         let g : readFrom names es q v [] 0 ≡ answered w k S = rw (f, b, outcomeFrom) at h in
         let e : v ≡ w = read-verdict names es q v [] 0 w k S g in
@@ -98,47 +100,47 @@ answered-sound store c w k S h = go (check (c .policy) (c .query)) refl (split (
     g = sym (call-on store c) ∙ h
 
     go : (d : Checked) → check (c .policy) (c .query) ≡ d → Case (soundStore store) → soundStore store ≡ true
-    go (unchecked n part) f b = not-both (sym (let e : declined n part ≡ answered w k S = rw (f, callOn) at g in e))
+    go (Checking.refused n part) f b = not-both (sym (let e : Query.refused n part ≡ answered w k S = rw (f, callOn) at g in e))
     go (checked es q v) f (isTrue b) = b
-    go (checked es q v) f (isFalse b) = not-both (sym (let e : declined badStore noPart ≡ answered w k S = rw (f, b, callOn) at g in e))
+    go (checked es q v) f (isFalse b) = not-both (sym (let e : Query.refused badStore noPart ≡ answered w k S = rw (f, b, callOn) at g in e))
 
 pub roomy-answer : (c : Call) → roomy c ≡ true → setRoom ≤ length (c .answer)
 unfolding roomy
 roomy-answer c e = leb-true setRoom (length (c .answer)) (and-true (leb setRoom (length (c .answer))) _ e .0)
 
 -- declined, just where a refusal applies
-on-declined : (sound : Bool) (names : Evidence) (c : Call) (n part : ℕ) → (callOn sound names c ≡ declined n part) ↔ Refusal sound names c n part
+on-declined : (sound : Bool) (names : Evidence) (c : Call) (n part : ℕ) → (callOn sound names c ≡ Query.refused n part) ↔ Refusal sound names c n part
 unfolding callOn outcomeFrom
 on-declined sound names c n part = (λ h. to h (check (c .policy) (c .query)) refl (split sound) (split (roomy c)), from)
   where
-    as-declined : {m p : ℕ} → Refusal sound names c m p → declined m p ≡ declined n part → Refusal sound names c n part
+    as-declined : {m p : ℕ} → Refusal sound names c m p → Query.refused m p ≡ Query.refused n part → Refusal sound names c n part
     as-declined {m} {p} r e =
         let x : m ≡ n = cc in
         let y : p ≡ part = cc in
         subst (λ (l : ℕ). Refusal sound names c l part) x (subst (λ (l : ℕ). Refusal sound names c m l) y r)
 
-    to : callOn sound names c ≡ declined n part → (d : Checked) → check (c .policy) (c .query) ≡ d → Case sound → Case (roomy c) → Refusal sound names c n part
-    to h (unchecked m p) f a b = as-declined (judged (judge-refused (c .policy) (c .query) m p .1 f)) (rw (f, callOn) at h)
+    to : callOn sound names c ≡ Query.refused n part → (d : Checked) → check (c .policy) (c .query) ≡ d → Case sound → Case (roomy c) → Refusal sound names c n part
+    to h (Checking.refused m p) f a b = as-declined (judged (judge-refused (c .policy) (c .query) m p .1 f)) (rw (f, callOn) at h)
     to h (checked es q v) f (isFalse a) b = as-declined (unsound f a) (rw (f, a, callOn) at h)
     to h (checked es q v) f (isTrue a) (isFalse b) = as-declined (short f a b) (rw (f, b, outcomeFrom) at (rw (f, a, callOn) at h))
     to h (checked es q v) f (isTrue a) (isTrue b) = reading f a b (rw (f, b, outcomeFrom) at (rw (f, a, callOn) at h))
 
-    from : {m p : ℕ} → Refusal sound names c m p → callOn sound names c ≡ declined m p
+    from : {m p : ℕ} → Refusal sound names c m p → callOn sound names c ≡ Query.refused m p
     from {m} {p} (judged e) = rw (judge-refused (c .policy) (c .query) m p .0 e, callOn)
     from (unsound f a) = rw (f, a, callOn)
     from (short f a b) = rw (f, a, callOn) (rw (f, b, outcomeFrom))
     from (reading f a b e) = rw (f, a, callOn) (rw (f, b, outcomeFrom) e)
 
 pub call-declined : (store : List ℕ) (c : Call) (n part : ℕ) →
-    (queryCall store c ≡ declined n part) ↔ Refusal (soundStore store) (namesHeld (certificates store)) c n part
+    (queryCall store c ≡ Query.refused n part) ↔ Refusal (soundStore store) (namesHeld (certificates store)) c n part
 call-declined store c n part = rw (call-on store c) (on-declined (soundStore store) (namesHeld (certificates store)) c n part)
 
-pub outcome-declined : (names : Evidence) (c : Call) (n part : ℕ) → (outcomeFrom names c ≡ declined n part) ↔ Refusal true names c n part
+pub outcome-declined : (names : Evidence) (c : Call) (n part : ℕ) → (outcomeFrom names c ≡ Query.refused n part) ↔ Refusal true names c n part
 unfolding callOn outcomeFrom
 outcome-declined names c n part = rw (← sound-call (check (c .policy) (c .query)) refl) (on-declined true names c n part)
   where
     sound-call : (d : Checked) → check (c .policy) (c .query) ≡ d → callOn true names c ≡ outcomeFrom names c
-    sound-call (unchecked m p) f = rw (f, callOn, outcomeFrom)
+    sound-call (Checking.refused m p) f = rw (f, callOn, outcomeFrom)
     sound-call (checked es q v) f = rw (f, callOn)
 
 -- answered, just where none does
@@ -152,4 +154,4 @@ outcome-answered names c = (
     go : (o : Outcome) → outcomeFrom names c ≡ o → (¬ ((n : ℕ) × (part : ℕ) × Refusal true names c n part)) →
         (v : Verdict) × (k : ℕ) × (S : RowSet) × (outcomeFrom names c ≡ answered v k S)
     go (answered v k S) e f = (v, k, S, e)
-    go (declined n part) e f = absurd (f (n, part, outcome-declined names c n part .0 e))
+    go (Query.refused n part) e f = absurd (f (n, part, outcome-declined names c n part .0 e))

@@ -8,8 +8,8 @@ use Rattle.rows.specs.Word.{All}
 use Rattle.rows.specs.Sets.{only, allBut}
 use Rattle.certificates.specs.Filing.{storeAt}
 use Rattle.policy.specs.Polarity.{exact, lower, upper}
-use Rattle.policy.specs.Judged.{k1, P, Q, none as noDefinitions}
-use Rattle.demands.specs.Query.{Outcome, answered, declined, queryCall}
+use Rattle.policy.specs.Judged.{k1, P, Q, noDefinitions as noDefinitions}
+use Rattle.demands.specs.Query.{Outcome, answered, refused, queryCall}
 
 -- "An empty store is a sound one with the count 0, whatever words follow."
 unfoldable pub emptyStore : List ℕ
@@ -43,8 +43,8 @@ cases =
     ∷ record { filings = b ∷ c ∷ []; policy = P; query = Q; outcome = answered lower 1 (only ((7 ∷ []) ∷ [])) }  -- c
     ∷ record { filings = b ∷ c ∷ d ∷ []; policy = P; query = Q; outcome = answered lower 2 (only ((7 ∷ []) ∷ [])) }  -- d
     ∷ record { filings = b ∷ c ∷ d ∷ []; policy = P; query = 4 ∷ 0 ∷ k1 ∷ 2 ∷ 1 ∷ []; outcome = answered upper 2 (allBut ((7 ∷ []) ∷ [])) }  -- e
-    ∷ record { filings = []; policy = noDefinitions; query = 6 ∷ 4 ∷ 0 ∷ k1 ∷ 1 ∷ 0 ∷ 4 ∷ 0 ∷ k1 ∷ 1 ∷ 0 ∷ []; outcome = declined 6 16 }  -- f
-    ∷ record { filings = []; policy = noDefinitions; query = 7 ∷ 1 ∷ 1 ∷ 4 ∷ 0 ∷ k1 ∷ 2 ∷ 1 ∷ 1 ∷ 2 ∷ 0 ∷ 1 ∷ 1 ∷ 0 ∷ []; outcome = declined 7 16 }  -- g
+    ∷ record { filings = []; policy = noDefinitions; query = 6 ∷ 4 ∷ 0 ∷ k1 ∷ 1 ∷ 0 ∷ 4 ∷ 0 ∷ k1 ∷ 1 ∷ 0 ∷ []; outcome = refused 6 16 }  -- f
+    ∷ record { filings = []; policy = noDefinitions; query = 7 ∷ 1 ∷ 1 ∷ 4 ∷ 0 ∷ k1 ∷ 2 ∷ 1 ∷ 1 ∷ 2 ∷ 0 ∷ 1 ∷ 1 ∷ 0 ∷ []; outcome = refused 7 16 }  -- g
     ∷ record { filings = []; policy = noDefinitions; query = 6 ∷ 2 ∷ 1 ∷ 1 ∷ 0 ∷ 7 ∷ 2 ∷ 2 ∷ 1 ∷ 0 ∷ 7 ∷ 1 ∷ 0 ∷ 8 ∷ []; outcome = answered exact 0 (only ((8 ∷ []) ∷ [])) }  -- h
     ∷ record { filings = []; policy = noDefinitions; query = 5 ∷ 2 ∷ 2 ∷ 1 ∷ 0 ∷ 7 ∷ 1 ∷ 0 ∷ 8 ∷ 1 ∷ 1 ∷ 1 ∷ 0 ∷ 8 ∷ []; outcome = answered exact 0 (allBut ((7 ∷ []) ∷ [])) }  -- i
     ∷ record { filings = []; policy = noDefinitions; query = 1 ∷ 0 ∷ []; outcome = answered exact 0 (only []) }  -- j
@@ -52,5 +52,5 @@ cases =
     ∷ record { filings = []; policy = noDefinitions; query = 7 ∷ 2 ∷ 1 ∷ 1 ∷ 1 ∷ 1 ∷ 0 ∷ 5 ∷ 1 ∷ 2 ∷ 0 ∷ 1 ∷ 4 ∷ 1 ∷ 0 ∷ 1 ∷ 0 ∷ 1 ∷ 2 ∷ 1 ∷ 1 ∷ 1 ∷ 1 ∷ []; outcome = answered lower 1 (only []) }  -- l
     ∷ []
 
-abbrev pub Table : Type 0
-Table = All Holds cases
+abbrev pub AllHold : Type 0
+AllHold = All Holds cases

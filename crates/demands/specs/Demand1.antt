@@ -6,13 +6,14 @@ use mathlib.Core.Path.{_≡_}
 use mathlib.Core.Logic.{_↔_}
 use mathlib.Core.Bool.{true, false}
 use mathlib.Core.List.{List}
-use Rattle.refusals.specs.Table.{badStore, badCertificate, storeFull}
+use Rattle.refusals.specs.RefusalTable.{badStore, badCertificate, storeFull}
 use Rattle.rows.specs.Ordered.{_∈_}
 use Rattle.certificates.specs.Certificate.{soundRecord}
 use Rattle.certificates.specs.Store.{capacity, countOf, records, soundStore, certificates}
 use Rattle.certificates.specs.Filing.{FilingReply, filed, held, refused, fileReply, storeAfter}
 use Rattle.meaning.specs.Evidence.{namesHeld}
-use Rattle.demands.specs.Query.{declined, Call, queryCall, answerArea}
+use Rattle.demands.specs.Query.{Call, queryCall, answerArea}
+use Rattle.demands.specs.Query as Query
 use Rattle.demands.specs.Refusal.{Refusal}
 
 -- which reply applies to words filed: "Filing: 8, 9, Held, 10"
@@ -28,5 +29,5 @@ pub record Theorem : Type 0 where
   pub filing : (store w : List ℕ) (r : FilingReply) → (fileReply store w ≡ r) ↔ Filing store w r
   pub storeStays : (store w : List ℕ) (n : ℕ) → fileReply store w ≡ refused n → storeAfter store w ≡ store
   -- each refusal of a query is met exactly where it applies, and a refused query leaves the answer area unchanged
-  pub query : (store : List ℕ) (c : Call) (n part : ℕ) → (queryCall store c ≡ declined n part) ↔ Refusal (soundStore store) (namesHeld (certificates store)) c n part
-  pub answerStays : (store : List ℕ) (c : Call) (n part : ℕ) → queryCall store c ≡ declined n part → answerArea (queryCall store c) (c .answer) ≡ c .answer
+  pub query : (store : List ℕ) (c : Call) (n part : ℕ) → (queryCall store c ≡ Query.refused n part) ↔ Refusal (soundStore store) (namesHeld (certificates store)) c n part
+  pub answerStays : (store : List ℕ) (c : Call) (n part : ℕ) → queryCall store c ≡ Query.refused n part → answerArea (queryCall store c) (c .answer) ≡ c .answer

@@ -14,7 +14,8 @@ use Rattle.rows.specs.Layout.{setWords, soundSet, setIn}
 use Rattle.certificates.specs.Store.{certificates}
 use Rattle.policy.specs.Syntax.{Expr}
 use Rattle.policy.specs.Polarity.{Verdict}
-use Rattle.policy.specs.Judgement.{checked, unchecked, check, verdict, judge}
+use Rattle.policy.specs.Checking.{checked, refused, check}
+use Rattle.policy.specs.Judgement.{verdict, judge}
 use Rattle.meaning.specs.Evidence.{Evidence, namesHeld}
 use Rattle.meaning.specs.World.{World, Minimal}
 use Rattle.meaning.specs.Belonging.{BelongsTo}
@@ -28,7 +29,7 @@ pub record CallWords (c : Call) : Type 0 where
 -- the row belongs to the query under the policy, in this world
 unfoldable pub InQuery : Call → World → Row → Type 0
 unfolding check BelongsTo
-InQuery c W r = elim (check (c .policy) (c .query)) [ checked es q v ↦ BelongsTo W es q r | unchecked n part ↦ ⊥ ]
+InQuery c W r = elim (check (c .policy) (c .query)) [ checked es q v ↦ BelongsTo W es q r | refused n part ↦ ⊥ ]
 
 -- the answer's layout: its words are a sound set, that of the answer, and past them the area is as it was
 pub record LaidOut (area now : List ℕ) (S : RowSet) : Type 0 where

@@ -23,7 +23,7 @@ use Rattle.certificates.specs.Filing.{replyGiven, fileReply, storeAt, accepted}
 use Rattle.policy.specs.Polarity.{Verdict, exact, lower, upper}
 use Rattle.meaning.specs.Evidence.{namesHeld}
 use Rattle.meaning.specs.World.{World, AllTrue}
-use Rattle.demands.specs.Query.{answered, declined, Call, queryCall}
+use Rattle.demands.specs.Query.{answered, refused, Call, queryCall}
 use Rattle.demands.specs.Refusal.{Refusal}
 use Rattle.demands.specs.Demand2.{CallWords, InQuery, Answer}
 
@@ -49,7 +49,7 @@ unfolding accepted certificateOf
 heldAfter passed = map certificateOf (accepted passed)
 
 -- what the store holds at a point
-pub record Holds (first now : List ℕ) (passed : List (List ℕ)) : Type 0 where
+pub record StoreHolds (first now : List ℕ) (passed : List (List ℕ)) : Type 0 where
   pub sound : soundStore now ≡ true
   pub just : (w : List ℕ) → (w ∈ records now) ↔ (w ∈ accepted passed)
   pub count : countOf now ≡ length (accepted passed)
@@ -74,10 +74,10 @@ pub record Demand3 (store : List ℕ) (filings : List (List ℕ)) : Type 1 where
   pub replies : (p : Point filings) (w : List ℕ) (rest : List (List ℕ)) → p .ahead ≡ w ∷ rest →
       fileReply (storeAt store (p .passed)) w ≡ replyGiven (accepted (p .passed)) w
   -- the store is sound and holds just what was accepted
-  pub holds : (p : Point filings) → Holds store (storeAt store (p .passed)) (p .passed)
+  pub holds : (p : Point filings) → StoreHolds store (storeAt store (p .passed)) (p .passed)
   -- a call is refused with just the refusals that apply where the store is sound (8 never does) and says what was accepted
   pub refuses : (p : Point filings) (c : Call) (n part : ℕ) →
-      (queryCall (storeAt store (p .passed)) c ≡ declined n part) ↔ Refusal true (namesHeld (heldAfter (p .passed))) c n part
+      (queryCall (storeAt store (p .passed)) c ≡ refused n part) ↔ Refusal true (namesHeld (heldAfter (p .passed))) c n part
   -- and answered exactly when none does
   pub answers : (p : Point filings) (c : Call) →
       ((v : Verdict) × (k : ℕ) × (S : RowSet) × (queryCall (storeAt store (p .passed)) c ≡ answered v k S)) ↔

@@ -4,29 +4,31 @@ use mathlib.Core.Bool.{Bool, true, false, _&&_}
 use mathlib.Core.List.{List, [], _∷_, _++_}
 use lib.Dec.{leb}
 use lib.ListN.{length}
-use Rattle.refusals.specs.Table.{badStore, shortArea, queryPart, noPart}
+use Rattle.refusals.specs.RefusalTable.{badStore, shortArea, queryPart, noPart}
 use Rattle.rows.specs.Sets.{RowSet}
 use Rattle.rows.specs.Layout.{setRoom, written}
 use Rattle.certificates.specs.Store.{soundStore, certificates}
 use Rattle.policy.specs.Syntax.{Expr}
 use Rattle.policy.specs.Polarity.{Verdict}
-use Rattle.policy.specs.Judgement.{checked, unchecked, check}
+use Rattle.policy.specs.Checking.{checked, check}
+use Rattle.policy.specs.Checking as Checking
 use Rattle.meaning.specs.Evidence.{Evidence, namesHeld}
-use Rattle.meaning.specs.Reading.{done, refused, read}
+use Rattle.meaning.specs.Reading.{done, read}
+use Rattle.meaning.specs.Reading as Reads
 
 -- the verdict, the draws and the set; or the refusal's number and part
 pub data Outcome : Type 0 where
   answered : Verdict → ℕ → RowSet → Outcome
-  declined : ℕ → ℕ → Outcome
+  refused : ℕ → ℕ → Outcome
 
 -- "Definitions are read once, in file order, then the query"; "the count starts at 0 and runs through definitions and query".
 -- Still to read are these definitions and the query; read are these sets, with so many draws.
 unfoldable pub readFrom : Evidence → List Expr → Expr → Verdict → List RowSet → ℕ → Outcome
 unfolding read
-readFrom names [] q v sets k = elim (read names sets q [] k) [ done s k′ ↦ answered v k′ s | refused n ↦ declined n queryPart ]
+readFrom names [] q v sets k = elim (read names sets q [] k) [ done s k′ ↦ answered v k′ s | Reads.refused n ↦ refused n queryPart ]
 readFrom names (e ∷ es) q v sets k = elim (read names sets e [] k) [
   | done s k′ ↦ readFrom names es q v (sets ++ (s ∷ [])) k′
-  | refused n ↦ declined n (length sets)
+  | Reads.refused n ↦ refused n (length sets)
 ]
 
 -- 11: "answer area under 642 words, definition area under 10,272, scratch area under 16,384"
@@ -52,9 +54,9 @@ roomy c = leb setRoom (length (c .answer)) && (leb definitionRoom (length (c .de
 unfoldable pub outcomeFrom : Evidence → Call → Outcome
 unfolding check roomy readFrom
 outcomeFrom names c = elim (check (c .policy) (c .query)) [
-  | unchecked n part ↦ declined n part
+  | Checking.refused n part ↦ refused n part
   | checked es q v ↦ elim (roomy c) [
-    | false ↦ declined shortArea noPart
+    | false ↦ refused shortArea noPart
     | true ↦ readFrom names es q v [] 0
   ]
 ]
@@ -63,12 +65,12 @@ outcomeFrom names c = elim (check (c .policy) (c .query)) [
 unfoldable pub queryCall : List ℕ → Call → Outcome
 unfolding check soundStore outcomeFrom namesHeld certificates
 queryCall store c = elim (check (c .policy) (c .query)) [
-  | unchecked n part ↦ declined n part
-  | checked es q v ↦ elim (soundStore store) [ false ↦ declined badStore noPart | true ↦ outcomeFrom (namesHeld (certificates store)) c ]
+  | Checking.refused n part ↦ refused n part
+  | checked es q v ↦ elim (soundStore store) [ false ↦ refused badStore noPart | true ↦ outcomeFrom (namesHeld (certificates store)) c ]
 ]
 
 -- "An answer fills 2 + 5 × count words; the rest of its area stays"; a refused query leaves the area as it was
 unfoldable pub answerArea : Outcome → List ℕ → List ℕ
 unfolding written
 answerArea (answered v k s) area = written s area
-answerArea (declined n part) area = area
+answerArea (refused n part) area = area

@@ -3,12 +3,14 @@ use Prim.Native.Nat.{ℕ}
 use mathlib.Core.Path.{_≡_}
 use mathlib.Core.Bool.{Bool, true, false}
 use mathlib.Core.List.{List, []}
-use Rattle.refusals.specs.Table.{badStore, shortArea, noPart}
+use Rattle.refusals.specs.RefusalTable.{badStore, shortArea, noPart}
 use Rattle.policy.specs.Syntax.{Expr}
 use Rattle.policy.specs.Polarity.{Verdict}
-use Rattle.policy.specs.Judgement.{checked, check, refused, judge}
+use Rattle.policy.specs.Checking.{checked, check}
+use Rattle.policy.specs.Judgement.{refused, judge}
 use Rattle.meaning.specs.Evidence.{Evidence}
-use Rattle.demands.specs.Query.{declined, readFrom, roomy, Call}
+use Rattle.demands.specs.Query.{readFrom, roomy, Call}
+use Rattle.demands.specs.Query as Query
 
 -- the store being sound or not, and its names these, the refusal of this number and part applies to the call
 pub data Refusal (sound : Bool) (names : Evidence) (c : Call) : ℕ → ℕ → Type 0 where
@@ -21,4 +23,4 @@ pub data Refusal (sound : Bool) (names : Evidence) (c : Call) : ℕ → ℕ → 
       Refusal sound names c shortArea noPart
   -- 12, 13 and 14, the first that is met while reading
   reading : {es : List Expr} {q : Expr} {v : Verdict} {n part : ℕ} → check (c .policy) (c .query) ≡ checked es q v → sound ≡ true → roomy c ≡ true →
-      readFrom names es q v [] 0 ≡ declined n part → Refusal sound names c n part
+      readFrom names es q v [] 0 ≡ Query.refused n part → Refusal sound names c n part

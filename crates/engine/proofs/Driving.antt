@@ -4,30 +4,31 @@ use mathlib.Core.Path.{_≡_, refl, sym, _∙_, ap, subst}
 use mathlib.Core.List.{List, [], _∷_, _++_}
 use native.Mathlib.Omega.{arith}
 use lib.ListN.{length, getD}
-use Rattle.refusals.specs.Table.{queryPart}
+use Rattle.refusals.specs.RefusalTable.{queryPart}
 use Rattle.rows.specs.Sets.{RowSet}
 use Rattle.rows.specs.Layout.{setIn, setWords, put, written}
 use Rattle.rows.proofs.Lists.{length-snoc}
 use Rattle.policy.specs.Syntax.{Expr}
-use Rattle.policy.specs.Decode.{parse, parsed}
+use Rattle.policy.specs.Parse.{parse, parsed}
 use Rattle.policy.specs.Polarity.{Known, Verdict}
 use Rattle.policy.specs.Table.{Entry, entryAt, entryWords, table}
-use Rattle.policy.specs.Judgement.{checked, check, knownOf}
+use Rattle.policy.specs.Checking.{checked, check, knownOf}
 use Rattle.policy.proofs.Judging.{AcceptedDefinition, Accepted, none, one, AcceptedPair, check-accepted}
 use Rattle.policy_table.specs.Entries.{entryPlace, entriesFrom}
 use Rattle.policy_table.proofs.PartAnswers.{table-sound, inside, Listed, listed-of, length-entries}
 use Rattle.meaning.specs.Reading.{done, refused}
-use Rattle.read_values.specs.Answers.{Filled, setAnswer, IfDone}
+use Rattle.read_values.specs.Answers.{Filled, setReadIs, IfDone}
 use Rattle.read_values.specs.From.{From, setsIn, names, sets, SoundFrom}
 use Rattle.read_values.specs.declared.Read.{Read}
 use Rattle.read_values.specs.declared.Read.the-variants as read
 use Rattle.read_expressions.specs.Readers.{reading, AskWhole, SayWhole}
-use Rattle.demands.specs.Query.{Outcome, answered, declined, readFrom, answerArea}
-use Rattle.engine.specs.Reply.{replyTo}
+use Rattle.demands.specs.Query.{Outcome, answered, readFrom, answerArea}
+use Rattle.demands.specs.Query as Query
+use Rattle.engine.specs.Reply.{replyFor}
 use Rattle.engine.specs.declared.answering.Progress.{Progress}
-use Rattle.engine.specs.declared.answering.Progress.the-variants.{Done, Stopped}
+use Rattle.engine.specs.declared.answering.Progress.the-variants.{Done, Refused}
 use Rattle.engine.specs.declared.Reply.the-variants.{Answered, Refused}
-use Rattle.engine.specs.Steps.{Ready, ReadyPolicy, goesOn, SoundIf, ReadDefinitions, ReadAll}
+use Rattle.engine.specs.Steps.{Ready, ReadyPolicy, leftToRead, SoundIf, ReadDefinitions, ReadAll}
 use Rattle.engine.proofs.Placing.{sets-length, sound-more, sets-more}
 
 -- ---- what is left to read when d of n definitions are read
@@ -120,7 +121,7 @@ module _ (f : From) (e : Expr) (others : List Expr) (q : Expr) (v : Verdict) (k 
   unfolding readFrom
   read-done h = rw (h, readFrom)
 
-  read-refused : {n : ℕ} → reading f e [] k ≡ refused n → readFrom (names f) (e ∷ others) q v (sets f) k ≡ declined n (length (sets f))
+  read-refused : {n : ℕ} → reading f e [] k ≡ refused n → readFrom (names f) (e ∷ others) q v (sets f) k ≡ Query.refused n (length (sets f))
   unfolding readFrom
   read-refused h = rw (h, readFrom)
 
@@ -129,7 +130,7 @@ module _ (f : From) (q : Expr) (v : Verdict) (k : ℕ) where
   unfolding readFrom
   query-done h = rw (h, readFrom)
 
-  query-declined : {n : ℕ} → reading f q [] k ≡ refused n → readFrom (names f) [] q v (sets f) k ≡ declined n queryPart
+  query-declined : {n : ℕ} → reading f q [] k ≡ refused n → readFrom (names f) [] q v (sets f) k ≡ Query.refused n queryPart
   unfolding readFrom
   query-declined h = rw (h, readFrom)
 
@@ -192,7 +193,7 @@ module _ {policy : List ℕ} {count : ℕ} {f : From} {draws : ℕ} (before : Re
     module _ {r : Read} {scratch : List ℕ} (said : SayWhole f words draws r scratch) where
       -- the next definition's reading comes to what the code answered
       next-means : (query : List ℕ) (es : List Expr) (q : Expr) (v : Verdict) → check policy query ≡ checked es q v →
-          (e : Expr) × (others : List Expr) × (readFrom (names f) es q v [] 0 ≡ readFrom (names f) (e ∷ others) q v (sets f) draws) × (reading f e [] draws ≡ setAnswer r scratch) × Left policy count (f .known + 1) others
+          (e : Expr) × (others : List Expr) × (readFrom (names f) es q v [] 0 ≡ readFrom (names f) (e ∷ others) q v (sets f) draws) × (reading f e [] draws ≡ setReadIs r scratch) × Left policy count (f .known + 1) others
       next-means query es q v h =
           let b = before .means query es q v h in
           let n = next more (b .left) in
@@ -200,7 +201,7 @@ module _ {policy : List ℕ} {count : ℕ} {f : From} {draws : ℕ} (before : Re
 
       pub next-read : {total : ℕ} {definitions : List ℕ} → r ≡ read.Done total → 642 * f .known + 642 ≤ length (f .defs) → definitions ≡ put (642 * f .known) (setWords (setIn scratch)) (f .defs) →
           ReadSoFar policy count (record { store = f .store; defs = definitions; known = f .known + 1 }) total
-      unfolding setAnswer
+      unfolding setReadIs
       next-read {total} is-done room e = subst (λ (z : List ℕ). ReadSoFar policy count (record { store = f .store; defs = z; known = f .known + 1 }) total) (sym e) (record {
         few = omega arith;
         sound = sound-more (before .sound) (done-filled said is-done) room;
@@ -209,22 +210,22 @@ module _ {policy : List ℕ} {count : ℕ} {f : From} {draws : ℕ} (before : Re
             record {
               rest = n .1;
               left = n .4;
-              goes = n .2 ∙ read-done f (n .0) (n .1) q v draws (n .3 ∙ ap (λ (x : Read). setAnswer x scratch) is-done)
+              goes = n .2 ∙ read-done f (n .0) (n .1) q v draws (n .3 ∙ ap (λ (x : Read). setReadIs x scratch) is-done)
                   ∙ ap (λ (ss : List RowSet). readFrom (names f) (n .1) q v ss total) (sym (sets-more (before .sound) (done-filled said is-done) room));
             };
       })
 
-      pub next-refused : {number : ℕ} → r ≡ read.Refused number → ReadDefinitions (record { store = f .store; defs = f .defs; known = count }) policy (Stopped number (f .known))
-      unfolding SoundIf goesOn setAnswer
+      pub next-refused : {number : ℕ} → r ≡ read.Refused number → ReadDefinitions (record { store = f .store; defs = f .defs; known = count }) policy (Refused number (f .known))
+      unfolding SoundIf leftToRead setReadIs
       next-refused {number} is-refused = record {
         sound = tt;
         means = λ query es q v h.
             let n = next-means query es q v h in
-            n .2 ∙ read-refused f (n .0) (n .1) q v draws (n .3 ∙ ap (λ (x : Read). setAnswer x scratch) is-refused) ∙ ap (declined number) (sets-length (f .known) (f .defs));
+            n .2 ∙ read-refused f (n .0) (n .1) q v draws (n .3 ∙ ap (λ (x : Read). setReadIs x scratch) is-refused) ∙ ap (Query.refused number) (sets-length (f .known) (f .defs));
       }
 
   pub all-read : count ≤ f .known → ReadDefinitions (record { store = f .store; defs = f .defs; known = count }) policy (Done draws)
-  unfolding SoundIf goesOn
+  unfolding SoundIf leftToRead
   all-read h =
       let few = before .few in
       let e : f .known ≡ count = omega arith in
@@ -238,12 +239,12 @@ module _ {policy : List ℕ} {count : ℕ} {f : From} {draws : ℕ} (before : Re
 -- ---- the query, after the definitions
 
 module _ {f : From} {policy : List ℕ} {progress : Progress} (said : ReadDefinitions f policy progress) where
-  pub definition-refused : {query : List ℕ} {number part verdict : ℕ} {area : List ℕ} → progress ≡ Stopped number part → ReadAll (f .store) policy query verdict area (Refused number part) area
-  unfolding goesOn replyTo answerArea
+  pub definition-refused : {query : List ℕ} {number part verdict : ℕ} {area : List ℕ} → progress ≡ Refused number part → ReadAll (f .store) policy query verdict area (Refused number part) area
+  unfolding leftToRead replyFor answerArea
   definition-refused {query} {number} {part} {area = area} e = record {
     means = λ es q v h w.
-        let o : readFrom (names f) es q v [] 0 ≡ declined number part = said .means query es q v h ∙ ap (goesOn f q v) e in
-        (ap replyTo (sym o), ap (λ (x : Outcome). answerArea x area) (sym o));
+        let o : readFrom (names f) es q v [] 0 ≡ Query.refused number part = said .means query es q v h ∙ ap (leftToRead f q v) e in
+        (ap replyFor (sym o), ap (λ (x : Outcome). answerArea x area) (sym o));
   }
 
   module _ {before : ℕ} (is-done : progress ≡ Done before) (counted : getD policy 1 0 ≡ f .known) where
@@ -260,24 +261,24 @@ module _ {f : From} {policy : List ℕ} {progress : Progress} (said : ReadDefini
 
     module _ {query : List ℕ} {r : Read} {scratch : List ℕ} (answer : SayWhole f query before r scratch) where
       goes : (es : List Expr) (q : Expr) (v : Verdict) → check policy query ≡ checked es q v → readFrom (names f) es q v [] 0 ≡ readFrom (names f) [] q v (sets f) before
-      unfolding goesOn
-      goes es q v h = said .means query es q v h ∙ ap (goesOn f q v) is-done
+      unfolding leftToRead
+      goes es q v h = said .means query es q v h ∙ ap (leftToRead f q v) is-done
 
-      reads : {es : List Expr} {q : Expr} {v : Verdict} → check policy query ≡ checked es q v → reading f q [] before ≡ setAnswer r scratch
+      reads : {es : List Expr} {q : Expr} {v : Verdict} → check policy query ≡ checked es q v → reading f q [] before ≡ setReadIs r scratch
       reads {q = q} h = answer .means q (query-parses policy query counted h)
 
       pub query-refused : {number verdict : ℕ} {area : List ℕ} → r ≡ read.Refused number → ReadAll (f .store) policy query verdict area (Refused number queryPart) area
-      unfolding setAnswer replyTo answerArea
+      unfolding setReadIs replyFor answerArea
       query-refused {number} {area = area} e = record {
         means = λ es q v h w.
-            let o : readFrom (names f) es q v [] 0 ≡ declined number queryPart = goes es q v h ∙ query-declined f q v before (reads h ∙ ap (λ (x : Read). setAnswer x scratch) e) in
-            (ap replyTo (sym o), ap (λ (x : Outcome). answerArea x area) (sym o));
+            let o : readFrom (names f) es q v [] 0 ≡ Query.refused number queryPart = goes es q v h ∙ query-declined f q v before (reads h ∙ ap (λ (x : Read). setReadIs x scratch) e) in
+            (ap replyFor (sym o), ap (λ (x : Outcome). answerArea x area) (sym o));
       }
 
       pub query-answered : {draws verdict : ℕ} {area now : List ℕ} → r ≡ read.Done draws → now ≡ written (setIn scratch) area → ReadAll (f .store) policy query verdict area (Answered verdict draws) now
-      unfolding setAnswer replyTo answerArea
+      unfolding setReadIs replyFor answerArea
       query-answered {draws} {area = area} e is = record {
         means = λ es q v h w.
-            let o : readFrom (names f) es q v [] 0 ≡ answered v draws (setIn scratch) = goes es q v h ∙ query-done f q v before (reads h ∙ ap (λ (x : Read). setAnswer x scratch) e) in
-            (ap (λ (x : ℕ). Answered x draws) (sym w) ∙ ap replyTo (sym o), is ∙ ap (λ (x : Outcome). answerArea x area) (sym o));
+            let o : readFrom (names f) es q v [] 0 ≡ answered v draws (setIn scratch) = goes es q v h ∙ query-done f q v before (reads h ∙ ap (λ (x : Read). setReadIs x scratch) e) in
+            (ap (λ (x : ℕ). Answered x draws) (sym w) ∙ ap replyFor (sym o), is ∙ ap (λ (x : Outcome). answerArea x area) (sym o));
       }

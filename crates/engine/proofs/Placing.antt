@@ -16,7 +16,7 @@ use Rattle.sets.proofs.Front.{SameFront, set-same}
 use Rattle.sets.proofs.Standing.{Stands, set-fits, copied-stands}
 use Rattle.read_values.specs.Answers.{Filled}
 use Rattle.read_values.specs.From.{From, setsIn, sets, SoundFrom}
-use Rattle.read_values.proofs.Answers.{lies}
+use Rattle.read_values.proofs.Answers.{stands-filled}
 use Rattle.read_steps.proofs.Areas.{filled-same}
 
 drop-split : (l k : ℕ) (ys : List ℕ) → l ≤ k → k ≤ length ys → drop l (take k ys) ++ drop k ys ≡ drop l ys
@@ -95,7 +95,7 @@ module _ {f : From} (sound : SoundFrom f) {set : List ℕ} (filled : Filled set)
   sound-more = record { store = sound .store; defs = λ d h. lies-at d (eq-or-lt-of-le (omega arith)) }
     where
       lies-at : (d : ℕ) → (d ≡ f .known) ⊎ (d < f .known) → Filled (drop (setRoom * d) (withSet f set .defs))
-      lies-at d (inl e) = subst (λ (j : ℕ). Filled (drop (642 * j) (withSet f set .defs))) (sym e) (lies stands)
+      lies-at d (inl e) = subst (λ (j : ℕ). Filled (drop (642 * j) (withSet f set .defs))) (sym e) (stands-filled stands)
       lies-at d (inr h) = filled-same (same d h) (sound .defs d h)
 
   pub sets-more : sets (withSet f set) ≡ sets f ++ (setIn set ∷ [])

@@ -7,19 +7,20 @@ use native.Mathlib.Omega.{arith}
 use lib.Dec.{leb}
 use lib.ListN.{length}
 use borrow.Author.Tests.{leb-true}
-use Rattle.refusals.specs.Table.{badStore, shortArea, noPart}
+use Rattle.refusals.specs.RefusalTable.{badStore, shortArea, noPart}
 use Rattle.rows.specs.Layout.{setRoom}
 use Rattle.rows.proofs.Case.{and-true}
 use Rattle.certificates.specs.Store.{soundStore}
 use Rattle.policy.specs.Polarity.{Verdict, verdictWord}
 use Rattle.policy.specs.Judgement.{JudgementReply, verdict, refused, judge}
-use Rattle.judging.specs.Reply.{judgementOf}
+use Rattle.judging.specs.Reply.{judgementFor}
 use Rattle.judging.specs.declared.Judgement.the-variants as judgement
 use Rattle.policy.proofs.Judging.{judge-checked}
 use Rattle.meaning.specs.Evidence.{heldIn}
-use Rattle.demands.specs.Query.{Outcome, declined, readFrom, definitionRoom, scratchRoom, roomy, Call, outcomeFrom, queryCall, answerArea}
+use Rattle.demands.specs.Query.{Outcome, readFrom, definitionRoom, scratchRoom, roomy, Call, outcomeFrom, queryCall, answerArea}
+use Rattle.demands.specs.Query as Query
 use Rattle.demands.specs.Refusal.{judged, unsound, short}
-use Rattle.engine.specs.Reply.{replyTo}
+use Rattle.engine.specs.Reply.{replyFor}
 use Rattle.engine.specs.Steps.{Ready, ReadAll}
 use Rattle.engine.specs.declared.Reply.{Reply}
 use Rattle.engine.specs.declared.Reply.the-variants.{Refused}
@@ -27,9 +28,9 @@ use Rattle.engine.specs.Reply.{Replied}
 use Rattle.demands.proofs.Outcome.{call-declined, call-reads}
 
 -- a call that was declined
-declines : (store : List ℕ) (c : Call) (n part : ℕ) → queryCall store c ≡ declined n part → Replied store c (Refused n part) (c .answer)
-unfolding replyTo answerArea
-declines store c n part e = record { reply = ap replyTo (sym e); area = ap (λ (o : Outcome). answerArea o (c .answer)) (sym e) }
+declines : (store : List ℕ) (c : Call) (n part : ℕ) → queryCall store c ≡ Query.refused n part → Replied store c (Refused n part) (c .answer)
+unfolding replyFor answerArea
+declines store c n part e = record { reply = ap replyFor (sym e); area = ap (λ (o : Outcome). answerArea o (c .answer)) (sym e) }
 
 pub refuses-judged : (store : List ℕ) (c : Call) (n part : ℕ) → judge (c .policy) (c .query) ≡ refused n part → Replied store c (Refused n part) (c .answer)
 refuses-judged store c n part e = declines store c n part (call-declined store c n part .1 (judged e))
@@ -64,15 +65,15 @@ module _ (store : List ℕ) (c : Call) (v : Verdict) (passes : judge (c .policy)
           let t = judge-checked (c .policy) (c .query) v .0 passes in
           let o : queryCall store c ≡ readFrom (heldIn store) (t .0) (t .1) v [] 0 = call-reads store (heldIn store) sound refl c ∙ rw (t .2, room, outcomeFrom) in
           let s = said .means (t .0) (t .1) v (t .2) w in
-          record { reply = s .0 ∙ ap replyTo (sym o); area = s .1 ∙ ap (λ (x : Outcome). answerArea x (c .answer)) (sym o) }
+          record { reply = s .0 ∙ ap replyFor (sym o); area = s .1 ∙ ap (λ (x : Outcome). answerArea x (c .answer)) (sym o) }
 
 -- what a judgement in hand says
-pub verdict-in : (j : JudgementReply) (word : ℕ) → judgement.Verdict word ≡ judgementOf j → (v : Verdict) × (j ≡ verdict v) × (verdictWord v ≡ word)
-unfolding judgementOf
+pub verdict-in : (j : JudgementReply) (word : ℕ) → judgement.Verdict word ≡ judgementFor j → (v : Verdict) × (j ≡ verdict v) × (verdictWord v ≡ word)
+unfolding judgementFor
 verdict-in (verdict v) word e = (v, refl, cc)
 verdict-in (refused n part) word e = let z : _≡_ {A = ℕ} 0 1 = cc in absurd (omega arith)
 
-pub refusal-in : (j : JudgementReply) (n part : ℕ) → judgement.Refused n part ≡ judgementOf j → j ≡ refused n part
-unfolding judgementOf
+pub refusal-in : (j : JudgementReply) (n part : ℕ) → judgement.Refused n part ≡ judgementFor j → j ≡ refused n part
+unfolding judgementFor
 refusal-in (verdict v) n part e = let z : _≡_ {A = ℕ} 0 1 = cc in absurd (omega arith)
 refusal-in (refused m p) n part e = cc

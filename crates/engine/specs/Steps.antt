@@ -7,14 +7,14 @@ use lib.ListN.{length, getD}
 use Rattle.certificates.specs.Store.{soundStore}
 use Rattle.policy.specs.Syntax.{Expr}
 use Rattle.policy.specs.Polarity.{Verdict, verdictWord}
-use Rattle.policy.specs.Judgement.{checked, check}
+use Rattle.policy.specs.Checking.{checked, check}
 use Rattle.meaning.specs.Evidence.{heldIn}
 use Rattle.read_values.specs.From.{From, names, sets, SoundFrom}
-use Rattle.demands.specs.Query.{Outcome, declined, readFrom, definitionRoom, scratchRoom, answerArea}
-use Rattle.engine.specs.Reply.{replyTo}
+use Rattle.demands.specs.Query.{Outcome, refused, readFrom, definitionRoom, scratchRoom, answerArea}
+use Rattle.engine.specs.Reply.{replyFor}
 use Rattle.engine.specs.declared.Reply.{Reply}
 use Rattle.engine.specs.declared.answering.Progress.{Progress}
-use Rattle.engine.specs.declared.answering.Progress.the-variants.{Done, Stopped}
+use Rattle.engine.specs.declared.answering.Progress.the-variants.{Done, Refused}
 
 -- a policy and a query that passed, a sound store, and areas that are long enough
 pub record Ready (store policy query definitions scratch : List ℕ) : Type 0 where
@@ -33,20 +33,20 @@ pub record ReadyPolicy (store policy : List ℕ) (count : ℕ) (definitions scra
   pub counted : getD policy 1 0 ≡ count
 
 -- what is left of the reading when the definitions are read, or a refusal was met
-unfoldable pub goesOn : From → Expr → Verdict → Progress → Outcome
+unfoldable pub leftToRead : From → Expr → Verdict → Progress → Outcome
 unfolding readFrom
-goesOn f q v (Done draws) = readFrom (names f) [] q v (sets f) draws
-goesOn f q v (Stopped number part) = declined number part
+leftToRead f q v (Done draws) = readFrom (names f) [] q v (sets f) draws
+leftToRead f q v (Refused number part) = refused number part
 
 unfoldable pub SoundIf : From → Progress → Type 0
 SoundIf f (Done draws) = SoundFrom f
-SoundIf f (Stopped number part) = Unit {0}
+SoundIf f (Refused number part) = Unit {0}
 
 -- all definitions are read, or a refusal was met in one of them, whichever query they are read for
 pub record ReadDefinitions (f : From) (policy : List ℕ) (r : Progress) : Type 0 where
   pub sound : SoundIf f r
-  pub means : (query : List ℕ) (es : List Expr) (q : Expr) (v : Verdict) → check policy query ≡ checked es q v → readFrom (names f) es q v [] 0 ≡ goesOn f q v r
+  pub means : (query : List ℕ) (es : List Expr) (q : Expr) (v : Verdict) → check policy query ≡ checked es q v → readFrom (names f) es q v [] 0 ≡ leftToRead f q v r
 
 pub record ReadAll (store policy query : List ℕ) (verdict : ℕ) (area : List ℕ) (r : Reply) (now : List ℕ) : Type 0 where
   pub means : (es : List Expr) (q : Expr) (v : Verdict) → check policy query ≡ checked es q v → verdictWord v ≡ verdict →
-      (r ≡ replyTo (readFrom (heldIn store) es q v [] 0)) × (now ≡ answerArea (readFrom (heldIn store) es q v [] 0) area)
+      (r ≡ replyFor (readFrom (heldIn store) es q v [] 0)) × (now ≡ answerArea (readFrom (heldIn store) es q v [] 0) area)

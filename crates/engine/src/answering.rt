@@ -17,7 +17,7 @@ use sets::copy;
 // The definitions are read, with so many draws; or a refusal was met in one of them.
 enum Progress {
     Done(u32),
-    Stopped { number: u32, part: u32 },
+    Refused { number: u32, part: u32 },
 }
 
 // "Definition d's set is built in the 642 words from 642 × d of the definition area."
@@ -49,7 +49,7 @@ fn read_definitions(
         match read_whole(words, draws, scratch, given, store, definitions) {
             Read::Refused(number) => {
                 let part = d as u32;
-                return Progress::Stopped { number, part };
+                return Progress::Refused { number, part };
             }
             Read::Done(total) => {
                 draws = total;
@@ -76,7 +76,7 @@ pub fn read_all(
 {
     let count = policy[1] as usize;
     match read_definitions(policy, count, store, definitions, scratch) {
-        Progress::Stopped { number, part } => Reply::Refused { number, part },
+        Progress::Refused { number, part } => Reply::Refused { number, part },
         Progress::Done(before) => match read_whole(
             query,
             before,

@@ -4,7 +4,7 @@ use Rattle.policy.specs.Judgement.{JudgementReply, verdict, refused}
 use Rattle.judging.specs.declared.Judgement.{Judgement}
 use Rattle.judging.specs.declared.Judgement.the-variants as judgement
 
-unfoldable pub judgementOf : JudgementReply → Judgement
+unfoldable pub judgementFor : JudgementReply → Judgement
 unfolding verdictWord
-judgementOf (verdict v) = judgement.Verdict (verdictWord v)
-judgementOf (refused n part) = judgement.Refused n part
+judgementFor (verdict v) = judgement.Verdict (verdictWord v)
+judgementFor (refused n part) = judgement.Refused n part

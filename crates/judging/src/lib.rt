@@ -4,12 +4,13 @@ ghost use mathlib.Core.Path.{_≡_};
 ghost use lib.ListN.{length};
 ghost use Rattle.policy.specs.Polarity.{verdictWord};
 ghost use Rattle.policy.specs.Table.{entryAt, table, readTable};
-ghost use Rattle.policy.specs.Decode.{parse};
-ghost use Rattle.policy.specs.Judgement.{checkDefinition, checkQuery, verdictOf, judge};
+ghost use Rattle.policy.specs.Parse.{parse};
+ghost use Rattle.policy.specs.Checking.{checkDefinition, checkQuery, verdictOf};
+ghost use Rattle.policy.specs.Judgement.{judge};
 ghost use Rattle.policy_table.specs.Entries.{entryPlace, entriesFrom};
-ghost use Rattle.check_polarity.specs.Earlier.{knownIn};
-ghost use Rattle.judging.specs.Whole.{wholeOf, definitionParsed};
-ghost use Rattle.judging.specs.Reply.{judgementOf};
+ghost use Rattle.check_polarity.specs.Earlier.{earlierIs};
+ghost use Rattle.judging.specs.Whole.{wholeFor, definitionParsed};
+ghost use Rattle.judging.specs.Reply.{judgementFor};
 use check_expressions::check_expr;
 use check_leaves::Checking;
 use check_polarity::Earlier;
@@ -24,7 +25,7 @@ use policy_table::TableRead;
 use policy_table::definition_words;
 use policy_table::entry_place;
 use policy_table::read_table;
-use policy_table::wide;
+use row_words::wide;
 
 const MOST_LEVELS: u32 = 15;
 
@@ -38,7 +39,7 @@ pub enum Judgement {
 // A definition's or a query's words, and none left over.
 fn check_whole(words: &[u32], earlier: Earlier) -> Whole
     requires { ⌜ earlier .count ≤ 16 ⌝ }
-    ensures { λ r. ⌜ r ≡ wholeOf (knownIn earlier) (parse (length (knownIn earlier)) (now (words .entry))) ⌝ }
+    ensures { λ r. ⌜ r ≡ wholeFor (earlierIs earlier) (parse (length (earlierIs earlier)) (now (words .entry))) ⌝ }
 {
     match check_expr(words, 0, MOST_LEVELS, 0, 0, earlier) {
         Checking::Refused(n) => Whole::Refused(n),
@@ -55,7 +56,7 @@ fn check_whole(words: &[u32], earlier: Earlier) -> Whole
 // A definition's words, with the polarity that it declares.
 fn judge_definition(words: &[u32], polarity: u32, earlier: Earlier) -> Whole
     requires { ⌜ earlier .count ≤ 16 ⌝ }
-    ensures { λ r. ⌜ r ≡ wholeOf (knownIn earlier) (definitionParsed (knownIn earlier) polarity (now (words .entry))) ⌝ }
+    ensures { λ r. ⌜ r ≡ wholeFor (earlierIs earlier) (definitionParsed (earlierIs earlier) polarity (now (words .entry))) ⌝ }
 {
     match check_whole(words, earlier) {
         Whole::Refused(n) => Whole::Refused(n),
@@ -66,7 +67,7 @@ fn judge_definition(words: &[u32], polarity: u32, earlier: Earlier) -> Whole
 // A query's words: 1 to 1,024 of them.
 fn judge_query(words: &[u32], earlier: Earlier) -> Whole
     requires { ⌜ earlier .count ≤ 16 ⌝ }
-    ensures { λ r. ⌜ r ≡ wholeOf (knownIn earlier) (checkQuery (knownIn earlier) (now (words .entry))) ⌝ }
+    ensures { λ r. ⌜ r ≡ wholeFor (earlierIs earlier) (checkQuery (earlierIs earlier) (now (words .entry))) ⌝ }
 {
     if words.len() == 0 {
         return Whole::Refused(refusals::BAD_WORD);
@@ -94,7 +95,7 @@ fn verdict(facts: Facts) -> u32
 // Definition `i`, its words read as a part of the policy.
 fn judge_entry(policy: &[u32], i: usize, earlier: Earlier) -> Whole
     requires { ⌜ (earlier .count ≤ 16) × (i ≤ 15) × (entryPlace i + 4 ≤ length (now policy)) × (entryAt (now policy) (entryPlace i) .offset + entryAt (now policy) (entryPlace i) .size ≤ length (now policy)) ⌝ }
-    ensures { λ r. ⌜ r ≡ wholeOf (knownIn earlier) (checkDefinition (now (policy .entry)) (knownIn earlier) (entryAt (now (policy .entry)) (entryPlace i))) ⌝ }
+    ensures { λ r. ⌜ r ≡ wholeFor (earlierIs earlier) (checkDefinition (now (policy .entry)) (earlierIs earlier) (entryAt (now (policy .entry)) (entryPlace i))) ⌝ }
 {
     let at = entry_place(i);
     let polarity = policy[at + 1];
@@ -104,7 +105,7 @@ fn judge_entry(policy: &[u32], i: usize, earlier: Earlier) -> Whole
 // The definitions in file order, each through 3 to 7 before the next, then the query.
 fn judge_all(policy: &[u32], query: &[u32], count: u32) -> Judgement
     requires { ⌜ table (entriesFrom count (now policy) 2) ≡ readTable (now policy) ⌝ }
-    ensures { λ r. ⌜ r ≡ judgementOf (judge (now (policy .entry)) (now (query .entry))) ⌝ }
+    ensures { λ r. ⌜ r ≡ judgementFor (judge (now (policy .entry)) (now (query .entry))) ⌝ }
 {
     let mut earlier = none_earlier();
     let mut next: u32 = 0;
@@ -132,7 +133,7 @@ fn judge_all(policy: &[u32], query: &[u32], count: u32) -> Judgement
 
 // The verdict of a query under a policy, or the refusal: 1 and 2 for the table, then 3 to 7 for each definition and the query.
 pub fn judge(policy: &[u32], query: &[u32]) -> Judgement
-    ensures { λ r. ⌜ r ≡ judgementOf (judge (now (policy .entry)) (now (query .entry))) ⌝ }
+    ensures { λ r. ⌜ r ≡ judgementFor (judge (now (policy .entry)) (now (query .entry))) ⌝ }
 {
     match read_table(policy) {
         TableRead::Refused(number) => Judgement::Refused {

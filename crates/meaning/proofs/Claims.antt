@@ -7,7 +7,7 @@ use mathlib.Core.List.{List, []}
 use native.Mathlib.Omega.{arith}
 use lib.Dec.{T, leb}
 use lib.ListN.{length, getD}
-use Rattle.refusals.specs.Table.{complementDrawn}
+use Rattle.refusals.specs.RefusalTable.{complementDrawn}
 use Rattle.rows.specs.Ordered.{_∈_}
 use Rattle.rows.specs.Row.{Row, IsRow}
 use Rattle.rows.specs.Name.{Polarity, plus, minus, samePolarity}

@@ -8,7 +8,7 @@ use mathlib.Core.List.{List, [], _∷_}
 use native.Mathlib.Omega.{arith}
 use lib.Dec.{T, eqb, ltb, leb}
 use lib.ListN.{length}
-use Rattle.refusals.specs.Table.{complementDrawn}
+use Rattle.refusals.specs.RefusalTable.{complementDrawn}
 use Rattle.rows.specs.Ordered.{insert}
 use Rattle.rows.specs.Row.{Row, isKey, rowBefore}
 use Rattle.rows.specs.Name.{plus}
@@ -19,7 +19,7 @@ use Rattle.policy.specs.Syntax.{Slot, Expr, leaf, union, difference, comprehens
 use Rattle.policy.specs.Polarity.{Known, openExpr, drawsClosed, guardsClosed}
 use Rattle.meaning.specs.Values.{Values, value, rowOf}
 use Rattle.meaning.specs.Evidence.{Evidence, certified, namesHeld}
-use Rattle.meaning.specs.Reading.{Answer, done, refused, Reading, after, within, drawable, tick, match, onMatch, drawEach, read, gather}
+use Rattle.meaning.specs.Reading.{Result, done, refused, Reading, after, within, drawable, tick, match, onMatch, drawEach, read, gather}
 use Rattle.meaning.proofs.Steps.{done-value, refused-number, not-refused, after-done, after-refused, small-done}
 use Rattle.meaning.proofs.Claims.{IsFinite, FiniteNames, FiniteSets, Not12, give-not, refuse-not, either-not, small-not}
 use Rattle.meaning.proofs.Leaf.{leaf-finite, leaf-not-12}
@@ -64,7 +64,7 @@ tick-not : Not12 tick
 unfolding tick
 tick-not k e = go (ltb k 1000000) e
   where
-    go : (b : Bool) → _≡_ {A = Answer (Unit {0})} (elim b as (λ c. Answer (Unit {0})) [ true ↦ done tt (k + 1) | false ↦ refused 14 ]) (refused complementDrawn) → ⊥
+    go : (b : Bool) → _≡_ {A = Result (Unit {0})} (elim b as (λ c. Result (Unit {0})) [ true ↦ done tt (k + 1) | false ↦ refused 14 ]) (refused complementDrawn) → ⊥
     go true q = not-refused q
     go false q = let n : _≡_ {A = ℕ} 14 complementDrawn = refused-number q in omega arith
 

@@ -2,18 +2,18 @@
 use Prim.Native.Nat.{ℕ, zero, suc}
 use mathlib.Core.Path.{_≡_, refl}
 use mathlib.Core.List.{List, [], _∷_}
-use Rattle.refusals.specs.Table.{complementDrawn, tooManyRows}
+use Rattle.refusals.specs.RefusalTable.{complementDrawn, tooManyRows}
 use Rattle.rows.specs.Word.{All}
 use Rattle.rows.specs.Name.{plus, minus}
 use Rattle.rows.specs.Sets.{RowSet, only, allBut}
 use Rattle.policy.specs.Leaf.{finite, cofinite, listed}
 use Rattle.policy.specs.Syntax.{Term, atom, var, old, new, Expr, leaf, union, difference, comprehension, head, draw, same, absent}
 use Rattle.meaning.specs.Evidence.{namesHeld}
-use Rattle.meaning.specs.Reading.{Answer, done, refused, read}
+use Rattle.meaning.specs.Reading.{Result, done, refused, read}
 
 pub record Trial : Type 0 where
   pub expr : Expr
-  pub answer : Answer RowSet
+  pub answer : Result RowSet
 
 -- nothing is held
 unfoldable pub Holds : Trial → Type 0

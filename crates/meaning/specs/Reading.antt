@@ -5,7 +5,7 @@ use mathlib.Core.List.{List, [], _∷_, _++_}
 use mathlib.Core.Option.{Option, none, some}
 use lib.Dec.{leb, ltb, eqb}
 use lib.ListN.{length, getD}
-use Rattle.refusals.specs.Table.{complementDrawn, tooManyRows, tooManyDraws}
+use Rattle.refusals.specs.RefusalTable.{complementDrawn, tooManyRows, tooManyDraws}
 use Rattle.rows.specs.Ordered.{insert}
 use Rattle.rows.specs.Row.{Row, rowBefore}
 use Rattle.rows.specs.Sets.{RowSet, only, allBut, listing, mostRows, has, unite, subtract}
@@ -15,15 +15,15 @@ use Rattle.meaning.specs.Values.{Values, value, rowOf}
 use Rattle.meaning.specs.Evidence.{Evidence}
 
 infixl 1 _>>=_ _>>_
-pub data Answer (A : Type 0) : Type 0 where
-  done : A → ℕ → Answer A  -- the value, the draws made so far
-  refused : ℕ → Answer A
+pub data Result (A : Type 0) : Type 0 where
+  done : A → ℕ → Result A  -- the value, the draws made so far
+  refused : ℕ → Result A
 
 -- a reading goes from the draws made before it to an answer
 abbrev pub Reading : Type 0 → Type 0
-Reading A = ℕ → Answer A
+Reading A = ℕ → Result A
 
-unfoldable pub after : {A B : Type 0} → Answer A → (A → Reading B) → Answer B
+unfoldable pub after : {A B : Type 0} → Result A → (A → Reading B) → Result B
 after (done a k) f = f a k
 after (refused n) f = refused n
 

@@ -1,8 +1,8 @@
 -- The table holds, by computation.
 use mathlib.Core.Path.{refl}
-use Rattle.policy.specs.Decoded.{Decodes, again, unions, four, Table}
+use Rattle.policy.specs.Decoded.{Decodes, again, unions, four, AllHold}
 
-pub table : Table
+pub table : AllHold
 unfolding Decodes again unions four
 table = record {
   runOut = (refl, refl, refl, refl);

@@ -8,13 +8,14 @@ use native.Mathlib.Omega.{arith}
 use lib.Dec.{leb, ltb, leb→le, le→leb}
 use lib.ListN.{length}
 use borrow.Author.Tests.{ltb-true, lt-ltb}
-use Rattle.refusals.specs.Table.{badWord, tooDeep}
+use Rattle.refusals.specs.RefusalTable.{badWord, tooDeep}
 use Rattle.rows.proofs.Case.{iff-refl}
 use Rattle.policy.specs.Syntax.{Term, Expr, leaf, union, difference, comprehension, Body, head, draw, same, different, absent}
 use Rattle.policy.specs.Leaf.{leafCode, leafRest, leafOf, leafAs}
 use Rattle.policy.specs.Words.{termWords, fresh, guardCount, exprWords, bodyWords}
 use Rattle.policy.specs.WellFormed.{FitTerm, Fit, FitBody, depth, bodyDepth, drawCount, bodyDraws, WellFormed}
-use Rattle.policy.specs.Decode.{Read, got, refused, Reader, after, give, word, wordWhere, countDraw, term, slots, guardOf, guardAs, body, codeOf, isCode, exprAs, expr, parsed, noneLeft, parse}
+use Rattle.policy.specs.Parse.{parsed, noneLeft, parse}
+use Rattle.policy.specs.Decode.{Read, got, refused, Reader, after, give, word, wordWhere, countDraw, term, slots, guardOf, guardAs, body, codeOf, isCode, exprAs, expr}
 use Rattle.policy.proofs.Basics.{impossible}
 use Rattle.policy.proofs.Format.{Format, oneWord, Made, made, Taken, Takes, Returns, Reads, refuse-takes, then-takes, last-takes, then-returns, last-returns, word-takes, word-returns, returns-as}
 use Rattle.policy.proofs.Leaves.{where-reads, term-reads, width-reads, row-reads, slots-reads}

@@ -1,9 +1,9 @@
 -- The table holds, by computation.
 use mathlib.Core.Path.{refl}
 use Rattle.policy.specs.Decoded.{again, unions}
-use Rattle.policy.specs.Judged.{Judges, literal, Table}
+use Rattle.policy.specs.Judged.{Judges, literal, AllHold}
 
-pub table : Table
+pub table : AllHold
 unfolding Judges again unions literal
 table = record {
   portal = (refl, refl, refl, refl, refl, refl, refl, refl, refl, refl, refl);

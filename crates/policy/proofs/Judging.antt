@@ -10,12 +10,16 @@ use Rattle.rows.specs.Word.{IsWord, Words}
 use Rattle.rows.specs.Name.{plus, minus, polarityOf}
 use Rattle.rows.proofs.Case.{T-and}
 use Rattle.rows.proofs.Lists.{all-take, all-drop}
-use Rattle.refusals.specs.Table.{badWord, noPart, queryPart}
+use Rattle.refusals.specs.RefusalTable.{badWord, noPart, queryPart}
 use Rattle.policy.specs.Syntax.{Expr}
-use Rattle.policy.specs.Decode.{Parsed, parsed, unparsed, parse}
+use Rattle.policy.specs.Parse.{Parsed, parsed, parse}
+use Rattle.policy.specs.Parse as Parse
 use Rattle.policy.specs.Polarity.{Known, hasPolarity, drawsClosed, Verdict, exact, lower, upper}
-use Rattle.policy.specs.Table.{Entry, entryWords, Table, table, noTable, readTable}
-use Rattle.policy.specs.Judgement.{Checked, checked, unchecked, polarized, checkDefinition, checkQuery, verdictOf, knownOf, withDefinition, checkFrom, check, verdict, refused, replyOf, judge}
+use Rattle.policy.specs.Table.{Entry, entryWords, Table, table, readTable}
+use Rattle.policy.specs.Table as Tables
+use Rattle.policy.specs.Checking.{Checked, checked, polarized, checkDefinition, checkQuery, verdictOf, knownOf, withDefinition, checkFrom, check}
+use Rattle.policy.specs.Checking as Checking
+use Rattle.policy.specs.Judgement.{verdict, refused, replyOf, judge}
 use Rattle.policy.proofs.Basics.{impossible}
 
 -- a definition that passed: the words of entry x are those of e, which has the declared polarity and draws from nothing open
@@ -57,11 +61,11 @@ polarized-parsed false closed d e h = impossible cc
 
 -- 3 to 7 passed
 passed : (fine closed : Expr → Bool) (p : Parsed) (e : Expr) →
-    (elim p as (λ c. Parsed) [ parsed d ↦ polarized (fine d) (closed d) d | unparsed n ↦ unparsed n ]) ≡ parsed e → (p ≡ parsed e) × T (fine e) × T (closed e)
+    (elim p as (λ c. Parsed) [ parsed d ↦ polarized (fine d) (closed d) d | Parse.refused n ↦ Parse.refused n ]) ≡ parsed e → (p ≡ parsed e) × T (fine e) × T (closed e)
 passed fine closed (parsed d) e h =
     let t = polarized-parsed (fine d) (closed d) d e h in
     (ap parsed (t .0), subst (λ c. T (fine c)) (t .0) (t .1), subst (λ c. T (closed c)) (t .0) (t .2))
-passed fine closed (unparsed n) e h = impossible cc
+passed fine closed (Parse.refused n) e h = impossible cc
 
 definition-accepted : (policy : List ℕ) (ks : List Known) (x : Entry) (e : Expr) → checkDefinition policy ks x ≡ parsed e → AcceptedDefinition policy ks x e
 unfolding checkDefinition knownOf
@@ -96,9 +100,9 @@ query-accepted ks query q h = go (leb 1 (length query) && leb (length query) 102
         (elim b as (λ c. Parsed) [
           | true ↦ elim (parse (length ks) query) as (λ c. Parsed) [
             | parsed d ↦ polarized (hasPolarity d ks plus || hasPolarity d ks minus) (drawsClosed d ks) d
-            | unparsed n ↦ unparsed n
+            | Parse.refused n ↦ Parse.refused n
           ]
-          | false ↦ unparsed badWord
+          | false ↦ Parse.refused badWord
         ]) ≡ parsed q → AcceptedQuery ks query q (verdictOf (hasPolarity q ks plus) (hasPolarity q ks minus))
     go true b f =
         let l = T-and (leb 1 (length query)) (leb (length query) 1024) .0 (rw b tt) in
@@ -121,19 +125,19 @@ unfolding checkFrom
 end-accepted policy ks query es q v h = go (checkQuery ks query) refl h
   where
     go : (p : Parsed) → checkQuery ks query ≡ p →
-        (elim p as (λ c. Checked) [ parsed d ↦ checked [] d (verdictOf (hasPolarity d ks plus) (hasPolarity d ks minus)) | unparsed n ↦ unchecked n queryPart ]) ≡ checked es q v →
+        (elim p as (λ c. Checked) [ parsed d ↦ checked [] d (verdictOf (hasPolarity d ks plus) (hasPolarity d ks minus)) | Parse.refused n ↦ Checking.refused n queryPart ]) ≡ checked es q v →
         (es ≡ []) × AcceptedQuery ks query q v
     go (parsed d) p f =
         let e : d ≡ q = cc in
         let w : verdictOf (hasPolarity q ks plus) (hasPolarity q ks minus) ≡ v = rw (← e) (cc) in
         (cc, rw w at (query-accepted ks query q (p ∙ ap parsed e)))
-    go (unparsed n) p f = impossible cc
+    go (Parse.refused n) p f = impossible cc
 
 with-checked : (e : Expr) (c : Checked) (es : List Expr) (q : Expr) (v : Verdict) → withDefinition e c ≡ checked es q v →
     (fs : List Expr) × (e ∷ fs ≡ es) × (c ≡ checked fs q v)
 unfolding withDefinition
 with-checked e (checked fs r w) es q v h = (fs, cc, cc)
-with-checked e (unchecked n part) es q v h = impossible cc
+with-checked e (Checking.refused n part) es q v h = impossible cc
 
 -- one definition in front
 front-checked : (policy : List ℕ) (x : Entry) (xs : List Entry) (ks : List Known) (query : List ℕ) (es : List Expr) (q : Expr) (v : Verdict) →
@@ -145,13 +149,13 @@ front-checked policy x xs ks query es q v h = go (checkDefinition policy ks x) r
     go : (p : Parsed) → checkDefinition policy ks x ≡ p →
         (elim p as (λ c. Checked) [
           | parsed e ↦ withDefinition e (checkFrom policy xs (ks ++ (knownOf x e ks ∷ [])) query)
-          | unparsed n ↦ unchecked n (length ks)
+          | Parse.refused n ↦ Checking.refused n (length ks)
         ]) ≡ checked es q v →
         (e : Expr) × (fs : List Expr) × (e ∷ fs ≡ es) × AcceptedDefinition policy ks x e × (checkFrom policy xs (ks ++ (knownOf x e ks ∷ [])) query ≡ checked fs q v)
     go (parsed e) p f =
         let t = with-checked e (checkFrom policy xs (ks ++ (knownOf x e ks ∷ [])) query) es q v f in
         (e, t .0, t .1, definition-accepted policy ks x e p, t .2)
-    go (unparsed n) p f = impossible cc
+    go (Parse.refused n) p f = impossible cc
 
 from-accepted : (policy : List ℕ) (xs : List Entry) (ks : List Known) (query : List ℕ) (es : List Expr) (q : Expr) (v : Verdict) →
     checkFrom policy xs ks query ≡ checked es q v → (ls : List Known) × Accepted policy xs ks es ls × AcceptedQuery ls query q v
@@ -168,12 +172,12 @@ pub check-accepted : (policy query : List ℕ) (es : List Expr) (q : Expr) (v : 
 unfolding check
 check-accepted policy query es q v h = go (readTable policy) refl h
   where
-    go : (t : Table) → readTable policy ≡ t → (elim t as (λ c. Checked) [ table xs ↦ checkFrom policy xs [] query | noTable n ↦ unchecked n noPart ]) ≡ checked es q v →
+    go : (t : Table) → readTable policy ≡ t → (elim t as (λ c. Checked) [ table xs ↦ checkFrom policy xs [] query | Tables.refused n ↦ Checking.refused n noPart ]) ≡ checked es q v →
         AcceptedPair policy query es q v
     go (table xs) r f =
         let t = from-accepted policy xs [] query es q v f in
         record { entries = xs; known = t .0; listed = r; definitions = t .1; asked = t .2 }
-    go (noTable n) r f = impossible cc
+    go (Tables.refused n) r f = impossible cc
 
 -- `judge` tells just what `check` finds
 pub judge-checked : (policy query : List ℕ) (v : Verdict) → (judge policy query ≡ verdict v) ↔ ((es : List Expr) × (q : Expr) × (check policy query ≡ checked es q v))
@@ -182,15 +186,15 @@ judge-checked policy query v = (go (check policy query), λ t. ap replyOf (t .2)
   where
     go : (c : Checked) → replyOf c ≡ verdict v → (es : List Expr) × (q : Expr) × (c ≡ checked es q v)
     go (checked es q w) h = (es, q, cc)
-    go (unchecked n part) h = impossible cc
+    go (Checking.refused n part) h = impossible cc
 
-pub judge-refused : (policy query : List ℕ) (n part : ℕ) → (judge policy query ≡ refused n part) ↔ (check policy query ≡ unchecked n part)
+pub judge-refused : (policy query : List ℕ) (n part : ℕ) → (judge policy query ≡ refused n part) ↔ (check policy query ≡ Checking.refused n part)
 unfolding judge replyOf
 judge-refused policy query n part = (go (check policy query), λ h. ap replyOf h)
   where
-    go : (c : Checked) → replyOf c ≡ refused n part → c ≡ unchecked n part
+    go : (c : Checked) → replyOf c ≡ refused n part → c ≡ Checking.refused n part
     go (checked es q w) h = impossible cc
-    go (unchecked m p) h = cc
+    go (Checking.refused m p) h = cc
 
 -- "Each definition's words are read as a part of the policy."
 pub entry-words : (policy : List ℕ) (x : Entry) → Words policy → Words (entryWords policy x)

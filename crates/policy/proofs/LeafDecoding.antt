@@ -6,7 +6,7 @@ use mathlib.Core.List.{List}
 use native.Mathlib.Omega.{arith}
 use lib.Dec.{T, leb, ltb, ltb→lt, lt→ltb}
 use borrow.Author.Tests.{le-leb, lt-leb, leb-true}
-use Rattle.refusals.specs.Table.{badWord, notInScope}
+use Rattle.refusals.specs.RefusalTable.{badWord, notInScope}
 use Rattle.rows.specs.Name.{isName}
 use Rattle.rows.proofs.Case.{Case, isTrue, isFalse, split, iff-refl, never}
 use Rattle.policy.specs.Leaf.{Leaf, finite, cofinite, definition, listed, leafCode, leafRest, FitLeaf, LeafCode, isFinite, isCofinite, isDefinition, isListed, noLeaf, leafOf, lastCode, someLeaf, leafAs}

@@ -7,7 +7,7 @@ use mathlib.Core.List.{List, [], _∷_}
 use native.Mathlib.Omega.{arith}
 use lib.Dec.{T, leb, ltb, eqb, leb→le, le→leb, ltb→lt, lt→ltb, eqb→eq, eqb-refl}
 use lib.ListN.{length}
-use Rattle.refusals.specs.Table.{badWord, notInScope}
+use Rattle.refusals.specs.RefusalTable.{badWord, notInScope}
 use Rattle.rows.specs.Word.{All}
 use Rattle.rows.specs.Row.{isKey}
 use Rattle.rows.specs.Name.{Polarity, plus, minus, isPolarity, polarityOf, polarityWord}
@@ -15,7 +15,7 @@ use Rattle.rows.proofs.Case.{T-and, iff-refl}
 use Rattle.policy.specs.Syntax.{Term, atom, var, Slot, old, new}
 use Rattle.policy.specs.Words.{termWords, each, termRowWords, slotWords, fresh}
 use Rattle.policy.specs.WellFormed.{FitTerm, FitIssuer, FitRow, FitRows, FitSlots}
-use Rattle.policy.specs.Decode.{Reader, after, give, need, word, wordWhere, times, polarity, tagOf, termAs, anyAtom, term, issuer, width, row, rows, Pattern, push, slotAs, slots}
+use Rattle.policy.specs.Decode.{Reader, after, give, need, word, wordWhere, times, polarity, tagOf, termAs, anyAtom, term, issuer, width, row, rows, Pattern, pushSlot, slotAs, slots}
 use Rattle.policy.proofs.Format.{Format, plain, oneWord, Made, made, Takes, Returns, Reads, refuse-takes, give-takes, give-returns, then-takes, last-takes, whole-takes, then-returns, last-returns, word-takes, word-returns}
 
 -- a word that keeps a rule
@@ -195,23 +195,23 @@ module _ (c n : ℕ) (more : (m : ℕ) → Reads (slots c m) (pattern c m)) wher
       )
 
   old-takes : (w : ℕ) →
-      Takes (λ ws k. after (termAs anyAtom n (tagOf w) ws k) (λ t us i. after (slots c n us i) (λ p. give (push (old t) p)))) (λ p u d. Made (pattern (suc c) n) p (w ∷ u) d)
-  unfolding push slotWords fresh FitSlots
+      Takes (λ ws k. after (termAs anyAtom n (tagOf w) ws k) (λ t us i. after (slots c n us i) (λ p. give (pushSlot (old t) p)))) (λ p u d. Made (pattern (suc c) n) p (w ∷ u) d)
+  unfolding pushSlot slotWords fresh FitSlots
   old-takes w =
       then-takes (old-reads w) (λ t g.
-      last-takes (push (old t)) (more n) (λ p h. record {
+      last-takes (pushSlot (old t)) (more n) (λ p h. record {
         spelled = rw (← (tagged t), g .1);
         met = refl;
         good = record { slots = (g .0, h .slots); size = ap suc (h .size); scope = h .scope };
       }))
 
   slotAs-takes : (w : ℕ) → Takes (slotAs n (λ m. slots c m) (tagOf w)) (λ p u d. Made (pattern (suc c) n) p (w ∷ u) d)
-  unfolding slotAs tagOf push slotWords fresh FitSlots
+  unfolding slotAs tagOf pushSlot slotWords fresh FitSlots
   slotAs-takes zero = old-takes 0
   slotAs-takes (suc zero) = old-takes 1
   slotAs-takes (suc (suc zero)) =
       then-takes new-reads (λ v g.
-      last-takes (push new) (more (n + 1)) (λ p h. record {
+      last-takes (pushSlot new) (more (n + 1)) (λ p h. record {
         spelled = rw (g .0);
         met = refl;
         good = record { slots = (g .1, h .slots); size = ap suc (h .size); scope = omega (arith, h .scope) };
@@ -219,14 +219,14 @@ module _ (c n : ℕ) (more : (m : ℕ) → Reads (slots c m) (pattern c m)) wher
   slotAs-takes (suc (suc (suc w))) = refuse-takes badWord
 
   slots-returns : (s : List Slot) (m : ℕ) → FitSlots n s → length s ≡ suc c → m ≡ n + fresh s → Returns (slots (suc c) n) (s, m) (slotWords n s) 0
-  unfolding slots slotAs tagOf tagWord untagged termWords push slotWords fresh FitSlots
+  unfolding slots slotAs tagOf tagWord untagged termWords pushSlot slotWords fresh FitSlots
   slots-returns [] m f l e = absurd (omega arith)
   slots-returns (old (atom a) ∷ s) m f l e =
-      word-returns 0 (then-returns _ (old-reads 0) (atom a) (f .0, refl) (last-returns (push (old (atom a))) (more n) (s, m) (record { slots = f .1; size = omega arith; scope = e })))
+      word-returns 0 (then-returns _ (old-reads 0) (atom a) (f .0, refl) (last-returns (pushSlot (old (atom a))) (more n) (s, m) (record { slots = f .1; size = omega arith; scope = e })))
   slots-returns (old (var i) ∷ s) m f l e =
-      word-returns 1 (then-returns _ (old-reads 1) (var i) (f .0, refl) (last-returns (push (old (var i))) (more n) (s, m) (record { slots = f .1; size = omega arith; scope = e })))
+      word-returns 1 (then-returns _ (old-reads 1) (var i) (f .0, refl) (last-returns (pushSlot (old (var i))) (more n) (s, m) (record { slots = f .1; size = omega arith; scope = e })))
   slots-returns (new ∷ s) m f l e =
-      word-returns 2 (then-returns _ new-reads n (refl, f .0) (last-returns (push new) (more (n + 1)) (s, m) (record { slots = f .1; size = omega arith; scope = omega arith })))
+      word-returns 2 (then-returns _ new-reads n (refl, f .0) (last-returns (pushSlot new) (more (n + 1)) (s, m) (record { slots = f .1; size = omega arith; scope = omega arith })))
 
 pub slots-reads : (c n : ℕ) → Reads (slots c n) (pattern c n)
 unfolding slots

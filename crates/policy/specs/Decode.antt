@@ -4,7 +4,7 @@ use Prim.Native.Nat.{ℕ, zero, suc, _+_}
 use mathlib.Core.Bool.{Bool, true, false, _&&_}
 use mathlib.Core.List.{List, [], _∷_}
 use lib.Dec.{leb, ltb, eqb}
-use Rattle.refusals.specs.Table.{badWord, notInScope, tooDeep}
+use Rattle.refusals.specs.RefusalTable.{badWord, notInScope, tooDeep}
 use Rattle.policy.specs.Leaf.{LeafCode, leafOf, someLeaf, leafAs}
 pub use Rattle.policy.specs.Readers.{Read, got, refused, Reader, after, _>>=_, _>>_, give, refuse, need, word, Tag, isAtom, isVar, isNew, noTag}
 unfoldable pub use Rattle.policy.specs.Readers.{wordWhere, times, polarity, tagOf, termAs, anyAtom, term, issuer, width, row, rows}
@@ -18,24 +18,24 @@ countDraw = λ ws k. elim (ltb k 8) [ true ↦ got tt ws (k + 1) | false ↦ ref
 abbrev pub Pattern : Type 0
 Pattern = List Slot × ℕ
 
-unfoldable pub push : Slot → Pattern → Pattern
-push s p = (s ∷ p .0, p .1)
+unfoldable pub pushSlot : Slot → Pattern → Pattern
+pushSlot s p = (s ∷ p .0, p .1)
 
 -- a slot whose tag is read, and those after it
 unfoldable pub slotAs : ℕ → (ℕ → Reader Pattern) → Tag → Reader Pattern
-unfolding termAs anyAtom wordWhere push
+unfolding termAs anyAtom wordWhere pushSlot
 slotAs n rest isAtom = do
   t ← termAs anyAtom n isAtom
   p ← rest n
-  give (push (old t) p)
+  give (pushSlot (old t) p)
 slotAs n rest isVar = do
   t ← termAs anyAtom n isVar
   p ← rest n
-  give (push (old t) p)
+  give (pushSlot (old t) p)
 slotAs n rest isNew = do
   v ← wordWhere notInScope (λ v. eqb v n && leb v 15)
   p ← rest (n + 1)
-  give (push new p)
+  give (pushSlot new p)
 slotAs n rest noTag = refuse badWord
 
 unfoldable pub slots : ℕ → ℕ → Reader Pattern
@@ -154,18 +154,3 @@ expr known zero n = do
 expr known (suc levels) n = do
   c ← word
   exprAs known (λ m. expr known levels m) n (codeOf c)
-
-pub data Parsed : Type 0 where
-  parsed : Expr → Parsed
-  unparsed : ℕ → Parsed
-
--- "left-over words last"
-unfoldable pub noneLeft : Read Expr → Parsed
-noneLeft (got e [] k) = parsed e
-noneLeft (got e (w ∷ ws) k) = unparsed badWord
-noneLeft (refused n) = unparsed n
-
--- a whole definition or query: 15 levels of depth, no variables, no draws yet
-unfoldable pub parse : ℕ → List ℕ → Parsed
-unfolding expr noneLeft
-parse known ws = noneLeft (expr known 15 0 ws 0)

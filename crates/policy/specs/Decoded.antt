@@ -2,13 +2,13 @@
 use Prim.Native.Nat.{ℕ, zero, suc, _+_}
 use mathlib.Core.Path.{_≡_}
 use mathlib.Core.List.{List, [], _∷_, _++_}
-use Rattle.refusals.specs.Table.{badWord, notInScope, tooDeep}
-use Rattle.policy.specs.Decode.{Parsed, parsed, unparsed, parse}
+use Rattle.refusals.specs.RefusalTable.{badWord, notInScope, tooDeep}
+use Rattle.policy.specs.Parse.{Parsed, parsed, refused, parse}
 
 -- the refusal's number; 0 where there is none
 unfoldable pub numberOf : Parsed → ℕ
 numberOf (parsed e) = 0
-numberOf (unparsed n) = n
+numberOf (refused n) = n
 
 -- two definitions being available
 unfoldable pub Decodes : List ℕ → ℕ → Type 0
@@ -33,7 +33,7 @@ four n = 1 ∷ 1 ∷ 0 ∷ 4 ∷ 2 ∷ n ∷ 2 ∷ (n + 1) ∷ 2 ∷ (n + 2) ∷
 abbrev pub anyDraw : List ℕ
 anyDraw = 1 ∷ 1 ∷ 0 ∷ 1 ∷ 0 ∷ 5 ∷ []
 
-pub record Table : Type 0 where
+pub record AllHold : Type 0 where
   -- words run out
   pub runOut :
       Decodes [] badWord

@@ -6,11 +6,11 @@ use Rattle.policy.specs.declared.Term.the-variants.{Atom, Variable}
 use Rattle.policy.specs.declared.Slot as Held-slot
 use Rattle.policy.specs.declared.Slot.the-variants.{Old, New}
 
-unfoldable pub termOf : Held-term.Term → Term
-termOf (Atom a) = atom a
-termOf (Variable i) = var i
+unfoldable pub termIs : Held-term.Term → Term
+termIs (Atom a) = atom a
+termIs (Variable i) = var i
 
-unfoldable pub slotOf : Held-slot.Slot → Slot
-unfolding termOf
-slotOf (Old t) = old (termOf t)
-slotOf New = new
+unfoldable pub slotIs : Held-slot.Slot → Slot
+unfolding termIs
+slotIs (Old t) = old (termIs t)
+slotIs New = new

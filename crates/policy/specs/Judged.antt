@@ -3,7 +3,7 @@ use Prim.Native.Nat.{ℕ, _+_}
 use mathlib.Core.Path.{_≡_}
 use mathlib.Core.List.{List, [], _∷_, _++_}
 use lib.ListN.{length, replicate}
-use Rattle.refusals.specs.Table.{badHeader, badTable, badWord, notInScope, tooDeep, noPolarity, openDraw, queryPart, noPart}
+use Rattle.refusals.specs.RefusalTable.{badHeader, badTable, badWord, notInScope, tooDeep, noPolarity, openDraw, queryPart, noPart}
 use Rattle.policy.specs.Polarity.{exact, lower, upper}
 use Rattle.policy.specs.Judgement.{JudgementReply, verdict, refused, judge}
 use Rattle.policy.specs.Decoded.{again, unions}
@@ -24,8 +24,8 @@ abbrev pub Q : List ℕ
 Q = 3 ∷ 0 ∷ []
 
 -- the policy of the cases from f on
-abbrev pub none : List ℕ
-none = 1 ∷ 0 ∷ []
+abbrev pub noDefinitions : List ℕ
+noDefinitions = 1 ∷ 0 ∷ []
 
 -- name 10 with a polarity, and its expression
 abbrev pub one : ℕ → List ℕ → List ℕ
@@ -56,28 +56,28 @@ abbrev pub absent7 : List ℕ → List ℕ
 absent7 e = 4 ∷ 1 ∷ 0 ∷ 7 ∷ e
 
 -- the rows of a set of rows of one atom
-abbrev pub rowsOf : List ℕ → List ℕ
-rowsOf e = 7 ∷ 1 ∷ (drawn 0 e ++ (1 ∷ 1 ∷ 0 ∷ []))
+abbrev pub drawAll : List ℕ → List ℕ
+drawAll e = 7 ∷ 1 ∷ (drawn 0 e ++ (1 ∷ 1 ∷ 0 ∷ []))
 
 -- a literal of rows of three atoms and rows of four: 2 + 7 × m + 9 × n words
 unfoldable pub literal : ℕ → ℕ → List ℕ
 unfolding again
 literal m n = 1 ∷ (m + n) ∷ again m (3 ∷ 0 ∷ 1 ∷ 0 ∷ 2 ∷ 0 ∷ 3 ∷ []) (again n (4 ∷ 0 ∷ 1 ∷ 0 ∷ 2 ∷ 0 ∷ 3 ∷ 0 ∷ 4 ∷ []) [])
 
-pub record Table : Type 0 where
+pub record AllHold : Type 0 where
   -- "Portal cases", as far as judging goes: a to l, then the two about depth
   pub portal :
       Judges P Q (verdict lower)  -- a to d
       × Judges P (4 ∷ 0 ∷ k1 ∷ 2 ∷ 1 ∷ []) (verdict upper)  -- e
-      × Judges none (6 ∷ 4 ∷ 0 ∷ k1 ∷ 1 ∷ 0 ∷ 4 ∷ 0 ∷ k1 ∷ 1 ∷ 0 ∷ []) (refused noPolarity queryPart)  -- f
-      × Judges none (7 ∷ 1 ∷ 1 ∷ 4 ∷ 0 ∷ k1 ∷ 2 ∷ 1 ∷ 1 ∷ 2 ∷ 0 ∷ 1 ∷ 1 ∷ 0 ∷ []) (refused openDraw queryPart)  -- g
-      × Judges none (6 ∷ 2 ∷ 1 ∷ 1 ∷ 0 ∷ 7 ∷ 2 ∷ 2 ∷ 1 ∷ 0 ∷ 7 ∷ 1 ∷ 0 ∷ 8 ∷ []) (verdict exact)  -- h
-      × Judges none (5 ∷ 2 ∷ 2 ∷ 1 ∷ 0 ∷ 7 ∷ 1 ∷ 0 ∷ 8 ∷ 1 ∷ 1 ∷ 1 ∷ 0 ∷ 8 ∷ []) (verdict exact)  -- i
-      × Judges none (1 ∷ 0 ∷ []) (verdict exact)  -- j
-      × Judges none (7 ∷ 0 ∷ 1 ∷ 0 ∷ 7 ∷ []) (verdict exact)  -- k
-      × Judges none (7 ∷ 2 ∷ 1 ∷ 1 ∷ 1 ∷ 1 ∷ 0 ∷ 5 ∷ 1 ∷ 2 ∷ 0 ∷ 1 ∷ 4 ∷ 1 ∷ 0 ∷ 1 ∷ 0 ∷ 1 ∷ 2 ∷ 1 ∷ 1 ∷ 1 ∷ 1 ∷ []) (verdict lower)  -- l
-      × Judges none (unions 14 (1 ∷ 0 ∷ [])) (verdict exact)
-      × Judges none (unions 15 (1 ∷ 0 ∷ [])) (refused tooDeep queryPart)
+      × Judges noDefinitions (6 ∷ 4 ∷ 0 ∷ k1 ∷ 1 ∷ 0 ∷ 4 ∷ 0 ∷ k1 ∷ 1 ∷ 0 ∷ []) (refused noPolarity queryPart)  -- f
+      × Judges noDefinitions (7 ∷ 1 ∷ 1 ∷ 4 ∷ 0 ∷ k1 ∷ 2 ∷ 1 ∷ 1 ∷ 2 ∷ 0 ∷ 1 ∷ 1 ∷ 0 ∷ []) (refused openDraw queryPart)  -- g
+      × Judges noDefinitions (6 ∷ 2 ∷ 1 ∷ 1 ∷ 0 ∷ 7 ∷ 2 ∷ 2 ∷ 1 ∷ 0 ∷ 7 ∷ 1 ∷ 0 ∷ 8 ∷ []) (verdict exact)  -- h
+      × Judges noDefinitions (5 ∷ 2 ∷ 2 ∷ 1 ∷ 0 ∷ 7 ∷ 1 ∷ 0 ∷ 8 ∷ 1 ∷ 1 ∷ 1 ∷ 0 ∷ 8 ∷ []) (verdict exact)  -- i
+      × Judges noDefinitions (1 ∷ 0 ∷ []) (verdict exact)  -- j
+      × Judges noDefinitions (7 ∷ 0 ∷ 1 ∷ 0 ∷ 7 ∷ []) (verdict exact)  -- k
+      × Judges noDefinitions (7 ∷ 2 ∷ 1 ∷ 1 ∷ 1 ∷ 1 ∷ 0 ∷ 5 ∷ 1 ∷ 2 ∷ 0 ∷ 1 ∷ 4 ∷ 1 ∷ 0 ∷ 1 ∷ 0 ∷ 1 ∷ 2 ∷ 1 ∷ 1 ∷ 1 ∷ 1 ∷ []) (verdict lower)  -- l
+      × Judges noDefinitions (unions 14 (1 ∷ 0 ∷ [])) (verdict exact)
+      × Judges noDefinitions (unions 15 (1 ∷ 0 ∷ [])) (refused tooDeep queryPart)
   -- 1: under 2 or over 8,192 words, format, n, table cut short
   pub header :
       Judges [] Q (refused badHeader noPart)
@@ -98,16 +98,16 @@ pub record Table : Type 0 where
       × Judges (1 ∷ 2 ∷ 10 ∷ 0 ∷ 10 ∷ 2 ∷ 10 ∷ 1 ∷ 12 ∷ 2 ∷ 1 ∷ 0 ∷ 1 ∷ 0 ∷ []) Q (verdict lower)
   -- 3: "query of 0 or over 1,024 words", before its words are looked at
   pub queryLength :
-      Judges none [] (refused badWord queryPart)
-      × Judges none (literal 65 63) (verdict exact)
-      × Judges none (literal 60 67) (refused badWord queryPart)
-      × Judges none (3 ∷ 0 ∷ replicate 1023 0) (refused badWord queryPart)
-      × Judges none (3 ∷ 0 ∷ replicate 1022 0) (refused notInScope queryPart)
+      Judges noDefinitions [] (refused badWord queryPart)
+      × Judges noDefinitions (literal 65 63) (verdict exact)
+      × Judges noDefinitions (literal 60 67) (refused badWord queryPart)
+      × Judges noDefinitions (3 ∷ 0 ∷ replicate 1023 0) (refused badWord queryPart)
+      × Judges noDefinitions (3 ∷ 0 ∷ replicate 1022 0) (refused notInScope queryPart)
   -- "left-over words last", so after a 4 or a 5; "then 6"
   pub leftOver :
-      Judges none (3 ∷ 0 ∷ 9 ∷ []) (refused notInScope queryPart)
-      × Judges none (unions 15 (1 ∷ 0 ∷ []) ++ (9 ∷ [])) (refused tooDeep queryPart)
-      × Judges none (6 ∷ (released ++ (released ++ (9 ∷ [])))) (refused badWord queryPart)
+      Judges noDefinitions (3 ∷ 0 ∷ 9 ∷ []) (refused notInScope queryPart)
+      × Judges noDefinitions (unions 15 (1 ∷ 0 ∷ []) ++ (9 ∷ [])) (refused tooDeep queryPart)
+      × Judges noDefinitions (6 ∷ (released ++ (released ++ (9 ∷ [])))) (refused badWord queryPart)
       × Judges (one 0 (1 ∷ 0 ∷ 9 ∷ [])) Q (refused badWord 0)
   -- "d, an earlier definition (in a query, any)"
   pub available :
@@ -117,10 +117,10 @@ pub record Table : Type 0 where
       × Judges (two (1 ∷ 0 ∷ []) (3 ∷ 0 ∷ [])) (3 ∷ 2 ∷ []) (refused notInScope queryPart)
   -- "Codes 1 and 2 have both polarities", with variables too; "4 its own"
   pub ofLeaves :
-      Judges none released (verdict lower)
-      × Judges none allowed (verdict upper)
-      × Judges none notSeven (verdict exact)
-      × Judges none (7 ∷ 2 ∷ (drawn 0 seven ++ (drawn 1 (1 ∷ 1 ∷ 1 ∷ 1 ∷ 0 ∷ []) ++ (1 ∷ 1 ∷ 1 ∷ [])))) (verdict exact)
+      Judges noDefinitions released (verdict lower)
+      × Judges noDefinitions allowed (verdict upper)
+      × Judges noDefinitions notSeven (verdict exact)
+      × Judges noDefinitions (7 ∷ 2 ∷ (drawn 0 seven ++ (drawn 1 (1 ∷ 1 ∷ 1 ∷ 1 ∷ 0 ∷ []) ++ (1 ∷ 1 ∷ 1 ∷ [])))) (verdict exact)
   -- "3 the declared one", which the definition must have
   pub ofDefinitions :
       Judges (one 0 seven) Q (verdict lower)
@@ -128,54 +128,54 @@ pub record Table : Type 0 where
       × Judges (one 0 allowed) Q (refused noPolarity 0)
   -- "5 has those common to its parts"
   pub ofUnions :
-      Judges none (5 ∷ (released ++ seven)) (verdict lower)
-      × Judges none (5 ∷ (seven ++ allowed)) (verdict upper)
-      × Judges none (5 ∷ (released ++ allowed)) (refused noPolarity queryPart)
+      Judges noDefinitions (5 ∷ (released ++ seven)) (verdict lower)
+      × Judges noDefinitions (5 ∷ (seven ++ allowed)) (verdict upper)
+      × Judges noDefinitions (5 ∷ (released ++ allowed)) (refused noPolarity queryPart)
   -- "6 has those of its left that are opposite to some of its right"
   pub ofDifferences :
-      Judges none (6 ∷ (released ++ allowed)) (verdict lower)
-      × Judges none (6 ∷ (allowed ++ released)) (verdict upper)
-      × Judges none (6 ∷ (seven ++ released)) (verdict upper)
-      × Judges none (6 ∷ (released ++ (4 ∷ 0 ∷ k1 ∷ 2 ∷ 0 ∷ []))) (refused noPolarity queryPart)
+      Judges noDefinitions (6 ∷ (released ++ allowed)) (verdict lower)
+      × Judges noDefinitions (6 ∷ (allowed ++ released)) (verdict upper)
+      × Judges noDefinitions (6 ∷ (seven ++ released)) (verdict upper)
+      × Judges noDefinitions (6 ∷ (released ++ (4 ∷ 0 ∷ k1 ∷ 2 ∷ 0 ∷ []))) (refused noPolarity queryPart)
   -- "7 has those that every draw has and that are opposite to one of every absent guard"
   pub ofGuards :
-      Judges none (7 ∷ 1 ∷ (absent7 allowed ++ (1 ∷ 0 ∷ 7 ∷ []))) (verdict lower)
-      × Judges none (7 ∷ 1 ∷ (absent7 released ++ (1 ∷ 0 ∷ 7 ∷ []))) (verdict upper)
-      × Judges none (7 ∷ 2 ∷ (drawn 0 released ++ (absent7 released ++ (1 ∷ 1 ∷ 0 ∷ [])))) (refused noPolarity queryPart)
+      Judges noDefinitions (7 ∷ 1 ∷ (absent7 allowed ++ (1 ∷ 0 ∷ 7 ∷ []))) (verdict lower)
+      × Judges noDefinitions (7 ∷ 1 ∷ (absent7 released ++ (1 ∷ 0 ∷ 7 ∷ []))) (verdict upper)
+      × Judges noDefinitions (7 ∷ 2 ∷ (drawn 0 released ++ (absent7 released ++ (1 ∷ 1 ∷ 0 ∷ [])))) (refused noPolarity queryPart)
       × Judges (one 0 (7 ∷ 2 ∷ (drawn 0 released ++ (absent7 released ++ (1 ∷ 1 ∷ 0 ∷ []))))) Q (refused noPolarity 0)
   -- "No other operand counts"
   pub notOfComparisons :
-      Judges none (7 ∷ 2 ∷ (drawn 0 seven ++ (2 ∷ 1 ∷ 0 ∷ 0 ∷ 7 ∷ 1 ∷ 1 ∷ 0 ∷ []))) (verdict exact)
-      × Judges none (7 ∷ 2 ∷ (drawn 0 seven ++ (3 ∷ 1 ∷ 0 ∷ 0 ∷ 7 ∷ 1 ∷ 1 ∷ 0 ∷ []))) (verdict exact)
-      × Judges none (7 ∷ 2 ∷ (drawn 0 released ++ (2 ∷ 1 ∷ 0 ∷ 0 ∷ 7 ∷ 1 ∷ 1 ∷ 0 ∷ []))) (verdict lower)
-      × Judges none (7 ∷ 2 ∷ (absent7 released ++ (3 ∷ 0 ∷ 7 ∷ 0 ∷ 8 ∷ 1 ∷ 0 ∷ 7 ∷ []))) (verdict upper)
+      Judges noDefinitions (7 ∷ 2 ∷ (drawn 0 seven ++ (2 ∷ 1 ∷ 0 ∷ 0 ∷ 7 ∷ 1 ∷ 1 ∷ 0 ∷ []))) (verdict exact)
+      × Judges noDefinitions (7 ∷ 2 ∷ (drawn 0 seven ++ (3 ∷ 1 ∷ 0 ∷ 0 ∷ 7 ∷ 1 ∷ 1 ∷ 0 ∷ []))) (verdict exact)
+      × Judges noDefinitions (7 ∷ 2 ∷ (drawn 0 released ++ (2 ∷ 1 ∷ 0 ∷ 0 ∷ 7 ∷ 1 ∷ 1 ∷ 0 ∷ []))) (verdict lower)
+      × Judges noDefinitions (7 ∷ 2 ∷ (absent7 released ++ (3 ∷ 0 ∷ 7 ∷ 0 ∷ 8 ∷ 1 ∷ 0 ∷ 7 ∷ []))) (verdict upper)
   -- 7: "2, a − name, 3 of an open definition, 5 with an open part, 6 with an open left"
   pub openSets :
-      Judges none (rowsOf notSeven) (refused openDraw queryPart)
-      × Judges none (rowsOf allowed) (refused openDraw queryPart)
-      × Judges (one 1 allowed) (rowsOf Q) (refused openDraw queryPart)
-      × Judges (one 0 notSeven) (rowsOf Q) (refused openDraw queryPart)
-      × Judges none (rowsOf (5 ∷ (seven ++ notSeven))) (refused openDraw queryPart)
-      × Judges none (rowsOf (5 ∷ (notSeven ++ seven))) (refused openDraw queryPart)
-      × Judges none (rowsOf (6 ∷ (notSeven ++ notSeven))) (refused openDraw queryPart)
+      Judges noDefinitions (drawAll notSeven) (refused openDraw queryPart)
+      × Judges noDefinitions (drawAll allowed) (refused openDraw queryPart)
+      × Judges (one 1 allowed) (drawAll Q) (refused openDraw queryPart)
+      × Judges (one 0 notSeven) (drawAll Q) (refused openDraw queryPart)
+      × Judges noDefinitions (drawAll (5 ∷ (seven ++ notSeven))) (refused openDraw queryPart)
+      × Judges noDefinitions (drawAll (5 ∷ (notSeven ++ seven))) (refused openDraw queryPart)
+      × Judges noDefinitions (drawAll (6 ∷ (notSeven ++ notSeven))) (refused openDraw queryPart)
   -- and nothing else is open
   pub closedSets :
-      Judges P (rowsOf Q) (verdict lower)
-      × Judges (one 1 seven) (rowsOf Q) (verdict upper)
-      × Judges none (rowsOf (6 ∷ (seven ++ notSeven))) (verdict exact)
-      × Judges none (rowsOf (7 ∷ 1 ∷ (absent7 notSeven ++ (1 ∷ 0 ∷ 7 ∷ [])))) (verdict exact)
+      Judges P (drawAll Q) (verdict lower)
+      × Judges (one 1 seven) (drawAll Q) (verdict upper)
+      × Judges noDefinitions (drawAll (6 ∷ (seven ++ notSeven))) (verdict exact)
+      × Judges noDefinitions (drawAll (7 ∷ 1 ∷ (absent7 notSeven ++ (1 ∷ 0 ∷ 7 ∷ [])))) (verdict exact)
   -- draws are looked for at any depth
   pub anyDepth :
-      Judges none (5 ∷ (seven ++ rowsOf notSeven)) (refused openDraw queryPart)
-      × Judges none (6 ∷ (seven ++ rowsOf notSeven)) (refused openDraw queryPart)
-      × Judges none (rowsOf (rowsOf notSeven)) (refused openDraw queryPart)
-      × Judges none (7 ∷ 1 ∷ (absent7 (rowsOf notSeven) ++ (1 ∷ 0 ∷ 7 ∷ []))) (refused openDraw queryPart)
+      Judges noDefinitions (5 ∷ (seven ++ drawAll notSeven)) (refused openDraw queryPart)
+      × Judges noDefinitions (6 ∷ (seven ++ drawAll notSeven)) (refused openDraw queryPart)
+      × Judges noDefinitions (drawAll (drawAll notSeven)) (refused openDraw queryPart)
+      × Judges noDefinitions (7 ∷ 1 ∷ (absent7 (drawAll notSeven) ++ (1 ∷ 0 ∷ 7 ∷ []))) (refused openDraw queryPart)
   -- "then 6, then 7"
   pub sixBeforeSeven :
-      Judges none (7 ∷ 2 ∷ (drawn 0 released ++ (drawn 1 allowed ++ (1 ∷ 1 ∷ 0 ∷ [])))) (refused noPolarity queryPart)
-      × Judges (one 0 (rowsOf allowed)) Q (refused noPolarity 0)
-      × Judges (one 1 (rowsOf allowed)) Q (refused openDraw 0)
+      Judges noDefinitions (7 ∷ 2 ∷ (drawn 0 released ++ (drawn 1 allowed ++ (1 ∷ 1 ∷ 0 ∷ [])))) (refused noPolarity queryPart)
+      × Judges (one 0 (drawAll allowed)) Q (refused noPolarity 0)
+      × Judges (one 1 (drawAll allowed)) Q (refused openDraw 0)
   -- "each definition, then the query"
   pub definitionsFirst :
-      Judges (two (rowsOf notSeven) (9 ∷ [])) [] (refused openDraw 0)
+      Judges (two (drawAll notSeven) (9 ∷ [])) [] (refused openDraw 0)
       × Judges (two seven (9 ∷ [])) [] (refused badWord 1)

@@ -1,84 +1,17 @@
--- Document 01, refusals 1 to 7 in their order: "1, 2; each definition, then the query"; within an expression 3, 4, 5, "then 6, then 7".
+-- What a caller is told of a policy and a query: the verdict, or the refusal's number and part.
 use Prim.Native.Nat.{ℕ}
-use mathlib.Core.Bool.{Bool, true, false, _&&_, _||_}
-use mathlib.Core.List.{List, [], _∷_, _++_}
-use lib.Dec.{leb}
-use lib.ListN.{length}
-use Rattle.refusals.specs.Table.{badWord, noPolarity, openDraw, queryPart, noPart}
-use Rattle.rows.specs.Name.{plus, minus, polarityOf}
-use Rattle.policy.specs.Syntax.{Expr}
-use Rattle.policy.specs.Decode.{Parsed, parsed, unparsed, parse}
-use Rattle.policy.specs.Polarity.{Known, hasPolarity, openExpr, drawsClosed, Verdict, exact, lower, upper}
-use Rattle.policy.specs.Table.{Entry, entryWords, table, noTable, readTable}
+use mathlib.Core.List.{List}
+use Rattle.policy.specs.Polarity.{Verdict}
+use Rattle.policy.specs.Checking.{Checked, checked, check}
+use Rattle.policy.specs.Checking as Checking
 
--- the definitions, the query and its verdict; or the refusal's number and part
-pub data Checked : Type 0 where
-  checked : List Expr → Expr → Verdict → Checked
-  unchecked : ℕ → ℕ → Checked
-
--- 6 unless it has the polarity asked for, then 7 unless its draws are from closed sets
-unfoldable pub polarized : Bool → Bool → Expr → Parsed
-polarized true true e = parsed e
-polarized true false e = unparsed openDraw
-polarized false closed e = unparsed noPolarity
-
-unfoldable pub checkDefinition : List ℕ → List Known → Entry → Parsed
-unfolding parse entryWords polarized hasPolarity drawsClosed polarityOf
-checkDefinition policy ks x = elim (parse (length ks) (entryWords policy x)) [
-  | parsed e ↦ polarized (hasPolarity e ks (polarityOf (x .polarity))) (drawsClosed e ks) e
-  | unparsed n ↦ unparsed n
-]
-
--- "A query is one expression of 1 to 1,024 words."
-unfoldable pub checkQuery : List Known → List ℕ → Parsed
-unfolding parse polarized hasPolarity drawsClosed
-checkQuery ks query = elim (leb 1 (length query) && leb (length query) 1024) [
-  | true ↦ elim (parse (length ks) query) [
-    | parsed e ↦ polarized (hasPolarity e ks plus || hasPolarity e ks minus) (drawsClosed e ks) e
-    | unparsed n ↦ unparsed n
-  ]
-  | false ↦ unparsed badWord
-]
-
--- the verdict of a query that has + or not, − or not (one with neither is refused before)
-unfoldable pub verdictOf : Bool → Bool → Verdict
-verdictOf true true = exact
-verdictOf true false = lower
-verdictOf false hasMinus = upper
-
--- what is then known of a definition
-unfoldable pub knownOf : Entry → Expr → List Known → Known
-unfolding openExpr polarityOf
-knownOf x e ks = record { declared = polarityOf (x .polarity); isOpen = openExpr e ks }
-
-unfoldable pub withDefinition : Expr → Checked → Checked
-withDefinition e (checked es q v) = checked (e ∷ es) q v
-withDefinition e (unchecked n part) = unchecked n part
-
--- the definitions in file order, each through 3 to 7 before the next, then the query
-unfoldable pub checkFrom : List ℕ → List Entry → List Known → List ℕ → Checked
-unfolding checkDefinition checkQuery verdictOf knownOf withDefinition hasPolarity
-checkFrom policy [] ks query = elim (checkQuery ks query) [
-  | parsed q ↦ checked [] q (verdictOf (hasPolarity q ks plus) (hasPolarity q ks minus))
-  | unparsed n ↦ unchecked n queryPart
-]
-checkFrom policy (x ∷ xs) ks query = elim (checkDefinition policy ks x) [
-  | parsed e ↦ withDefinition e (checkFrom policy xs (ks ++ (knownOf x e ks ∷ [])) query)
-  | unparsed n ↦ unchecked n (length ks)
-]
-
-unfoldable pub check : List ℕ → List ℕ → Checked
-unfolding readTable checkFrom
-check policy query = elim (readTable policy) [ table xs ↦ checkFrom policy xs [] query | noTable n ↦ unchecked n noPart ]
-
--- what a caller is told: the verdict, or the refusal's number and part
 pub data JudgementReply : Type 0 where
   verdict : Verdict → JudgementReply
   refused : ℕ → ℕ → JudgementReply
 
 unfoldable pub replyOf : Checked → JudgementReply
 replyOf (checked es q v) = verdict v
-replyOf (unchecked n part) = refused n part
+replyOf (Checking.refused n part) = refused n part
 
 unfoldable pub judge : List ℕ → List ℕ → JudgementReply
 unfolding check replyOf

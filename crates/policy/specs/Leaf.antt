@@ -5,7 +5,7 @@ use mathlib.Core.Bool.{Bool, true, false}
 use mathlib.Core.List.{List, [], _∷_, _++_}
 use lib.Dec.{T, ltb}
 use lib.ListN.{length, getD}
-use Rattle.refusals.specs.Table.{badWord, notInScope}
+use Rattle.refusals.specs.RefusalTable.{badWord, notInScope}
 use Rattle.rows.specs.Name.{Polarity, plus, minus, samePolarity, polarityWord, isName}
 use Rattle.policy.specs.Terms.{Term, termWords, each, termRowWords, FitIssuer, FitRows}
 use Rattle.policy.specs.Readers.{Reader, _>>=_, _>>_, after, give, refuse, wordWhere, issuer, rows, polarity}

@@ -5,9 +5,11 @@ pub mod Syntax
 pub mod Words
 pub mod WellFormed
 pub mod Decode
+pub mod Parse
 pub mod Decoded
 pub mod Polarity
 pub mod Table
+pub mod Checking
 pub mod Judgement
 pub mod Judged
 pub mod Part

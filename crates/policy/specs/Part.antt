@@ -6,35 +6,35 @@ use mathlib.Core.Bool.{true, false}
 use mathlib.Core.List.{List}
 use lib.Dec.{eqb, ltb}
 use lib.ListN.{length, getD, take, drop}
-use Rattle.refusals.specs.Table.{queryPart}
-use Rattle.policy.specs.Table.{Entry, table, noTable, readTable}
+use Rattle.refusals.specs.RefusalTable.{queryPart}
+use Rattle.policy.specs.Table.{Entry, table, refused, readTable}
 
 -- where a part lies: so many words of the policy from a word on, or the query
-pub data Place : Type 0 where
-  inPolicy : ℕ → ℕ → Place
-  wholeQuery : Place
+pub data PartSpan : Type 0 where
+  inPolicy : ℕ → ℕ → PartSpan
+  wholeQuery : PartSpan
 
-unfoldable pub nowhere : Place
+unfoldable pub nowhere : PartSpan
 nowhere = inPolicy 0 0
 
 abbrev pub noEntry : Entry
 noEntry = record { name = 0; polarity = 0; offset = 0; size = 0 }
 
-unfoldable pub placeAmong : List Entry → ℕ → Place
+unfoldable pub spanAmong : List Entry → ℕ → PartSpan
 unfolding nowhere
-placeAmong xs number = elim (eqb number queryPart) [
+spanAmong xs number = elim (eqb number queryPart) [
   | true ↦ wholeQuery
   | false ↦ elim (ltb number (length xs)) [ true ↦ inPolicy (getD xs number noEntry .offset) (getD xs number noEntry .size) | false ↦ nowhere ]
 ]
 
-unfoldable pub placeOf : List ℕ → ℕ → Place
-unfolding readTable placeAmong nowhere
-placeOf policy number = elim (readTable policy) [ table xs ↦ placeAmong xs number | noTable n ↦ nowhere ]
+unfoldable pub partSpan : List ℕ → ℕ → PartSpan
+unfolding readTable spanAmong nowhere
+partSpan policy number = elim (readTable policy) [ table xs ↦ spanAmong xs number | refused n ↦ nowhere ]
 
-unfoldable pub wordsAt : List ℕ → List ℕ → Place → List ℕ
+unfoldable pub wordsAt : List ℕ → List ℕ → PartSpan → List ℕ
 wordsAt policy query (inPolicy start size) = take size (drop start policy)
 wordsAt policy query wholeQuery = query
 
 unfoldable pub partWords : List ℕ → List ℕ → ℕ → List ℕ
-unfolding placeOf wordsAt
-partWords policy query number = wordsAt policy query (placeOf policy number)
+unfolding partSpan wordsAt
+partWords policy query number = wordsAt policy query (partSpan policy number)

@@ -4,7 +4,7 @@ use mathlib.Core.Bool.{Bool, true, false, not, _&&_, _||_}
 use mathlib.Core.List.{List, [], _∷_}
 use lib.Dec.{leb, eqb}
 use lib.ListN.{length, getD, take, drop}
-use Rattle.refusals.specs.Table.{badHeader, badTable}
+use Rattle.refusals.specs.RefusalTable.{badHeader, badTable}
 use Rattle.rows.specs.Name.{isName, isPolarity}
 
 -- "four words each: name, polarity, offset, length"
@@ -23,7 +23,7 @@ entryWords policy x = take (x .size) (drop (x .offset) policy)
 
 pub data Table : Type 0 where
   table : List Entry → Table
-  noTable : ℕ → Table
+  refused : ℕ → Table
 
 unfoldable pub named : List Entry → Entry → Bool
 named [] x = false
@@ -36,17 +36,17 @@ unfolding named
 soundEntry policy due earlier x =
     isName (x .name) && (isPolarity (x .polarity) && (eqb (x .offset) due && (leb 1 (x .size) && (leb (x .offset + x .size) (length policy) && not (named earlier x)))))
 
-unfoldable pub push : Entry → Table → Table
-push x (table xs) = table (x ∷ xs)
-push x (noTable n) = noTable n
+unfoldable pub pushEntry : Entry → Table → Table
+pushEntry x (table xs) = table (x ∷ xs)
+pushEntry x (refused n) = refused n
 
 -- n entries, the next of them at word `at`, the next part due at word `due`; "the last part ends the policy"
 unfoldable pub entries : ℕ → List ℕ → ℕ → ℕ → List Entry → Table
-unfolding entryAt soundEntry push
-entries zero policy at due earlier = elim (eqb due (length policy)) [ true ↦ table [] | false ↦ noTable badTable ]
+unfolding entryAt soundEntry pushEntry
+entries zero policy at due earlier = elim (eqb due (length policy)) [ true ↦ table [] | false ↦ refused badTable ]
 entries (suc n) policy at due earlier =
     let x = entryAt policy at in
-    elim (soundEntry policy due earlier x) [ true ↦ push x (entries n policy (at + 4) (x .offset + x .size) (x ∷ earlier)) | false ↦ noTable badTable ]
+    elim (soundEntry policy due earlier x) [ true ↦ pushEntry x (entries n policy (at + 4) (x .offset + x .size) (x ∷ earlier)) | false ↦ refused badTable ]
 
 -- "Word 0 is 1 (the format), word 1 is n, the count of definitions, 0 to 16." "The first offset is 2 + 4n." "At most 8,192 words."
 unfoldable pub soundHeader : List ℕ → Bool
@@ -55,4 +55,4 @@ soundHeader policy =
 
 unfoldable pub readTable : List ℕ → Table
 unfolding soundHeader entries
-readTable policy = elim (soundHeader policy) [ true ↦ entries (getD policy 1 0) policy 2 (2 + 4 * getD policy 1 0) [] | false ↦ noTable badHeader ]
+readTable policy = elim (soundHeader policy) [ true ↦ entries (getD policy 1 0) policy 2 (2 + 4 * getD policy 1 0) [] | false ↦ refused badHeader ]

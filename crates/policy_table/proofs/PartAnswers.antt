@@ -7,19 +7,19 @@ use native.Mathlib.Omega.{arith}
 use lib.Dec.{ltb, eqb}
 use lib.ListN.{length, getD, take, drop}
 use borrow.Author.Tests.{eq-eqb, ne-eqb, lt-ltb, le-ltb, ltb-true}
-use Rattle.refusals.specs.Table.{badTable, badHeader}
+use Rattle.refusals.specs.RefusalTable.{badTable, badHeader}
 use Rattle.rows.specs.Word.{All}
 use Rattle.rows.proofs.Case.{Case, isTrue, isFalse, split}
 use Rattle.rows.proofs.Lists.{all-at}
-use Rattle.policy.specs.Table.{Entry, entryAt, Table, table, noTable, soundEntry, push, entries, soundHeader, readTable}
-use Rattle.policy.specs.Part.{inPolicy, wholeQuery, nowhere, noEntry, placeAmong, placeOf, wordsAt, partWords}
+use Rattle.policy.specs.Table.{Entry, entryAt, Table, table, refused, soundEntry, pushEntry, entries, soundHeader, readTable}
+use Rattle.policy.specs.Part.{inPolicy, wholeQuery, nowhere, noEntry, spanAmong, partSpan, wordsAt, partWords}
 use Rattle.policy.specs.Part as Part
 use Rattle.policy_table.specs.Entries.{entryPlace, entriesFrom, tableIs}
-use Rattle.policy_table.specs.Places.{placeIs}
+use Rattle.policy_table.specs.Spans.{partSpanIs}
 use Rattle.policy_table.specs.declared.TableRead.{TableRead}
 use Rattle.policy_table.specs.declared.TableRead.the-variants as tableRead
-use Rattle.policy_table.specs.declared.parts.Place as Held
-use Rattle.policy_table.specs.declared.parts.Place.the-variants as place
+use Rattle.policy_table.specs.declared.parts.PartSpan as Held
+use Rattle.policy_table.specs.declared.parts.PartSpan.the-variants as place
 use Rattle.policy.proofs.Basics.{impossible}
 use Rattle.policy_table.proofs.TableAnswers.{Header, header-of, sound-of}
 
@@ -31,10 +31,10 @@ record Pushed (x : Entry) (t : Table) (xs : List Entry) : Type 0 where
   rest : t ≡ table ys
   is : x ∷ ys ≡ xs
 
-pushed : (x : Entry) (t : Table) (xs : List Entry) → push x t ≡ table xs → Pushed x t xs
-unfolding push
+pushed : (x : Entry) (t : Table) (xs : List Entry) → pushEntry x t ≡ table xs → Pushed x t xs
+unfolding pushEntry
 pushed x (table ys) xs e = record { ys = ys; rest = refl; is = cc }
-pushed x (noTable n) xs e = impossible cc
+pushed x (refused n) xs e = impossible cc
 
 -- n entries were read from word `at` on, each with its part inside the policy
 record Sound (policy : List ℕ) (n at : ℕ) (xs : List Entry) : Type 0 where
@@ -45,7 +45,7 @@ entries-sound : (n : ℕ) (policy : List ℕ) (at due : ℕ) (earlier xs : List 
 unfolding entries entriesFrom All
 entries-sound zero policy at due earlier xs e = go (eqb due (length policy)) e
   where
-    go : (b : Bool) → (elim b as (λ c. Table) [ true ↦ table [] | false ↦ noTable badTable ]) ≡ table xs → Sound policy 0 at xs
+    go : (b : Bool) → (elim b as (λ c. Table) [ true ↦ table [] | false ↦ refused badTable ]) ≡ table xs → Sound policy 0 at xs
     go true f = subst (Sound policy 0 at) (let g : [] ≡ xs = cc in g) (record { are = refl; parts = tt })
     go false f = impossible cc
 entries-sound (suc n) policy at due earlier xs e =
@@ -57,7 +57,7 @@ entries-sound (suc n) policy at due earlier xs e =
         let p = pushed (entryAt policy at) _ xs (rw (s, entries) at e) in
         let t = ih (p .ys) (p .rest) in
         subst (Sound policy (suc n) at) (p .is) (record { are = ap (λ ys. entryAt policy at ∷ ys) (t .are); parts = (sound-of policy due earlier (entryAt policy at) s .ends, t .parts) })
-    go ih (isFalse s) = impossible (let f : noTable badTable ≡ table xs = rw (s, entries) at e in cc)
+    go ih (isFalse s) = impossible (let f : refused badTable ≡ table xs = rw (s, entries) at e in cc)
 
 pub length-entries : (n : ℕ) (policy : List ℕ) (at : ℕ) → length (entriesFrom n policy at) ≡ n
 unfolding entriesFrom
@@ -78,7 +78,7 @@ table-sound policy xs e = go (split (soundHeader policy))
     go (isTrue h) =
         let t = entries-sound (getD policy 1 0) policy 2 (2 + 4 * getD policy 1 0) [] xs (rw (h, readTable) at e) in
         record { header = header-of policy h; are = t .are; count = ap length (t .are) ∙ length-entries (getD policy 1 0) policy 2; parts = t .parts }
-    go (isFalse h) = impossible (let f : noTable badHeader ≡ table xs = rw (h, readTable) at e in cc)
+    go (isFalse h) = impossible (let f : refused badHeader ≡ table xs = rw (h, readTable) at e in cc)
 
 -- ---- parts
 
@@ -104,72 +104,72 @@ listed-of p n e =
       parts = λ i h. subst (inside p) (entry-in n p 2 i h) (all-at (inside p) (entriesFrom n p 2) (t .parts) i noEntry (omega (arith, length-entries n p 2)));
     }
 
-pub place-none : (policy : List ℕ) (number n : ℕ) → noTable n ≡ readTable policy → inPolicy 0 0 ≡ placeOf policy number
-unfolding placeOf nowhere
-place-none policy number n e = rw (← e, placeOf)
+pub place-none : (policy : List ℕ) (number n : ℕ) → refused n ≡ readTable policy → inPolicy 0 0 ≡ partSpan policy number
+unfolding partSpan nowhere
+place-none policy number n e = rw (← e, partSpan)
 
 module _ (policy : List ℕ) (number count : ℕ) (sound : table (entriesFrom count policy 2) ≡ readTable policy) where
-  pub place-query : number ≡ 16 → wholeQuery ≡ placeOf policy number
-  unfolding placeOf placeAmong
-  place-query q = rw (← sound, placeOf) (rw (eq-eqb number 16 q, placeAmong))
+  pub place-query : number ≡ 16 → wholeQuery ≡ partSpan policy number
+  unfolding partSpan spanAmong
+  place-query q = rw (← sound, partSpan) (rw (eq-eqb number 16 q, spanAmong))
 
   module _ (other : number ≡ 16 → ⊥) where
-    pub place-past : count ≤ number → inPolicy 0 0 ≡ placeOf policy number
-    unfolding placeOf placeAmong nowhere
-    place-past h = rw (← sound, placeOf) (rw (ne-eqb number 16 other, le-ltb number (length (entriesFrom count policy 2)) (omega (arith, length-entries count policy 2)), placeAmong))
+    pub place-past : count ≤ number → inPolicy 0 0 ≡ partSpan policy number
+    unfolding partSpan spanAmong nowhere
+    place-past h = rw (← sound, partSpan) (rw (ne-eqb number 16 other, le-ltb number (length (entriesFrom count policy 2)) (omega (arith, length-entries count policy 2)), spanAmong))
 
-    pub place-entry : number < count → inPolicy (getD policy (2 + 4 * number + 2) 0) (getD policy (2 + 4 * number + 3) 0) ≡ placeOf policy number
-    unfolding placeOf placeAmong entryAt
+    pub place-entry : number < count → inPolicy (getD policy (2 + 4 * number + 2) 0) (getD policy (2 + 4 * number + 3) 0) ≡ partSpan policy number
+    unfolding partSpan spanAmong entryAt
     place-entry h =
         let x : getD (entriesFrom count policy 2) number noEntry ≡ entryAt policy (2 + 4 * number) = entry-in count policy 2 number h in
-        rw (← sound, placeOf) (rw (ne-eqb number 16 other, lt-ltb number (length (entriesFrom count policy 2)) (omega (arith, length-entries count policy 2)), placeAmong)
+        rw (← sound, partSpan) (rw (ne-eqb number 16 other, lt-ltb number (length (entriesFrom count policy 2)) (omega (arith, length-entries count policy 2)), spanAmong)
         (ap (λ (y : Entry). inPolicy (y .offset) (y .size)) (sym x)))
 
 -- a part lies inside the policy
 in-policy : (a b c d : ℕ) → inPolicy a b ≡ inPolicy c d → (a ≡ c) × (b ≡ d)
 in-policy a b c d e = (cc, cc)
 
-pub place-inside : (policy : List ℕ) (number start size : ℕ) → inPolicy start size ≡ placeOf policy number → start + size ≤ length policy
-unfolding placeOf placeAmong nowhere
+pub place-inside : (policy : List ℕ) (number start size : ℕ) → inPolicy start size ≡ partSpan policy number → start + size ≤ length policy
+unfolding partSpan spanAmong nowhere
 place-inside policy number start size e = go (readTable policy) refl (split (eqb number 16))
   where
     go : (t : Table) → readTable policy ≡ t → Case (eqb number 16) → start + size ≤ length policy
-    go (noTable n) f b =
-        let g : inPolicy start size ≡ inPolicy 0 0 = rw (f, placeOf) at e in
+    go (refused n) f b =
+        let g : inPolicy start size ≡ inPolicy 0 0 = rw (f, partSpan) at e in
         let z = in-policy start size 0 0 g in
         let z₀ = z .0 in
         let z₁ = z .1 in
         omega arith
-    go (table xs) f (isTrue b) = impossible (let g : inPolicy start size ≡ wholeQuery = rw (b, placeAmong) at (rw (f, placeOf) at e) in cc)
+    go (table xs) f (isTrue b) = impossible (let g : inPolicy start size ≡ wholeQuery = rw (b, spanAmong) at (rw (f, partSpan) at e) in cc)
     go (table xs) f (isFalse b) = pick (split (ltb number (length xs)))
       where
         pick : Case (ltb number (length xs)) → start + size ≤ length policy
         pick (isTrue l) =
-            let g : inPolicy start size ≡ inPolicy (getD xs number noEntry .offset) (getD xs number noEntry .size) = rw (b, l, placeAmong) at (rw (f, placeOf) at e) in
+            let g : inPolicy start size ≡ inPolicy (getD xs number noEntry .offset) (getD xs number noEntry .size) = rw (b, l, spanAmong) at (rw (f, partSpan) at e) in
             let z = in-policy start size _ _ g in
             let z₀ = z .0 in
             let z₁ = z .1 in
             let p = all-at (inside policy) xs (table-sound policy xs f .parts) number noEntry (ltb-true number (length xs) l) in
             omega arith
         pick (isFalse l) =
-            let g : inPolicy start size ≡ inPolicy 0 0 = rw (b, l, placeAmong) at (rw (f, placeOf) at e) in
+            let g : inPolicy start size ≡ inPolicy 0 0 = rw (b, l, spanAmong) at (rw (f, partSpan) at e) in
             let z = in-policy start size 0 0 g in
             let z₀ = z .0 in
             let z₁ = z .1 in
             omega arith
 
 -- the words of a part
-pub query-part : (policy query : List ℕ) (number : ℕ) → wholeQuery ≡ placeOf policy number → query ≡ partWords policy query number
+pub query-part : (policy query : List ℕ) (number : ℕ) → wholeQuery ≡ partSpan policy number → query ≡ partWords policy query number
 unfolding partWords wordsAt
 query-part policy query number e = ap (wordsAt policy query) e
 
-pub policy-part : (policy query : List ℕ) (number start size : ℕ) → inPolicy start size ≡ placeOf policy number → take (start + size - start) (drop start policy) ≡ partWords policy query number
+pub policy-part : (policy query : List ℕ) (number start size : ℕ) → inPolicy start size ≡ partSpan policy number → take (start + size - start) (drop start policy) ≡ partWords policy query number
 unfolding partWords wordsAt
 policy-part policy query number start size e =
     ap (λ (n : ℕ). take n (drop start policy)) (let m : start + size - start ≡ size = omega arith in m) ∙ ap (wordsAt policy query) e
 
 -- a table in hand
-pub table-refused : (policy : List ℕ) (r : TableRead) (n : ℕ) → tableIs policy r ≡ readTable policy → r ≡ tableRead.Refused n → noTable n ≡ readTable policy
+pub table-refused : (policy : List ℕ) (r : TableRead) (n : ℕ) → tableIs policy r ≡ readTable policy → r ≡ tableRead.Refused n → refused n ≡ readTable policy
 unfolding tableIs
 table-refused policy r n e is = ap (tableIs policy) (sym is) ∙ e
 
@@ -178,10 +178,10 @@ unfolding tableIs
 table-read policy r n e is = ap (tableIs policy) (sym is) ∙ e
 
 -- a place in hand
-pub place-held : (p : Part.Place) (r : Held.Place) (start size : ℕ) → placeIs r ≡ p → r ≡ place.InPolicy start size → inPolicy start size ≡ p
-unfolding placeIs
-place-held p r start size e is = ap placeIs (sym is) ∙ e
+pub place-held : (p : Part.PartSpan) (r : Held.PartSpan) (start size : ℕ) → partSpanIs r ≡ p → r ≡ place.InPolicy start size → inPolicy start size ≡ p
+unfolding partSpanIs
+place-held p r start size e is = ap partSpanIs (sym is) ∙ e
 
-pub query-held : (p : Part.Place) (r : Held.Place) → placeIs r ≡ p → r ≡ place.WholeQuery → wholeQuery ≡ p
-unfolding placeIs
-query-held p r e is = ap placeIs (sym is) ∙ e
+pub query-held : (p : Part.PartSpan) (r : Held.PartSpan) → partSpanIs r ≡ p → r ≡ place.WholeQuery → wholeQuery ≡ p
+unfolding partSpanIs
+query-held p r e is = ap partSpanIs (sym is) ∙ e

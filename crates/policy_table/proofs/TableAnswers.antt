@@ -7,37 +7,37 @@ use native.Mathlib.Omega.{arith}
 use lib.Dec.{leb, eqb}
 use lib.ListN.{length, getD, take, drop}
 use borrow.Author.Tests.{le-leb, lt-leb, eq-eqb, ne-eqb, leb-true, eqb-true}
-use Rattle.refusals.specs.Table.{badHeader, badTable}
+use Rattle.refusals.specs.RefusalTable.{badHeader, badTable}
 use Rattle.rows.specs.Name.{isName, isPolarity}
 use Rattle.rows.proofs.Case.{and-true}
-use Rattle.policy.specs.Table.{Entry, entryAt, entryWords, Table, table, noTable, named, soundEntry, push, entries, soundHeader, readTable}
+use Rattle.policy.specs.Table.{Entry, entryAt, entryWords, Table, table, refused, named, soundEntry, pushEntry, entries, soundHeader, readTable}
 use Rattle.policy_table.specs.Entries.{entryPlace, entriesFrom, entriesBefore, tableIs}
 use Rattle.policy_table.specs.declared.TableRead.the-variants as tableRead
 
 -- the header
 module _ (p : List ℕ) where
-  pub header-short : length p < 2 → false ≡ soundHeader p
+  pub short-header-unsound : length p < 2 → false ≡ soundHeader p
   unfolding soundHeader
-  header-short h = rw (lt-leb 2 (length p) h)
+  short-header-unsound h = rw (lt-leb 2 (length p) h)
 
   module _ (two : 2 ≤ length p) where
-    pub header-long : 8192 < length p → false ≡ soundHeader p
+    pub long-header-unsound : 8192 < length p → false ≡ soundHeader p
     unfolding soundHeader
-    header-long h = rw (le-leb 2 (length p) two, lt-leb (length p) 8192 h)
+    long-header-unsound h = rw (le-leb 2 (length p) two, lt-leb (length p) 8192 h)
 
     module _ (few : length p ≤ 8192) where
-      pub header-format : (getD p 0 0 ≡ 1 → ⊥) → false ≡ soundHeader p
+      pub other-format-unsound : (getD p 0 0 ≡ 1 → ⊥) → false ≡ soundHeader p
       unfolding soundHeader
-      header-format h = rw (le-leb 2 (length p) two, le-leb (length p) 8192 few, ne-eqb (getD p 0 0) 1 h)
+      other-format-unsound h = rw (le-leb 2 (length p) two, le-leb (length p) 8192 few, ne-eqb (getD p 0 0) 1 h)
 
       module _ (one : getD p 0 0 ≡ 1) where
-        pub header-count : 16 < getD p 1 0 → false ≡ soundHeader p
+        pub many-definitions-unsound : 16 < getD p 1 0 → false ≡ soundHeader p
         unfolding soundHeader
-        header-count h = rw (le-leb 2 (length p) two, le-leb (length p) 8192 few, eq-eqb (getD p 0 0) 1 one, lt-leb (getD p 1 0) 16 h)
+        many-definitions-unsound h = rw (le-leb 2 (length p) two, le-leb (length p) 8192 few, eq-eqb (getD p 0 0) 1 one, lt-leb (getD p 1 0) 16 h)
 
-        pub header-fits : {at : ℕ} → getD p 1 0 ≤ 16 → at ≡ entryPlace (getD p 1 0) → leb at (length p) ≡ soundHeader p
+        pub header-sound-if-table-fits : {at : ℕ} → getD p 1 0 ≤ 16 → at ≡ entryPlace (getD p 1 0) → leb at (length p) ≡ soundHeader p
         unfolding soundHeader
-        header-fits h e = rw (le-leb 2 (length p) two, le-leb (length p) 8192 few, eq-eqb (getD p 0 0) 1 one, le-leb (getD p 1 0) 16 h) (ap (λ a. leb a (length p)) e)
+        header-sound-if-table-fits h e = rw (le-leb 2 (length p) two, le-leb (length p) 8192 few, eq-eqb (getD p 0 0) 1 one, le-leb (getD p 1 0) 16 h) (ap (λ a. leb a (length p)) e)
 
 -- what a sound header gives
 pub record Header (p : List ℕ) : Type 0 where
@@ -76,33 +76,33 @@ none-named p x (suc j) h = absurd (omega arith)
 
 -- an entry's rules
 module _ (p : List ℕ) (due : ℕ) (before : List Entry) (x : Entry) where
-  pub entry-name : 65535 < x .name → false ≡ soundEntry p due before x
+  pub name-over-unsound : 65535 < x .name → false ≡ soundEntry p due before x
   unfolding soundEntry
-  entry-name h = rw (lt-leb (x .name) 65535 h)
+  name-over-unsound h = rw (lt-leb (x .name) 65535 h)
 
   module _ (a : x .name ≤ 65535) where
-    pub entry-polarity : 1 < x .polarity → false ≡ soundEntry p due before x
+    pub polarity-over-unsound : 1 < x .polarity → false ≡ soundEntry p due before x
     unfolding soundEntry
-    entry-polarity h = rw (le-leb (x .name) 65535 a, lt-leb (x .polarity) 1 h)
+    polarity-over-unsound h = rw (le-leb (x .name) 65535 a, lt-leb (x .polarity) 1 h)
 
     module _ (b : x .polarity ≤ 1) where
-      pub entry-offset : (x .offset ≡ due → ⊥) → false ≡ soundEntry p due before x
+      pub offset-not-due-unsound : (x .offset ≡ due → ⊥) → false ≡ soundEntry p due before x
       unfolding soundEntry
-      entry-offset h = rw (le-leb (x .name) 65535 a, le-leb (x .polarity) 1 b, ne-eqb (x .offset) due h)
+      offset-not-due-unsound h = rw (le-leb (x .name) 65535 a, le-leb (x .polarity) 1 b, ne-eqb (x .offset) due h)
 
       module _ (c : x .offset ≡ due) where
-        pub entry-empty : x .size ≡ 0 → false ≡ soundEntry p due before x
+        pub empty-part-unsound : x .size ≡ 0 → false ≡ soundEntry p due before x
         unfolding soundEntry
-        entry-empty h = rw (le-leb (x .name) 65535 a, le-leb (x .polarity) 1 b, eq-eqb (x .offset) due c, lt-leb 1 (x .size) (omega arith))
+        empty-part-unsound h = rw (le-leb (x .name) 65535 a, le-leb (x .polarity) 1 b, eq-eqb (x .offset) due c, lt-leb 1 (x .size) (omega arith))
 
         module _ (d : x .size ≡ 0 → ⊥) where
-          pub entry-past : due ≤ length p → length p - due < x .size → false ≡ soundEntry p due before x
+          pub part-past-policy-unsound : due ≤ length p → length p - due < x .size → false ≡ soundEntry p due before x
           unfolding soundEntry
-          entry-past l h = rw (le-leb (x .name) 65535 a, le-leb (x .polarity) 1 b, eq-eqb (x .offset) due c, le-leb 1 (x .size) (omega arith), lt-leb (x .offset + x .size) (length p) (omega arith))
+          part-past-policy-unsound l h = rw (le-leb (x .name) 65535 a, le-leb (x .polarity) 1 b, eq-eqb (x .offset) due c, le-leb 1 (x .size) (omega arith), lt-leb (x .offset + x .size) (length p) (omega arith))
 
-          pub entry-else : {r : Bool} → due ≤ length p → x .size ≤ length p - due → r ≡ named before x → not r ≡ soundEntry p due before x
+          pub entry-sound-if-not-named : {r : Bool} → due ≤ length p → x .size ≤ length p - due → r ≡ named before x → not r ≡ soundEntry p due before x
           unfolding soundEntry
-          entry-else l h e = rw (le-leb (x .name) 65535 a, le-leb (x .polarity) 1 b, eq-eqb (x .offset) due c, le-leb 1 (x .size) (omega arith), le-leb (x .offset + x .size) (length p) (omega arith)) (ap not e)
+          entry-sound-if-not-named l h e = rw (le-leb (x .name) 65535 a, le-leb (x .polarity) 1 b, eq-eqb (x .offset) due c, le-leb 1 (x .size) (omega arith), le-leb (x .offset + x .size) (length p) (omega arith)) (ap not e)
 
 -- the entry at a place that is known by another name
 pub placed : (p : List ℕ) (due i : ℕ) {at : ℕ} {b : Bool} → at ≡ entryPlace i → b ≡ soundEntry p due (entriesBefore p i) (entryAt p at) → b ≡ soundEntry p due (entriesBefore p i) (entryAt p (entryPlace i))
@@ -126,15 +126,15 @@ sound-of p due before x e =
 -- entries put in front of a table, the nearest first
 pub putBack : List Entry → Table → Table
 putBack [] t = t
-putBack (x ∷ xs) t = putBack xs (push x t)
+putBack (x ∷ xs) t = putBack xs (pushEntry x t)
 
-back-refused : (xs : List Entry) (m : ℕ) → putBack xs (noTable m) ≡ noTable m
-unfolding putBack push
+back-refused : (xs : List Entry) (m : ℕ) → putBack xs (refused m) ≡ refused m
+unfolding putBack pushEntry
 back-refused [] m = refl
 back-refused (x ∷ xs) m = back-refused xs m
 
 back-table : (p : List ℕ) (i m : ℕ) → putBack (entriesBefore p i) (table (entriesFrom m p (entryPlace i))) ≡ table (entriesFrom (i + m) p 2)
-unfolding putBack push entriesBefore entriesFrom
+unfolding putBack pushEntry entriesBefore entriesFrom
 back-table p zero m = let e : m ≡ 0 + m = omega arith in ap (λ n. table (entriesFrom n p 2)) e
 back-table p (suc i) m =
     let e : entryPlace (suc i) ≡ entryPlace i + 4 = omega arith in
@@ -147,16 +147,16 @@ pub record Reading (p : List ℕ) (i due : ℕ) : Type 0 where
   pub within : due ≤ length p
   pub few : i ≤ getD p 1 0
 
-pub table-unheaded : (p : List ℕ) → soundHeader p ≡ false → tableIs p (tableRead.Refused badHeader) ≡ readTable p
+pub unsound-header-refused : (p : List ℕ) → soundHeader p ≡ false → tableIs p (tableRead.Refused badHeader) ≡ readTable p
 unfolding tableIs readTable
-table-unheaded p e = sym (ap (λ b. elim b as (λ c. Table) [ true ↦ entries (getD p 1 0) p 2 (2 + 4 * getD p 1 0) [] | false ↦ noTable badHeader ]) e)
+unsound-header-refused p e = sym (ap (λ b. elim b as (λ c. Table) [ true ↦ entries (getD p 1 0) p 2 (2 + 4 * getD p 1 0) [] | false ↦ refused badHeader ]) e)
 
-pub table-starts : (p : List ℕ) (due : ℕ) → soundHeader p ≡ true → due ≡ entryPlace (getD p 1 0) → Reading p 0 due
+pub none-read : (p : List ℕ) (due : ℕ) → soundHeader p ≡ true → due ≡ entryPlace (getD p 1 0) → Reading p 0 due
 unfolding readTable putBack entriesBefore
-table-starts p due e d =
+none-read p due e d =
     let f : getD p 1 0 ≡ getD p 1 0 - 0 = omega arith in
     record {
-      rest = ap (λ b. elim b as (λ c. Table) [ true ↦ entries (getD p 1 0) p 2 (2 + 4 * getD p 1 0) [] | false ↦ noTable badHeader ]) e ∙ (ap (λ a. entries (getD p 1 0) p 2 a []) (sym d) ∙ ap (λ n. entries n p 2 due []) f);
+      rest = ap (λ b. elim b as (λ c. Table) [ true ↦ entries (getD p 1 0) p 2 (2 + 4 * getD p 1 0) [] | false ↦ refused badHeader ]) e ∙ (ap (λ a. entries (getD p 1 0) p 2 a []) (sym d) ∙ ap (λ n. entries n p 2 due []) f);
       within = omega (arith, header-of p e .fits);
       few = omega arith;
     }
@@ -166,24 +166,24 @@ module _ (p : List ℕ) (i due : ℕ) (r : Reading p i due) (more : i < getD p 1
   next = entryAt p (entryPlace i)
 
   one-entry : (b : Bool) → soundEntry p due (entriesBefore p i) next ≡ b →
-      readTable p ≡ putBack (entriesBefore p i) (elim b [ true ↦ push next (entries (getD p 1 0 - (i + 1)) p (entryPlace i + 4) (next .offset + next .size) (next ∷ entriesBefore p i)) | false ↦ noTable badTable ])
+      readTable p ≡ putBack (entriesBefore p i) (elim b [ true ↦ pushEntry next (entries (getD p 1 0 - (i + 1)) p (entryPlace i + 4) (next .offset + next .size) (next ∷ entriesBefore p i)) | false ↦ refused badTable ])
   unfolding entries next
   one-entry b e =
       let f : getD p 1 0 - i ≡ suc (getD p 1 0 - (i + 1)) = omega arith in
       r .rest
       ∙ (ap (λ n. putBack (entriesBefore p i) (entries n p (entryPlace i) due (entriesBefore p i))) f
       ∙ ap (λ b. putBack (entriesBefore p i) (elim b as (λ c. Table) [
-        | true ↦ push (entryAt p (entryPlace i)) (entries (getD p 1 0 - (i + 1)) p (entryPlace i + 4) (entryAt p (entryPlace i) .offset + entryAt p (entryPlace i) .size) (entryAt p (entryPlace i) ∷ entriesBefore p i))
-        | false ↦ noTable badTable
+        | true ↦ pushEntry (entryAt p (entryPlace i)) (entries (getD p 1 0 - (i + 1)) p (entryPlace i + 4) (entryAt p (entryPlace i) .offset + entryAt p (entryPlace i) .size) (entryAt p (entryPlace i) ∷ entriesBefore p i))
+        | false ↦ refused badTable
       ])) e)
 
-  pub table-unsound : soundEntry p due (entriesBefore p i) (entryAt p (entryPlace i)) ≡ false → tableIs p (tableRead.Refused badTable) ≡ readTable p
+  pub unsound-entry-refused : soundEntry p due (entriesBefore p i) (entryAt p (entryPlace i)) ≡ false → tableIs p (tableRead.Refused badTable) ≡ readTable p
   unfolding tableIs next
-  table-unsound e = sym (one-entry false e ∙ back-refused (entriesBefore p i) badTable)
+  unsound-entry-refused e = sym (one-entry false e ∙ back-refused (entriesBefore p i) badTable)
 
-  pub table-goes-on : {later : ℕ} → soundEntry p due (entriesBefore p i) (entryAt p (entryPlace i)) ≡ true → later ≡ due + getD p (entryPlace i + 3) 0 → Reading p (i + 1) later
+  pub sound-entry-read : {later : ℕ} → soundEntry p due (entriesBefore p i) (entryAt p (entryPlace i)) ≡ true → later ≡ due + getD p (entryPlace i + 3) 0 → Reading p (i + 1) later
   unfolding putBack entriesBefore entryAt next
-  table-goes-on {later} e d =
+  sound-entry-read {later} e d =
       let s = sound-of p due (entriesBefore p i) (entryAt p (entryPlace i)) e in
       let f : i + 1 ≡ suc i = omega arith in
       let g : entryPlace i + 4 ≡ entryPlace (suc i) = omega arith in
@@ -195,11 +195,11 @@ module _ (p : List ℕ) (i due : ℕ) (r : Reading p i due) (more : i < getD p 1
       }
 
 module _ (p : List ℕ) (i due : ℕ) (r : Reading p i due) (done : getD p 1 0 ≤ i) where
-  at-last : (b : Bool) → eqb due (length p) ≡ b → readTable p ≡ putBack (entriesBefore p i) (elim b [ true ↦ table [] | false ↦ noTable badTable ])
+  at-last : (b : Bool) → eqb due (length p) ≡ b → readTable p ≡ putBack (entriesBefore p i) (elim b [ true ↦ table [] | false ↦ refused badTable ])
   unfolding entries
   at-last b e =
       let f : getD p 1 0 - i ≡ 0 = omega arith in
-      r .rest ∙ (ap (λ n. putBack (entriesBefore p i) (entries n p (entryPlace i) due (entriesBefore p i))) f ∙ ap (λ b. putBack (entriesBefore p i) (elim b as (λ c. Table) [ true ↦ table [] | false ↦ noTable badTable ])) e)
+      r .rest ∙ (ap (λ n. putBack (entriesBefore p i) (entries n p (entryPlace i) due (entriesBefore p i))) f ∙ ap (λ b. putBack (entriesBefore p i) (elim b as (λ c. Table) [ true ↦ table [] | false ↦ refused badTable ])) e)
 
   pub table-ends : due ≡ length p → tableIs p (tableRead.Sound (getD p 1 0)) ≡ readTable p
   unfolding tableIs entriesFrom

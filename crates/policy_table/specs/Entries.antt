@@ -1,7 +1,7 @@
 -- The entries of a policy's table by their places, and what the code's reader of the table answers.
 use Prim.Native.Nat.{ℕ, zero, suc, _+_, _*_}
 use mathlib.Core.List.{List, [], _∷_}
-use Rattle.policy.specs.Table.{Entry, entryAt, Table, table, noTable}
+use Rattle.policy.specs.Table.{Entry, entryAt, Table, table, refused}
 use Rattle.policy_table.specs.declared.TableRead.{TableRead}
 use Rattle.policy_table.specs.declared.TableRead.the-variants as tableRead
 
@@ -24,4 +24,4 @@ entriesBefore policy (suc i) = entryAt policy (entryPlace i) ∷ entriesBefore p
 unfoldable pub tableIs : List ℕ → TableRead → Table
 unfolding entriesFrom
 tableIs policy (tableRead.Sound n) = table (entriesFrom n policy 2)
-tableIs policy (tableRead.Refused m) = noTable m
+tableIs policy (tableRead.Refused m) = refused m

@@ -6,6 +6,7 @@ ghost use mathlib.Core.Path.{_≡_};
 ghost use lib.ListN.{length};
 ghost use Rattle.policy.specs.Table.{entryAt, entryWords, named, soundEntry, soundHeader, readTable};
 ghost use Rattle.policy_table.specs.Entries.{entryPlace, entriesBefore, tableIs};
+use row_words::wide;
 use rows::LAST_NAME;
 
 const FORMAT: u32 = 1;
@@ -18,12 +19,6 @@ const MOST_DEFINITIONS: u32 = 16;
 pub enum TableRead {
     Sound(u32),
     Refused(u32),
-}
-
-pub fn wide(x: u32) -> usize
-    ensures { λ r. ⌜ r ≡ x ⌝ }
-{
-    x as usize
 }
 
 // Where entry `i` begins: name, polarity, offset, length.

@@ -12,13 +12,13 @@ use Rattle.rows.proofs.LayoutLaws.{rows-count}
 use Rattle.policy.specs.Syntax.{Slot, Body}
 use Rattle.policy.specs.Words.{fresh}
 use Rattle.meaning.specs.Values.{Values}
-use Rattle.meaning.specs.Reading.{Answer, done, refused, drawable, drawEach, read}
+use Rattle.meaning.specs.Reading.{Result, done, refused, drawable, drawEach, read}
 use Rattle.read_values.specs.Values.{Bound, Unchanged}
 use Rattle.read_values.specs.Places.{StandsPattern, StandsBody, SomeExpr, SomePattern, PastExpr, PastPattern}
 use Rattle.read_values.specs.Answers.{Filled, IfDone}
 use Rattle.read_values.specs.From.{From}
 use Rattle.read_steps.specs.Areas.{Gathering, Kept}
-use Rattle.read_steps.specs.Steps.{rowsAnswer, SayDrawn}
+use Rattle.read_steps.specs.Steps.{rowsReadIs, SayDrawn}
 use Rattle.read_expressions.specs.Readers.{gathering, MeansBody, MeansEach, AskExpr, AskBody, AskDraw, AskEach, SayExpr, SayBody, SayDraw, SayEach}
 use Rattle.read_values.proofs.Places.{expr-some, inside, slots-scope}
 use Rattle.read_values.proofs.Past.{pattern-here, rest-is, rest-here}
@@ -42,7 +42,7 @@ pub record Drawing (f : From) (ws : List ℕ) (pattern rest left : ℕ) (first :
   pub unchanged : Unchanged count first values
   pub gathering : Gathering area
   pub kept : Kept (free + 642) entry area
-  pub means : (a : Answer (List Row)) → MeansEach f ws pattern rest left count (take count first) (drop i (rowsIn (drop free entry))) used (rowsIn area) a →
+  pub means : (a : Result (List Row)) → MeansEach f ws pattern rest left count (take count first) (drop i (rowsIn (drop free entry))) used (rowsIn area) a →
       MeansEach f ws pattern rest left count (take count first) (rowsIn (drop free entry)) k (rowsIn entry) a
 
 module _ {f : From} {ws : List ℕ} {pattern rest left : ℕ} {values : List ℕ} {count : ℕ} {entry : List ℕ} {free : ℕ} (q : AskEach f ws pattern rest left values count entry free) where
@@ -73,7 +73,7 @@ module _ {f : From} {ws : List ℕ} {pattern rest left : ℕ} {first : List ℕ}
   ask-next = (bound-after (d .unchanged) (d .asked .ask .bound), each-slots (d .asked), filled-same drawn-front (d .asked .drawn))
 
   pub each-done : listed ≤ i → SayEach f ws pattern rest left first count k free entry (Done used) values now
-  unfolding IfDone rowsAnswer drawEach
+  unfolding IfDone rowsReadIs drawEach
   each-done h = record {
     unchanged = d .unchanged;
     gathering = d .gathering;
@@ -89,7 +89,7 @@ module _ {f : From} {ws : List ℕ} {pattern rest left : ℕ} {first : List ℕ}
         drawn-since (d .unchanged) (subst (λ (xs : List Row). SayDrawn ws pattern values count xs i used r later) rows said)
 
     pub each-refused : {n : ℕ} → r ≡ Drawn.the-variants.Refused n → SayEach f ws pattern rest left first count k free entry (Refused n) later now
-    unfolding IfDone rowsAnswer
+    unfolding IfDone rowsReadIs
     each-refused {n} e = record {
       unchanged = since .unchanged;
       gathering = tt;
@@ -98,7 +98,7 @@ module _ {f : From} {ws : List ℕ} {pattern rest left : ℕ} {first : List ℕ}
     }
 
     pub each-ended : {j : ℕ} → r ≡ Drawn.the-variants.End j → SayEach f ws pattern rest left first count k free entry (Done j) later now
-    unfolding IfDone rowsAnswer
+    unfolding IfDone rowsReadIs
     each-ended {j} e = record {
       unchanged = since .unchanged;
       gathering = d .gathering;
@@ -140,11 +140,11 @@ module _ {f : From} {ws : List ℕ} {pattern rest left : ℕ} {first : List ℕ}
         then-still = let c = scope-is (d .asked .slots) in unchanged-then (since .unchanged) (unchanged-less (omega arith) (s .unchanged))
 
         pub drawing-on : {j : ℕ} → length after ≡ length now → o ≡ Done j → Drawing f ws pattern rest left first count k free entry listed last after j next
-        unfolding IfDone rowsAnswer
+        unfolding IfDone rowsReadIs
         drawing-on {j} l h =
             let n = drawn-inside since e in
             let g : MeansBody f ws rest left scope (take scope later) one (rowsIn now) (done (rowsIn after) j) =
-            subst (λ (x : Read). MeansBody f ws rest left scope (take scope later) one (rowsIn now) (rowsAnswer x after)) h (s .means) in
+            subst (λ (x : Read). MeansBody f ws rest left scope (take scope later) one (rowsIn now) (rowsReadIs x after)) h (s .means) in
             record {
               asked = d .asked;
               all = d .all;
@@ -157,10 +157,10 @@ module _ {f : From} {ws : List ℕ} {pattern rest left : ℕ} {first : List ℕ}
             }
 
         pub each-stopped : {n : ℕ} → o ≡ Refused n → SayEach f ws pattern rest left first count k free entry (Refused n) last after
-        unfolding IfDone rowsAnswer
+        unfolding IfDone rowsReadIs
         each-stopped {n} h =
             let g : MeansBody f ws rest left scope (take scope later) one (rowsIn now) (refused n) =
-            subst (λ (x : Read). MeansBody f ws rest left scope (take scope later) one (rowsIn now) (rowsAnswer x after)) h (s .means) in
+            subst (λ (x : Read). MeansBody f ws rest left scope (take scope later) one (rowsIn now) (rowsReadIs x after)) h (s .means) in
             record {
               unchanged = then-still;
               gathering = tt;
@@ -199,7 +199,7 @@ module _ {f : From} {ws : List ℕ} {at left : ℕ} {values : List ℕ} {count :
     drawn e = operand area free draw-inside (q .ask .behind) size s e
 
     pub draw-refused : {n : ℕ} → r ≡ Refused n → SayDraw f ws at left values count k free area (Refused n) later (givenBack area free ys draw-inside size)
-    unfolding read IfDone rowsAnswer
+    unfolding read IfDone rowsReadIs
     draw-refused e = record {
       unchanged = s .unchanged;
       gathering = tt;
@@ -216,7 +216,7 @@ module _ {f : From} {ws : List ℕ} {at left : ℕ} {values : List ℕ} {count :
 
   module _ {k : ℕ} {later back : List ℕ} {before : ℕ} (u : Unchanged count values later) (o : Operand f ws at values count k area free back before) where
     pub draw-complement : (getD back free 0 ≡ 0 → ⊥) → SayDraw f ws at left values count k free area (Refused 12) later back
-    unfolding read IfDone rowsAnswer drawable setIn
+    unfolding read IfDone rowsReadIs drawable setIn
     draw-complement h =
         let w : setIn (drop free back) ≡ allBut (rowsIn (drop free back)) = complement (getD (drop free back) 0 0) (rowsIn (drop free back)) (λ e. h (sym (first-word free back) ∙ e)) in
         record {
@@ -248,9 +248,9 @@ module _ {f : From} {ws : List ℕ} {at left : ℕ} {values : List ℕ} {count :
       say-each z {r} {last} {after} g =
           let w : setIn (drop free back) ≡ only (rowsIn (drop free back)) = finite-set (drop free back) (first-word free back ∙ z) in
           let stay : rowsIn back ≡ rowsIn area = back-rows (o .lent) (q .ask .gathering) in
-          let means : MeansEach f ws pattern rest left count (take count values) (rowsIn (drop free back)) before (rowsIn area) (rowsAnswer r after) =
-          subst (λ (vs : Values). MeansEach f ws pattern rest left count vs (rowsIn (drop free back)) before (rowsIn area) (rowsAnswer r after)) (u .front)
-          (subst (λ (found : List Row). MeansEach f ws pattern rest left count (take count later) (rowsIn (drop free back)) before found (rowsAnswer r after)) stay (g .means)) in
+          let means : MeansEach f ws pattern rest left count (take count values) (rowsIn (drop free back)) before (rowsIn area) (rowsReadIs r after) =
+          subst (λ (vs : Values). MeansEach f ws pattern rest left count vs (rowsIn (drop free back)) before (rowsIn area) (rowsReadIs r after)) (u .front)
+          (subst (λ (found : List Row). MeansEach f ws pattern rest left count (take count later) (rowsIn (drop free back)) before found (rowsReadIs r after)) stay (g .means)) in
           record {
             unchanged = unchanged-then u (g .unchanged);
             gathering = g .gathering;

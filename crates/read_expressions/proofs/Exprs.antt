@@ -14,13 +14,13 @@ use Rattle.rows.specs.Layout.{setIn}
 use Rattle.policy.specs.Decode.{isNode}
 use Rattle.policy.specs.Syntax.{Expr, leaf, union, difference, comprehension}
 use Rattle.meaning.specs.Values.{Values, rowOf}
-use Rattle.meaning.specs.Reading.{Answer, done, refused, Reading, after, small, read}
+use Rattle.meaning.specs.Reading.{Result, done, refused, Reading, after, small, read}
 use Rattle.read_values.specs.Values.{Unchanged}
 use Rattle.read_values.specs.Places.{Stands, SomeRow, SomeExpr, PastExpr}
-use Rattle.read_values.specs.Answers.{Filled, Empty, setAnswer, testedAnswer, IfDone}
+use Rattle.read_values.specs.Answers.{Filled, Empty, setReadIs, testedIs, IfDone}
 use Rattle.read_values.specs.From.{From}
 use Rattle.read_steps.specs.Areas.{Gathering}
-use Rattle.read_steps.specs.Steps.{rowsAnswer, combined, SayCombined, SayHas}
+use Rattle.read_steps.specs.Steps.{rowsReadIs, combined, SayCombined, SayHas}
 use Rattle.read_leaves.specs.Leaves.{AskLeaf, SayLeaf, SayLeafHas}
 use Rattle.read_expressions.specs.Room.{roomOf}
 use Rattle.read_expressions.specs.Readers.{reading, gathering, Means, AskExpr, AskHas, AskTwo, AskBody, SayExpr, SayExprHas, SayTwo, SayBody}
@@ -35,24 +35,24 @@ use Rattle.read_values.specs.declared.Tested as Tested
 
 -- ---- readings one after the other
 
-pub after-done : {A B : Type 0} {m : Answer A} {x : A} {j : ℕ} (g : A → Reading B) {r : Answer B} → m ≡ done x j → g x j ≡ r → after m g ≡ r
+pub after-done : {A B : Type 0} {m : Result A} {x : A} {j : ℕ} (g : A → Reading B) {r : Result B} → m ≡ done x j → g x j ≡ r → after m g ≡ r
 unfolding after
-after-done {A} g e h = ap (λ (z : Answer A). after z g) e ∙ h
+after-done {A} g e h = ap (λ (z : Result A). after z g) e ∙ h
 
-pub after-refused : {A B : Type 0} {m : Answer A} {n : ℕ} (g : A → Reading B) → m ≡ refused n → after m g ≡ refused n
+pub after-refused : {A B : Type 0} {m : Result A} {n : ℕ} (g : A → Reading B) → m ≡ refused n → after m g ≡ refused n
 unfolding after
-after-refused {A} g e = ap (λ (z : Answer A). after z g) e
+after-refused {A} g e = ap (λ (z : Result A). after z g) e
 
 -- ---- an answer taken apart
 
 module _ {f : From} {ws : List ℕ} {at : ℕ} {values : List ℕ} {count k : ℕ} {r : Read} {later area : List ℕ} (s : SayExpr f ws at values count k r later area) where
   pub done-means : {j : ℕ} → r ≡ Done j → Means f ws at count (take count values) k (done (setIn area) j)
-  unfolding setAnswer
-  done-means e = subst (λ (q : Read). Means f ws at count (take count values) k (setAnswer q area)) e (s .means)
+  unfolding setReadIs
+  done-means e = subst (λ (q : Read). Means f ws at count (take count values) k (setReadIs q area)) e (s .means)
 
   pub refused-means : {n : ℕ} → r ≡ Refused n → Means f ws at count (take count values) k (refused n)
-  unfolding setAnswer
-  refused-means e = subst (λ (q : Read). Means f ws at count (take count values) k (setAnswer q area)) e (s .means)
+  unfolding setReadIs
+  refused-means e = subst (λ (q : Read). Means f ws at count (take count values) k (setReadIs q area)) e (s .means)
 
   pub done-filled : {j : ℕ} → r ≡ Done j → Filled area
   unfolding IfDone
@@ -63,7 +63,7 @@ module _ {f : From} {ws : List ℕ} {at : ℕ} {values : List ℕ} {count k : �
   expr-since u = record {
     unchanged = unchanged-then u (s .unchanged);
     filled = s .filled;
-    means = subst (λ (vs : Values). Means f ws at count vs k (setAnswer r area)) (u .front) (s .means);
+    means = subst (λ (vs : Values). Means f ws at count vs k (setReadIs r area)) (u .front) (s .means);
   }
 
 -- ---- what the callees are asked
@@ -123,7 +123,7 @@ module _ {f : From} {ws : List ℕ} {at : ℕ} {values : List ℕ} {count k : �
     filled = g .filled;
     means = record {
       says = λ e s.
-          on-leaf (λ x. Stands (f .known) count ws at x → reading f x (take count values) k ≡ setAnswer r area) s c (λ x h. g .means count x (in-leaf h)) s;
+          on-leaf (λ x. Stands (f .known) count ws at x → reading f x (take count values) k ≡ setReadIs r area) s c (λ x h. g .means count x (in-leaf h)) s;
     };
   }
 
@@ -135,7 +135,7 @@ module _ {f : From} {ws : List ℕ} {at : ℕ} {values : List ℕ} {count k : �
       filled = g .filled;
       means = record {
         says = λ e s.
-            on-union (λ x. Stands (f .known) count ws at x → reading f x (take count values) k ≡ setAnswer r area) s c (λ x y h. g .means .says x y (in-union h)) s;
+            on-union (λ x. Stands (f .known) count ws at x → reading f x (take count values) k ≡ setReadIs r area) s c (λ x y h. g .means .says x y (in-union h)) s;
       };
     }
 
@@ -146,7 +146,7 @@ module _ {f : From} {ws : List ℕ} {at : ℕ} {values : List ℕ} {count k : �
       filled = g .filled;
       means = record {
         says = λ e s.
-            on-difference (λ x. Stands (f .known) count ws at x → reading f x (take count values) k ≡ setAnswer r area) s c (λ x y h. g .means .says x y (in-difference h)) s;
+            on-difference (λ x. Stands (f .known) count ws at x → reading f x (take count values) k ≡ setReadIs r area) s c (λ x y h. g .means .says x y (in-difference h)) s;
       };
     }
 
@@ -161,8 +161,8 @@ unfolding IfDone
 gathered-filled (Done j) area g = g .filled
 gathered-filled (Refused n) area g = tt
 
-gathered-set : (r : Read) (area : List ℕ) → IfDone Gathering r area → after (rowsAnswer r area) (λ xs i. done (only xs) i) ≡ setAnswer r area
-unfolding IfDone rowsAnswer setAnswer after
+gathered-set : (r : Read) (area : List ℕ) → IfDone Gathering r area → after (rowsReadIs r area) (λ xs i. done (only xs) i) ≡ setReadIs r area
+unfolding IfDone rowsReadIs setReadIs after
 gathered-set (Done j) area g = ap (λ (s : RowSet). done s j) (sym (finite-set area (g .finite)))
 gathered-set (Refused n) area g = refl
 
@@ -174,11 +174,11 @@ say-comprehension {f} {ws} {at} {values} {count} {k} {clear} {r} {later} {area} 
   filled = gathered-filled r area (g .gathering);
   means = record {
     says = λ e s.
-        on-comprehension (λ x. Stands (f .known) count ws at x → reading f x (take count values) k ≡ setAnswer r area) s c
+        on-comprehension (λ x. Stands (f .known) count ws at x → reading f x (take count values) k ≡ setReadIs r area) s c
         (λ b h.
-        let b-is : gathering f b (take count values) [] k ≡ rowsAnswer r area =
+        let b-is : gathering f b (take count values) [] k ≡ rowsReadIs r area =
         ap (λ (xs : List Row). gathering f b (take count values) xs k) (sym (m .none)) ∙ g .means .says b (in-comprehension h .body) in
-        ap (λ (z : Answer (List Row)). after z (λ xs i. done (only xs) i)) b-is ∙ gathered-set r area (g .gathering)) s;
+        ap (λ (z : Result (List Row)). after z (λ xs i. done (only xs) i)) b-is ∙ gathered-set r area (g .gathering)) s;
   };
 }
 
@@ -203,12 +203,12 @@ module _ {f : From} {ws : List ℕ} {at : ℕ} {values : List ℕ} {count : ℕ}
 
 module _ {f : From} {ws : List ℕ} {at : ℕ} {values : List ℕ} {count k : ℕ} where
   pub say-left-refused : {minus : Bool} {r : Read} {left later area : List ℕ} {n : ℕ} → SayExpr f ws at values count k r later left → r ≡ Refused n → SayTwo f ws at minus values count k (Refused n) later area
-  unfolding IfDone setAnswer
+  unfolding IfDone setReadIs
   say-left-refused {n} s e = record { unchanged = s .unchanged; filled = tt; means = record { says = λ x y h. after-refused _ (refused-means s e .says x (h .left)) } }
 
   module _ {r₁ : Read} {left middle : List ℕ} {j second : ℕ} (s₁ : SayExpr f ws at values count k r₁ middle left) (e₁ : r₁ ≡ Done j) (p : PastExpr ws at second) where
     pub say-right-refused : {minus : Bool} {r : Read} {later right area : List ℕ} {n : ℕ} → SayExpr f ws second middle count j r later right → r ≡ Refused n → SayTwo f ws at minus values count k (Refused n) later area
-    unfolding IfDone setAnswer
+    unfolding IfDone setReadIs
     say-right-refused s e =
         let since = expr-since s (s₁ .unchanged) in
         record {
@@ -252,18 +252,18 @@ module _ {f : From} {ws : List ℕ} {at row : ℕ} {values : List ℕ} {count k 
     unchanged = unchanged-self;
     means = record {
       says = λ e s ts t.
-          on-leaf (λ x. Stands (f .known) count ws at x → after (reading f x (take count values) k) (λ y i. done (has y (rowOf (take count values) ts)) i) ≡ testedAnswer r) s c
+          on-leaf (λ x. Stands (f .known) count ws at x → after (reading f x (take count values) k) (λ y i. done (has y (rowOf (take count values) ts)) i) ≡ testedIs r) s c
           (λ x h. g .means count x (in-leaf h) count ts t) s;
     };
   }
 
   module _ {r : Read} {later area : List ℕ} (s : SayExpr f ws at values count k r later area) where
     pub say-has-refused : {n : ℕ} → r ≡ Refused n → SayExprHas f ws at row values count k (Tested.the-variants.Refused n) later
-    unfolding testedAnswer
+    unfolding testedIs
     say-has-refused e = record { unchanged = s .unchanged; means = record { says = λ x h ts t. after-refused _ (refused-means s e .says x h) } }
 
     -- the row was looked for in the set that was read
-    pub say-has : {j : ℕ} {b : Bool} {o : Tested.Tested} → r ≡ Done j → SayHas ws row (take count later) area b → testedAnswer o ≡ done b j → SayExprHas f ws at row values count k o later
+    pub say-has : {j : ℕ} {b : Bool} {o : Tested.Tested} → r ≡ Done j → SayHas ws row (take count later) area b → testedIs o ≡ done b j → SayExprHas f ws at row values count k o later
     say-has {j} {b} {o} e h told = record {
       unchanged = s .unchanged;
       means = record {

@@ -15,14 +15,14 @@ use Rattle.rows.proofs.Case.{never}
 use Rattle.policy.specs.Syntax.{Term, Expr, Body, absent}
 use Rattle.policy.specs.Words.{guardCount}
 use Rattle.meaning.specs.Values.{Values, value, rowOf}
-use Rattle.meaning.specs.Reading.{Answer, done, refused, Reading, after, read}
+use Rattle.meaning.specs.Reading.{Result, done, refused, Reading, after, read}
 use Rattle.meaning.proofs.Steps.{either}
 use Rattle.read_values.specs.Values.{Unchanged, passing}
 use Rattle.read_values.specs.Places.{StandsBody, StandsAbsent, SomeRow, SomeExpr, SomeGuard, PastRow, PastExpr, IsGuard}
-use Rattle.read_values.specs.Answers.{Filled, testedAnswer, IfDone}
+use Rattle.read_values.specs.Answers.{Filled, testedIs, IfDone}
 use Rattle.read_values.specs.From.{From}
 use Rattle.read_steps.specs.Areas.{Gathering, Kept}
-use Rattle.read_steps.specs.Steps.{rowsAnswer, SayHead}
+use Rattle.read_steps.specs.Steps.{rowsReadIs, SayHead}
 use Rattle.read_expressions.specs.Room.{roomOf, bodyRoom}
 use Rattle.read_expressions.specs.Readers.{reading, gathering, Means, MeansBody, AskHas, AskBody, AskDraw, AskAbsent, SayExpr, SayExprHas, SayBody, SayDraw, SayAbsent}
 use Rattle.read_values.proofs.Places.{on-head, on-draw, on-same, on-different, on-absent, in-head, in-draw, in-same, in-different, in-absent, expr-some, inside, row-length}
@@ -42,11 +42,11 @@ use Rattle.policy.proofs.Guard.{the-type}
 
 -- ---- a step that is one of two
 
-first-of : (b : Bool) (m n : Reading (List Row)) (k : ℕ) (a : Answer (List Row)) → b ≡ true → m k ≡ a → either b m n k ≡ a
+first-of : (b : Bool) (m n : Reading (List Row)) (k : ℕ) (a : Result (List Row)) → b ≡ true → m k ≡ a → either b m n k ≡ a
 first-of true m n k a e h = h
 first-of false m n k a e h = never e refl
 
-second-of : (b : Bool) (m n : Reading (List Row)) (k : ℕ) (a : Answer (List Row)) → b ≡ false → n k ≡ a → either b m n k ≡ a
+second-of : (b : Bool) (m n : Reading (List Row)) (k : ℕ) (a : Result (List Row)) → b ≡ false → n k ≡ a → either b m n k ≡ a
 second-of true m n k a e h = never refl e
 second-of false m n k a e h = h
 
@@ -145,7 +145,7 @@ module _ {f : From} {ws : List ℕ} {at left : ℕ} {values : List ℕ} {count k
     kept = g .kept free;
     means = record {
       says = λ b s.
-          on-head (λ x. StandsBody (f .known) count ws at left x → gathering f x (take count values) (rowsIn entry) k ≡ rowsAnswer r area) s z (λ ts h. g .means count ts (in-head h)) s;
+          on-head (λ x. StandsBody (f .known) count ws at left x → gathering f x (take count values) (rowsIn entry) k ≡ rowsReadIs r area) s z (λ ts h. g .means count ts (in-head h)) s;
     };
   }
 
@@ -157,7 +157,7 @@ module _ {f : From} {ws : List ℕ} {at left : ℕ} {values : List ℕ} {count k
       kept = g .kept;
       means = record {
         says = λ b s.
-            on-draw (λ x. StandsBody (f .known) count ws at left x → gathering f x (take count values) (rowsIn entry) k ≡ rowsAnswer r area) s z i (λ e p c h. g .means .says e p c (in-draw h)) s;
+            on-draw (λ x. StandsBody (f .known) count ws at left x → gathering f x (take count values) (rowsIn entry) k ≡ rowsReadIs r area) s z i (λ e p c h. g .means .says e p c (in-draw h)) s;
       };
     }
 
@@ -168,7 +168,7 @@ module _ {f : From} {ws : List ℕ} {at left : ℕ} {values : List ℕ} {count k
       kept = g .kept;
       means = record {
         says = λ b s.
-            on-absent (λ x. StandsBody (f .known) count ws at left x → gathering f x (take count values) (rowsIn entry) k ≡ rowsAnswer r area) s z i (λ t e c h. g .means .says t e c (in-absent h)) s;
+            on-absent (λ x. StandsBody (f .known) count ws at left x → gathering f x (take count values) (rowsIn entry) k ≡ rowsReadIs r area) s z i (λ t e c h. g .means .says t e c (in-absent h)) s;
       };
     }
 
@@ -182,7 +182,7 @@ module _ {f : From} {ws : List ℕ} {at left : ℕ} {values : List ℕ} {count k
         says = λ b h.
             let c = compared f (take count values) z t i h in
             c .gathers (rowsIn entry) k
-            ∙ first-of (passing (take count values) g) (gathering f (c .rest) (take count values) (rowsIn entry)) (λ j. done (rowsIn entry) j) k (rowsAnswer r area) e
+            ∙ first-of (passing (take count values) g) (gathering f (c .rest) (take count values) (rowsIn entry)) (λ j. done (rowsIn entry) j) k (rowsReadIs r area) e
             (s .means .says (c .rest) (c .here));
       };
     }
@@ -190,7 +190,7 @@ module _ {f : From} {ws : List ℕ} {at left : ℕ} {values : List ℕ} {count k
 -- a comparison that fails: the rows found so far are left as they are
 pub say-fails : {f : From} {ws : List ℕ} {at left : ℕ} {values : List ℕ} {count k free : ℕ} {area : List ℕ} → (left ≡ 0 → ⊥) → Gathering area → {g : Held-guard.Guard} → Compares g → IsGuard ws at g →
     passing (take count values) g ≡ false → SayBody f ws at left values count k free area (Done k) values area
-unfolding IfDone rowsAnswer
+unfolding IfDone rowsReadIs
 say-fails {f} {values} {count} {k} {area} z gathered {g} t i e = record {
   unchanged = unchanged-self;
   gathering = gathered;
@@ -210,7 +210,7 @@ body-since {f} {ws} {at} {left} {count} {k} {entry} {r} {area} u s = record {
   unchanged = unchanged-then u (s .unchanged);
   gathering = s .gathering;
   kept = s .kept;
-  means = subst (λ (vs : Values). MeansBody f ws at left count vs k (rowsIn entry) (rowsAnswer r area)) (u .front) (s .means);
+  means = subst (λ (vs : Values). MeansBody f ws at left count vs k (rowsIn entry) (rowsReadIs r area)) (u .front) (s .means);
 }
 
 -- ---- an area that was lent from `free` on, and given back
@@ -274,7 +274,7 @@ module _ {f : From} {ws : List ℕ} {at left : ℕ} {values : List ℕ} {count :
         }
 
 -- what is read and then tested, by the test's answer
-after-has : {A B : Type 0} (m : Answer A) (h : A → Bool) (g : Bool → Reading B) → after m (λ s. g (h s)) ≡ after (after m (λ s i. done (h s) i)) g
+after-has : {A B : Type 0} (m : Result A) (h : A → Bool) (g : Bool → Reading B) → after m (λ s. g (h s)) ≡ after (after m (λ s i. done (h s) i)) g
 unfolding after
 after-has (done a k) h g = refl
 after-has (refused n) h g = refl
@@ -283,20 +283,20 @@ module _ {f : From} {ws : List ℕ} {at left : ℕ} {values : List ℕ} {count k
     (said : SayExprHas f ws operand at values count k o later) {back : List ℕ} (b : Back area free back) where
   answered : {x : Tested.Tested} → o ≡ x → {t : List Term} {e : Expr} {c : Body} → StandsAbsent (f .known) count ws at left t e c →
       gathering f (absent t e c) (take count values) (rowsIn area) k
-      ≡ after (testedAnswer x) (λ y. either y (λ i. done (rowsIn area) i) (gathering f c (take count values) (rowsIn area)))
+      ≡ after (testedIs x) (λ y. either y (λ i. done (rowsIn area) i) (gathering f c (take count values) (rowsIn area)))
   unfolding read
   answered d {t} {e} {c} s =
       after-has (reading f e (take count values) k) (λ x. has x (rowOf (take count values) t)) (λ y. either y (λ i. done (rowsIn area) i) (gathering f c (take count values) (rowsIn area)))
-      ∙ ap (λ (a : Answer Bool). after a (λ y. either y (λ i. done (rowsIn area) i) (gathering f c (take count values) (rowsIn area))))
-      (said .means .says e (operand-here past s) t (s .row) ∙ ap testedAnswer d)
+      ∙ ap (λ (a : Result Bool). after a (λ y. either y (λ i. done (rowsIn area) i) (gathering f c (take count values) (rowsIn area))))
+      (said .means .says e (operand-here past s) t (s .row) ∙ ap testedIs d)
 
   pub absent-refused : {n : ℕ} → o ≡ Tested.the-variants.Refused n → SayAbsent f ws at left values count k free area (Refused n) later back
-  unfolding after testedAnswer IfDone rowsAnswer
+  unfolding after testedIs IfDone rowsReadIs
   absent-refused d = record { unchanged = said .unchanged; gathering = tt; kept = b .kept; means = record { says = λ t e c s. answered d s } }
 
   module _ (g : Gathering area) where
     pub absent-has : {j : ℕ} → o ≡ Tested.the-variants.Has j → SayAbsent f ws at left values count k free area (Done j) later back
-    unfolding after testedAnswer IfDone rowsAnswer
+    unfolding after testedIs IfDone rowsReadIs
     absent-has {j} d = record {
       unchanged = said .unchanged;
       gathering = gathering-same (b .front) g;
@@ -306,7 +306,7 @@ module _ {f : From} {ws : List ℕ} {at left : ℕ} {values : List ℕ} {count k
 
     pub absent-lacks : {j rest : ℕ} {r : Read} {last after : List ℕ} → o ≡ Tested.the-variants.Lacks j → PastExpr ws operand rest →
         SayBody f ws rest left later count j free back r last after → SayAbsent f ws at left values count k free area r last after
-    unfolding after testedAnswer
+    unfolding after testedIs
     absent-lacks {j} {r} {after} d next s =
         let since = body-since (said .unchanged) s in
         record {

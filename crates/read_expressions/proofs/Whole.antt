@@ -7,7 +7,7 @@ use lib.ListN.{length}
 use Rattle.policy.specs.Syntax.{Expr, leaf, union, difference, comprehension, Body, head, draw, same, different, absent}
 use Rattle.policy.specs.Words.{exprWords}
 use Rattle.policy.specs.WellFormed.{depth, bodyDepth, drawCount, bodyDraws}
-use Rattle.policy.specs.Decode.{parse, parsed}
+use Rattle.policy.specs.Parse.{parse, parsed}
 use Rattle.policy.proofs.Decoding.{parse-words, parse-fits}
 use Rattle.read_values.specs.Places.{Stands}
 use Rattle.read_values.specs.From.{From}

@@ -10,15 +10,15 @@ use Rattle.rows.specs.Sets.{RowSet, has}
 use Rattle.rows.specs.Layout.{setRoom, rowsIn}
 use Rattle.policy.specs.Syntax.{Term, Slot, Expr, Body, draw, absent}
 use Rattle.policy.specs.Words.{fresh}
-use Rattle.policy.specs.Decode.{parse, parsed}
+use Rattle.policy.specs.Parse.{parse, parsed}
 use Rattle.meaning.specs.Values.{Values, rowOf}
-use Rattle.meaning.specs.Reading.{Answer, done, Reading, after, small, drawEach, read, gather}
+use Rattle.meaning.specs.Reading.{Result, done, Reading, after, small, drawEach, read, gather}
 use Rattle.read_values.specs.Values.{Bound, Unchanged}
 use Rattle.read_values.specs.Places.{Stands, StandsRow, StandsPattern, StandsBody, StandsTwo, StandsDraw, StandsAbsent}
-use Rattle.read_values.specs.Answers.{Filled, setAnswer, testedAnswer, IfDone}
+use Rattle.read_values.specs.Answers.{Filled, setReadIs, testedIs, IfDone}
 use Rattle.read_values.specs.From.{From, names, sets, SoundFrom}
 use Rattle.read_steps.specs.Areas.{Gathering, Kept}
-use Rattle.read_steps.specs.Steps.{rowsAnswer, combined}
+use Rattle.read_steps.specs.Steps.{rowsReadIs, combined}
 use Rattle.read_expressions.specs.Room.{roomOf, bodyRoom}
 use Rattle.read_values.specs.declared.Read.{Read}
 use Rattle.read_values.specs.declared.Tested.{Tested}
@@ -31,7 +31,7 @@ gathering f = gather (names f) (sets f)
 
 -- ---- an expression: whichever stands there is read as `a`, k draws being made before
 
-pub record Means (f : From) (ws : List ℕ) (at count : ℕ) (vs : Values) (k : ℕ) (a : Answer RowSet) : Type 0 where
+pub record Means (f : From) (ws : List ℕ) (at count : ℕ) (vs : Values) (k : ℕ) (a : Result RowSet) : Type 0 where
   pub says : (e : Expr) → Stands (f .known) count ws at e → reading f e vs k ≡ a
 
 pub record AskExpr (f : From) (ws : List ℕ) (at : ℕ) (values : List ℕ) (count : ℕ) (area : List ℕ) : Type 0 where
@@ -44,10 +44,10 @@ pub record AskExpr (f : From) (ws : List ℕ) (at : ℕ) (values : List ℕ) (co
 pub record SayExpr (f : From) (ws : List ℕ) (at : ℕ) (values : List ℕ) (count k : ℕ) (r : Read) (valuesNow area : List ℕ) : Type 0 where
   pub unchanged : Unchanged count values valuesNow
   pub filled : IfDone Filled r area
-  pub means : Means f ws at count (take count values) k (setAnswer r area)
+  pub means : Means f ws at count (take count values) k (setReadIs r area)
 
 -- whether the row that the terms written at `row` come to belongs to it
-pub record MeansHas (f : From) (ws : List ℕ) (at row count : ℕ) (vs : Values) (k : ℕ) (a : Answer Bool) : Type 0 where
+pub record MeansHas (f : From) (ws : List ℕ) (at row count : ℕ) (vs : Values) (k : ℕ) (a : Result Bool) : Type 0 where
   pub says : (e : Expr) → Stands (f .known) count ws at e → (ts : List Term) → StandsRow count ws row ts →
       after (reading f e vs k) (λ s i. done (has s (rowOf vs ts)) i) ≡ a
 
@@ -58,11 +58,11 @@ pub record AskHas (f : From) (ws : List ℕ) (at row : ℕ) (values : List ℕ) 
 
 pub record SayExprHas (f : From) (ws : List ℕ) (at row : ℕ) (values : List ℕ) (count k : ℕ) (r : Tested) (valuesNow : List ℕ) : Type 0 where
   pub unchanged : Unchanged count values valuesNow
-  pub means : MeansHas f ws at row count (take count values) k (testedAnswer r)
+  pub means : MeansHas f ws at row count (take count values) k (testedIs r)
 
 -- ---- a union or a difference
 
-pub record MeansTwo (f : From) (ws : List ℕ) (at : ℕ) (minus : Bool) (count : ℕ) (vs : Values) (k : ℕ) (a : Answer RowSet) : Type 0 where
+pub record MeansTwo (f : From) (ws : List ℕ) (at : ℕ) (minus : Bool) (count : ℕ) (vs : Values) (k : ℕ) (a : Result RowSet) : Type 0 where
   pub says : (x y : Expr) → StandsTwo (f .known) count ws at x y →
       after (reading f x vs k) (λ s i. after (reading f y vs i) (λ t. small (combined minus s t))) ≡ a
 
@@ -78,22 +78,22 @@ pub record AskTwo (f : From) (ws : List ℕ) (at : ℕ) (values : List ℕ) (cou
 pub record SayTwo (f : From) (ws : List ℕ) (at : ℕ) (minus : Bool) (values : List ℕ) (count k : ℕ) (r : Read) (valuesNow area : List ℕ) : Type 0 where
   pub unchanged : Unchanged count values valuesNow
   pub filled : IfDone Filled r area
-  pub means : MeansTwo f ws at minus count (take count values) k (setAnswer r area)
+  pub means : MeansTwo f ws at minus count (take count values) k (setReadIs r area)
 
 -- ---- the guards of a comprehension: with the rows found so far they gather `a`. From `free` on the area is theirs
 
-pub record MeansBody (f : From) (ws : List ℕ) (at left count : ℕ) (vs : Values) (k : ℕ) (found : List Row) (a : Answer (List Row)) : Type 0 where
+pub record MeansBody (f : From) (ws : List ℕ) (at left count : ℕ) (vs : Values) (k : ℕ) (found : List Row) (a : Result (List Row)) : Type 0 where
   pub says : (b : Body) → StandsBody (f .known) count ws at left b → gathering f b vs found k ≡ a
 
-pub record MeansDraw (f : From) (ws : List ℕ) (at left count : ℕ) (vs : Values) (k : ℕ) (found : List Row) (a : Answer (List Row)) : Type 0 where
+pub record MeansDraw (f : From) (ws : List ℕ) (at left count : ℕ) (vs : Values) (k : ℕ) (found : List Row) (a : Result (List Row)) : Type 0 where
   pub says : (e : Expr) (p : List Slot) (b : Body) → StandsDraw (f .known) count ws at left e p b → gathering f (draw e p b) vs found k ≡ a
 
 -- the rows xs, drawn in turn: the pattern stands at one place, the guards that follow at another
-pub record MeansEach (f : From) (ws : List ℕ) (pattern rest left count : ℕ) (vs : Values) (xs : List Row) (k : ℕ) (found : List Row) (a : Answer (List Row)) : Type 0 where
+pub record MeansEach (f : From) (ws : List ℕ) (pattern rest left count : ℕ) (vs : Values) (xs : List Row) (k : ℕ) (found : List Row) (a : Result (List Row)) : Type 0 where
   pub says : (p : List Slot) (b : Body) → StandsPattern count ws pattern p → StandsBody (f .known) (count + fresh p) ws rest left b →
       drawEach (gathering f b) p vs xs found k ≡ a
 
-pub record MeansAbsent (f : From) (ws : List ℕ) (at left count : ℕ) (vs : Values) (k : ℕ) (found : List Row) (a : Answer (List Row)) : Type 0 where
+pub record MeansAbsent (f : From) (ws : List ℕ) (at left count : ℕ) (vs : Values) (k : ℕ) (found : List Row) (a : Result (List Row)) : Type 0 where
   pub says : (r : List Term) (e : Expr) (b : Body) → StandsAbsent (f .known) count ws at left r e b → gathering f (absent r e b) vs found k ≡ a
 
 -- what all four ask
@@ -138,11 +138,11 @@ pub record AskAbsent (f : From) (ws : List ℕ) (at left : ℕ) (values : List �
   pub rest : free + setRoom * bodyRoom b ≤ length area
 
 -- what all four say, M being what is gathered
-pub record SayGuards (M : Answer (List Row) → Type 0) (values : List ℕ) (count free : ℕ) (entry : List ℕ) (r : Read) (valuesNow area : List ℕ) : Type 0 where
+pub record SayGuards (M : Result (List Row) → Type 0) (values : List ℕ) (count free : ℕ) (entry : List ℕ) (r : Read) (valuesNow area : List ℕ) : Type 0 where
   pub unchanged : Unchanged count values valuesNow
   pub gathering : IfDone Gathering r area
   pub kept : Kept free entry area
-  pub means : M (rowsAnswer r area)
+  pub means : M (rowsReadIs r area)
 
 abbrev pub SayBody : From → List ℕ → ℕ → ℕ → List ℕ → ℕ → ℕ → ℕ → List ℕ → Read → List ℕ → List ℕ → Type 0
 SayBody f ws at left values count k free entry = SayGuards (MeansBody f ws at left count (take count values) k (rowsIn entry)) values count free entry
@@ -167,4 +167,4 @@ pub record AskWhole (f : From) (ws area : List ℕ) : Type 0 where
 
 pub record SayWhole (f : From) (ws : List ℕ) (k : ℕ) (r : Read) (area : List ℕ) : Type 0 where
   pub filled : IfDone Filled r area
-  pub means : (e : Expr) → parse (f .known) ws ≡ parsed e → reading f e [] k ≡ setAnswer r area
+  pub means : (e : Expr) → parse (f .known) ws ≡ parsed e → reading f e [] k ≡ setReadIs r area

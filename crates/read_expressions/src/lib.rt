@@ -24,7 +24,7 @@ use read_values::skip::skip_pattern;
 use read_values::skip::skip_row;
 use read_values::told;
 use refusals::COMPLEMENT_DRAWN;
-use row_words::row::wide;
+use row_words::wide;
 use rows::SET_ROOM;
 use sets::clear;
 

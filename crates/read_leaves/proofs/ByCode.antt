@@ -11,16 +11,16 @@ use Rattle.rows.specs.Layout.{formed, setIn, written}
 use Rattle.sets.proofs.Standing.{copied-stands}
 use Rattle.policy.specs.Leaf.{Leaf, leafCode, leafWords}
 use Rattle.meaning.specs.Values.{Values, rowOf}
-use Rattle.meaning.specs.Reading.{Answer, done, after, small, rowsOf, readLeaf}
+use Rattle.meaning.specs.Reading.{Result, done, after, small, rowsOf, readLeaf}
 use Rattle.read_values.specs.Places.{StandsLeaf, SomeLeaf}
-use Rattle.read_values.specs.Answers.{Filled, setAnswer, testedAnswer, IfDone}
+use Rattle.read_values.specs.Answers.{Filled, setReadIs, testedIs, IfDone}
 use Rattle.read_values.specs.From.{From, setsIn, names, sets}
 use Rattle.read_values.specs.declared.Read as Read
 use Rattle.read_values.specs.declared.Read.the-variants.{Done, Refused}
 use Rattle.read_values.specs.declared.Tested as Tested
 use Rattle.read_values.proofs.Places.{at-word}
 use Rattle.read_values.proofs.Leaves.{on-definition, on-listed, on-rows, in-finite, in-cofinite, in-definition, in-listed}
-use Rattle.read_values.proofs.Answers.{lies}
+use Rattle.read_values.proofs.Answers.{stands-filled}
 use Rattle.read_steps.specs.Steps.{SayHas}
 use Rattle.read_steps.proofs.Areas.{part-whole}
 use Rattle.read_names.specs.Names.{SayName, SayNameHas}
@@ -63,7 +63,7 @@ module _ {ws : List ℕ} {at : ℕ} (d : getD ws at 0 ≡ 3 → ⊥) (l : getD w
       (λ rs s. let c = at-word (s .words) in (omega arith, omega arith)) (λ rs s. let c = at-word (s .words) in (omega arith, omega arith)) (x .here)
 
   pub leaf-rows : {f : From} {vs : Values} {k : ℕ} {area : List ℕ} → SayRows ws (at + 1) (getD ws at 0 - 1) vs area → SayLeaf f ws at vs k (Done k) area
-  unfolding readLeaf IfDone setAnswer leafWords leafCode formed
+  unfolding readLeaf IfDone setReadIs leafWords leafCode formed
   leaf-rows {f} {vs} {k} {area} s = record {
     filled = s .filled;
     means = λ n x h.
@@ -79,33 +79,33 @@ module _ (f : From) {ws : List ℕ} {at : ℕ} {vs : Values} {k : ℕ} where
   unfolding readLeaf
   leaf-name {r} {area} c s = record {
     filled = s .filled;
-    means = λ n x h. on-listed (λ y. StandsLeaf (f .known) n ws at y → readLeaf (names f) (sets f) y vs k ≡ setAnswer r area) h c (λ t m p g. s .means t m p (in-listed g)) h;
+    means = λ n x h. on-listed (λ y. StandsLeaf (f .known) n ws at y → readLeaf (names f) (sets f) y vs k ≡ setReadIs r area) h c (λ t m p g. s .means t m p (in-listed g)) h;
   }
 
   pub leaf-name-has : {row : ℕ} {r : Tested.Tested} → getD ws at 0 ≡ 4 → SayNameHas (f .store) ws (at + 1) row vs k r → SayLeafHas f ws at row vs k r
   unfolding readLeaf
   leaf-name-has {r} c s = record {
     means = λ n x h m ts g.
-        on-listed (λ y. StandsLeaf (f .known) n ws at y → after (readLeaf (names f) (sets f) y vs k) (λ z i. done (has z (rowOf vs ts)) i) ≡ testedAnswer r) h c
+        on-listed (λ y. StandsLeaf (f .known) n ws at y → after (readLeaf (names f) (sets f) y vs k) (λ z i. done (has z (rowOf vs ts)) i) ≡ testedIs r) h c
         (λ t o p q. s .means t o p (in-listed q) m ts g) h;
   }
 
   -- ---- any leaf: a look into the set that is read for it
 
   looked-into : {row : ℕ} {set : List ℕ} {used : ℕ} {b : Bool} {r : Tested.Tested} → ((n : ℕ) (x : Leaf) → StandsLeaf (f .known) n ws at x → readLeaf (names f) (sets f) x vs k ≡ done (setIn set) used) →
-      SayHas ws row vs set b → testedAnswer r ≡ done b used → SayLeafHas f ws at row vs k r
+      SayHas ws row vs set b → testedIs r ≡ done b used → SayLeafHas f ws at row vs k r
   unfolding after
   looked-into {used} reads s e = record {
     means = λ n x h m ts g.
-        ap (λ (a : Answer RowSet). after a (λ z i. done (has z (rowOf vs ts)) i)) (reads n x h) ∙ ap (λ (b : Bool). done b used) (s .means m ts g) ∙ sym e;
+        ap (λ (a : Result RowSet). after a (λ z i. done (has z (rowOf vs ts)) i)) (reads n x h) ∙ ap (λ (b : Bool). done b used) (s .means m ts g) ∙ sym e;
   }
 
   module _ {a : Read.Read} {area : List ℕ} (says : SayLeaf f ws at vs k a area) where
     pub leaf-refused : {row n : ℕ} → a ≡ Refused n → SayLeafHas f ws at row vs k (Tested.the-variants.Refused n)
-    unfolding after setAnswer testedAnswer
+    unfolding after setReadIs testedIs
     leaf-refused e = record {
       means = λ n x h m ts g.
-          ap (λ (u : Answer RowSet). after u (λ z i. done (has z (rowOf vs ts)) i)) (says .means n x h ∙ ap (λ (u : Read.Read). setAnswer u area) e);
+          ap (λ (u : Result RowSet). after u (λ z i. done (has z (rowOf vs ts)) i)) (says .means n x h ∙ ap (λ (u : Read.Read). setReadIs u area) e);
     }
 
     module _ {used : ℕ} (is : a ≡ Done used) where
@@ -113,9 +113,9 @@ module _ (f : From) {ws : List ℕ} {at : ℕ} {vs : Values} {k : ℕ} where
       unfolding IfDone
       leaf-filled = subst (λ (u : Read.Read). IfDone Filled u area) is (says .filled)
 
-      pub leaf-looked : {row : ℕ} {b : Bool} {r : Tested.Tested} → SayHas ws row vs area b → testedAnswer r ≡ done b used → SayLeafHas f ws at row vs k r
-      unfolding setAnswer
-      leaf-looked = looked-into (λ n x h. says .means n x h ∙ ap (λ (u : Read.Read). setAnswer u area) is)
+      pub leaf-looked : {row : ℕ} {b : Bool} {r : Tested.Tested} → SayHas ws row vs area b → testedIs r ≡ done b used → SayLeafHas f ws at row vs k r
+      unfolding setReadIs
+      leaf-looked = looked-into (λ n x h. says .means n x h ∙ ap (λ (u : Read.Read). setReadIs u area) is)
 
 -- ---- a definition
 
@@ -127,10 +127,10 @@ module _ (f : From) {ws : List ℕ} {at : ℕ} {set : List ℕ} (c : getD ws at 
       (λ d g. ap (λ (z : RowSet). done z k) (ap (λ (i : ℕ). getD (sets f) i (only [])) (sym (in-definition g .number)) ∙ sym (s .means))) h
 
   pub leaf-definition : {vs : Values} {k : ℕ} (to : List ℕ) {area : List ℕ} → 642 ≤ length to → area ≡ written (setIn set) to → SayLeaf f ws at vs k (Done k) area
-  unfolding IfDone setAnswer
+  unfolding IfDone setReadIs
   leaf-definition {vs} {k} to {area} long e =
       let z = copied-stands set (s .filled .sound) to long e in
-      record { filled = lies z; means = λ n x h. definition-read vs k n x h ∙ ap (λ (y : RowSet). done y k) (sym (z .set)) }
+      record { filled = stands-filled z; means = λ n x h. definition-read vs k n x h ∙ ap (λ (y : RowSet). done y k) (sym (z .set)) }
 
-  pub leaf-definition-has : {vs : Values} {k row : ℕ} {b : Bool} {r : Tested.Tested} → SayHas ws row vs set b → testedAnswer r ≡ done b k → SayLeafHas f ws at row vs k r
+  pub leaf-definition-has : {vs : Values} {k row : ℕ} {b : Bool} {r : Tested.Tested} → SayHas ws row vs set b → testedIs r ≡ done b k → SayLeafHas f ws at row vs k r
   leaf-definition-has {vs} {k} = looked-into f (definition-read vs k)

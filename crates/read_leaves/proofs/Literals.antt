@@ -88,7 +88,7 @@ module _ {ws : List ℕ} {at form : ℕ} {vs : Values} {area : List ℕ} {next i
   pub filling-row : i < getD ws at 0 → SomeRow ws next
   filling-row h = record { n = iv .n; ts = _; here = rows-next (omega arith) (iv .left) .row }
 
-  pub filling-next : {r : Held-row.Row} {now : List ℕ} {after : ℕ} → i < getD ws at 0 → SayRow ws next vs r → Listed area (held.rowOf r) now → PastRow ws next after → Filling ws at form vs now after (i + 1)
+  pub filling-next : {r : Held-row.Row} {now : List ℕ} {after : ℕ} → i < getD ws at 0 → SayRow ws next vs r → Listed area (held.rowIs r) now → PastRow ws next after → Filling ws at form vs now after (i + 1)
   unfolding join
   filling-next {r} {now} {after} h s l q =
       let e : getD ws at 0 - i - 1 ≡ getD ws at 0 - (i + 1) = omega arith in
@@ -103,7 +103,7 @@ module _ {ws : List ℕ} {at form : ℕ} {vs : Values} {area : List ℕ} {next i
         left = on (iv .n) (iv .rs) w;
         filled = l .filled;
         is = l .form ∙ iv .is;
-        few = omega (arith, ap length (l .rows), insert-shorter rowBefore row-order (held.rowOf r) (rowsIn area));
+        few = omega (arith, ap length (l .rows), insert-shorter rowBefore row-order (held.rowIs r) (rowsIn area));
         means = λ z g. iv .means z (λ n rs t.
             let x = rows-next (omega arith) t in
             ap (λ (ys : List (List Term)). join rowBefore (map (rowOf vs) ys) (rowsIn area)) (x .is)

@@ -11,7 +11,7 @@ use Rattle.meaning.specs.Values.{Values, rowOf}
 use Rattle.meaning.specs.Reading.{done, after, small, rowsOf, readLeaf}
 use Rattle.read_values.specs.Values.{Bound}
 use Rattle.read_values.specs.Places.{StandsLeaf, StandsRow, StandsRows}
-use Rattle.read_values.specs.Answers.{Filled, setAnswer, testedAnswer, IfDone}
+use Rattle.read_values.specs.Answers.{Filled, setReadIs, testedIs, IfDone}
 use Rattle.read_values.specs.From.{From, setsIn, names, sets, SoundFrom}
 use Rattle.read_values.specs.declared.Read.{Read}
 use Rattle.read_values.specs.declared.Tested.{Tested}
@@ -36,9 +36,9 @@ pub record AskLeaf (f : From) (ws : List ℕ) (at : ℕ) (values : List ℕ) (co
 -- whichever it is, its set is left at the area's front, k draws being made before
 pub record SayLeaf (f : From) (ws : List ℕ) (at : ℕ) (vs : Values) (k : ℕ) (r : Read) (area : List ℕ) : Type 0 where
   pub filled : IfDone Filled r area
-  pub means : (n : ℕ) (x : Leaf) → StandsLeaf (f .known) n ws at x → readLeaf (names f) (sets f) x vs k ≡ setAnswer r area
+  pub means : (n : ℕ) (x : Leaf) → StandsLeaf (f .known) n ws at x → readLeaf (names f) (sets f) x vs k ≡ setReadIs r area
 
 -- whether the row that the terms come to belongs to it, or the refusal that reading it meets
 pub record SayLeafHas (f : From) (ws : List ℕ) (at row : ℕ) (vs : Values) (k : ℕ) (r : Tested) : Type 0 where
   pub means : (n : ℕ) (x : Leaf) → StandsLeaf (f .known) n ws at x → (m : ℕ) (ts : List Term) → StandsRow m ws row ts →
-      after (readLeaf (names f) (sets f) x vs k) (λ s i. done (has s (rowOf vs ts)) i) ≡ testedAnswer r
+      after (readLeaf (names f) (sets f) x vs k) (λ s i. done (has s (rowOf vs ts)) i) ≡ testedIs r

@@ -18,7 +18,7 @@ use read_values::Tested;
 use read_values::row_of;
 use read_values::skip::skip_row;
 use read_values::told;
-use row_words::row::wide;
+use row_words::wide;
 use rows::SET_ROOM;
 use sets::clear;
 use sets::copy;

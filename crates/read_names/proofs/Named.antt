@@ -15,7 +15,7 @@ use Rattle.rows.specs.Row.{Row, isKey, firstKey, rowBefore}
 use Rattle.rows.specs.Name.{Polarity, plus, minus, polarityOf, polarityWord, samePolarity}
 use Rattle.rows.specs.Sets.{RowSet, listing, has}
 use Rattle.rows.specs.Layout.{laid, rowWords, rowIn, fiveAt, soundRow, flat, pieces, rowsIn, formed, setIn, written, put}
-use Rattle.row_words.specs.Values.{rowOf}
+use Rattle.row_words.specs.Values.{rowIs}
 use Rattle.row_words.specs.Search.{rowsAt, Listed, Finds}
 use Rattle.row_words.specs.declared.row.Row as Held-row
 use Rattle.row_words.specs.declared.search.Found as Found
@@ -37,18 +37,18 @@ use Rattle.certificates.proofs.Sound.{sound-record, sound-store}
 use Rattle.certificates.proofs.NameRows.{name-rows, name-length, name-pieces, name-sound}
 use Rattle.policy.specs.Syntax.{Term}
 use Rattle.policy.specs.Words.{termWords}
-use Rattle.policy.specs.Held.{termOf}
+use Rattle.policy.specs.Held.{termIs}
 use Rattle.meaning.specs.Values as values
 use Rattle.meaning.specs.Values.{Values, value}
 use Rattle.meaning.specs.Evidence.{isOf, certified, namesHeld}
-use Rattle.meaning.specs.Reading.{Answer, done, refused, after, small}
+use Rattle.meaning.specs.Reading.{Result, done, refused, after, small}
 use Rattle.read_values.specs.Places.{At, nameWords, SomeName, IsTerm}
 use Rattle.read_values.specs.Rows.{SayRow}
-use Rattle.read_values.specs.Answers.{Empty, setAnswer, testedAnswer, IfDone}
+use Rattle.read_values.specs.Answers.{Empty, setReadIs, testedIs, IfDone}
 use Rattle.read_names.specs.Names.{Records, recordRows, SayName, SayListed, SayBelongs, SayNameHas}
 use Rattle.read_values.proofs.Places.{at-word, at-next, at-skip, at-front, at-long, term-length}
 use Rattle.read_values.proofs.Held.{held-value}
-use Rattle.read_values.proofs.Answers.{lies, small-few, small-many}
+use Rattle.read_values.proofs.Answers.{stands-filled, small-few, small-many}
 use Rattle.read_values.specs.declared.Read.the-variants.{Done, Refused}
 use Rattle.read_values.specs.declared.Tested as Tested
 use Rattle.policy.specs.declared.Term as Held-term
@@ -233,13 +233,13 @@ polarity-small minus = omega arith
 
 -- a row looked up in a set that is read: it is small, or it is not
 module _ (s : RowSet) {z : RowSet} (e : s ≡ z) (x : Row) (k : ℕ) where
-  looked-up : {a : Answer Bool} → length (listing z) ≤ 128 → done (has z x) k ≡ a → after (small s k) (λ y i. done (has y x) i) ≡ a
+  looked-up : {a : Result Bool} → length (listing z) ≤ 128 → done (has z x) k ≡ a → after (small s k) (λ y i. done (has y x) i) ≡ a
   unfolding after
-  looked-up few g = ap (λ (y : RowSet). after (small y k) (λ w i. done (has w x) i)) e ∙ ap (λ (b : Answer RowSet). after b (λ w i. done (has w x) i)) (small-few z k few) ∙ g
+  looked-up few g = ap (λ (y : RowSet). after (small y k) (λ w i. done (has w x) i)) e ∙ ap (λ (b : Result RowSet). after b (λ w i. done (has w x) i)) (small-few z k few) ∙ g
 
   not-looked-up : 128 < length (listing z) → after (small s k) (λ y i. done (has y x) i) ≡ refused 13
   unfolding after
-  not-looked-up many = ap (λ (y : RowSet). after (small y k) (λ w i. done (has w x) i)) e ∙ ap (λ (b : Answer RowSet). after b (λ w i. done (has w x) i)) (small-many z k many)
+  not-looked-up many = ap (λ (y : RowSet). after (small y k) (λ w i. done (has w x) i)) e ∙ ap (λ (b : Result RowSet). after b (λ w i. done (has w x) i)) (small-many z k many)
 
 -- whether it belongs goes by the form and by whether the row is listed
 module _ {form : ℕ} {listed : Bool} where
@@ -270,12 +270,12 @@ module _ {rs : List ℕ} {count : ℕ} (records : Records rs count) where
   ask-find = listed-in-pieces rs 3 8 count (omega arith) row-narrow (records .whole) (records .ascend)
 
   module _ {ws : List ℕ} {at : ℕ} {vs : Values} {row : Held-row.Row} (says : SayRow ws at vs row) where
-    say-listed : {b : Bool} → lists rowBefore (rowsAt rs 3 8 count) (rowOf row) ≡ b → SayListed rs count ws at vs b
+    say-listed : {b : Bool} → lists rowBefore (rowsAt rs 3 8 count) (rowIs row) ≡ b → SayListed rs count ws at vs b
     say-listed e = record {
-      means = λ n ts t. ap (lists rowBefore (recordRows rs count)) (sym (says .means n ts t)) ∙ ap (λ (xs : List Row). lists rowBefore xs (rowOf row)) (sym rows-there) ∙ e;
+      means = λ n ts t. ap (lists rowBefore (recordRows rs count)) (sym (says .means n ts t)) ∙ ap (λ (xs : List Row). lists rowBefore xs (rowIs row)) (sym rows-there) ∙ e;
     }
 
-    module _ (f : Found.Found) {i : ℕ} (finds : Finds (rowsAt rs 3 8 count) (rowOf row) f) where
+    module _ (f : Found.Found) {i : ℕ} (finds : Finds (rowsAt rs 3 8 count) (rowIs row) f) where
       pub found-listed : f ≡ Found.the-variants.At i → SayListed rs count ws at vs true
       found-listed e = say-listed (at-listed _ _ f i e finds)
 
@@ -309,13 +309,13 @@ module _ {ws : List ℕ} {at : ℕ} (some : SomeName ws at) where
   pub name-form : getD ws (at + 3) 0 ≤ 1
   name-form = let n = name-here (some .t) (some .m) (some .p) (some .words) in omega (arith, n .polarity, polarity-small (some .p))
 
-module _ {ws : List ℕ} {at : ℕ} (vs : Values) {x : Held-term.Term} {key : ℕ} (issuer : IsTerm ws at x) (is : key ≡ value vs (termOf x)) where
+module _ {ws : List ℕ} {at : ℕ} (vs : Values) {x : Held-term.Term} {key : ℕ} (issuer : IsTerm ws at x) (is : key ≡ value vs (termIs x)) where
   key-is : {t : Term} {m : ℕ} {p : Polarity} → NameHere ws at t m p → value vs t ≡ key
   key-is {t} h = sym (held-value vs t (issuer .is t (h .issuer))) ∙ sym is
 
   -- a number issues nothing
   pub say-number : {store : List ℕ} {k : ℕ} {area : List ℕ} → Empty (getD ws (at + 3) 0) area → key < 2147483648 → SayName store ws at vs k (Done k) area
-  unfolding IfDone setAnswer setIn
+  unfolding IfDone setReadIs setIn
   say-number {store} {k} {area} m h = record {
     filled = m .filled;
     means = λ t n p w.
@@ -326,7 +326,7 @@ module _ {ws : List ℕ} {at : ℕ} (vs : Values) {x : Held-term.Term} {key : �
         ∙ small-few (setIn area) k (omega (arith, ap (λ (z : RowSet). length (listing z)) s, ap length (formed-listing (polarityWord p) [])));
   }
 
-  pub number-has : {store : List ℕ} {row k : ℕ} {b : Bool} {r : Tested.Tested} → key < 2147483648 → SayBelongs (getD ws (at + 3) 0) false b → testedAnswer r ≡ done b k → SayNameHas store ws at row vs k r
+  pub number-has : {store : List ℕ} {row k : ℕ} {b : Bool} {r : Tested.Tested} → key < 2147483648 → SayBelongs (getD ws (at + 3) 0) false b → testedIs r ≡ done b k → SayNameHas store ws at row vs k r
   unfolding lists
   number-has {store} {k} h g e = record {
     means = λ t m p w n ts s.
@@ -353,7 +353,7 @@ module _ {ws : List ℕ} {at : ℕ} (vs : Values) {x : Held-term.Term} {key : �
     ask-records few = part-records store sound key (some .m) (some .p) (part-of some-here) few
 
     pub say-too-many : {k : ℕ} {area : List ℕ} → 128 < length part / 8 → SayName store ws at vs k (Refused 13) area
-    unfolding IfDone setAnswer
+    unfolding IfDone setReadIs
     say-too-many {k} h = record {
       filled = tt;
       means = λ t n p w.
@@ -364,14 +364,14 @@ module _ {ws : List ℕ} {at : ℕ} (vs : Values) {x : Held-term.Term} {key : �
 
     pub say-records : {k : ℕ} (empty : List ℕ) {area : List ℕ} → Empty (getD ws (at + 3) 0) empty → length part / 8 ≤ 128 →
         area ≡ written (formed (getD empty 0 0) (recordRows part (length part / 8))) empty → SayName store ws at vs k (Done k) area
-    unfolding IfDone setAnswer
+    unfolding IfDone setReadIs
     say-records {k} empty {area} m few e =
         let rows : List Row = recordRows part (length part / 8) in
         let fit = formed-fit (getD ws (at + 3) 0) rows (ascending-true rowBefore row-order rows (ask-records few .ascend)) (rows-of-records-wide (ask-records few)) in
         let few′ = formed-few (getD ws (at + 3) 0) rows (omega (arith, record-count part (length part / 8))) in
         let s = written-stands fit few′ empty (m .filled .long) (e ∙ ap (λ (f : ℕ). written (formed f rows) empty) (m .is)) in
         record {
-          filled = lies s;
+          filled = stands-filled s;
           means = λ t n p q.
               let v = name-here t n p q in
               ap (λ (z : RowSet). small z k) (held t n p v ∙ ap (λ (f : ℕ). formed f rows) (sym (v .polarity)))
@@ -379,7 +379,7 @@ module _ {ws : List ℕ} {at : ℕ} (vs : Values) {x : Held-term.Term} {key : �
         }
 
     pub many-refused : {row k : ℕ} → 128 < length part / 8 → SayNameHas store ws at row vs k (Tested.the-variants.Refused 13)
-    unfolding testedAnswer
+    unfolding testedIs
     many-refused {k} h = record {
       means = λ t m p w n ts s.
           let v = name-here t m p w in
@@ -387,7 +387,7 @@ module _ {ws : List ℕ} {at : ℕ} (vs : Values) {x : Held-term.Term} {key : �
           (omega (arith, ap length (formed-listing (polarityWord p) (recordRows part (length part / 8))), record-count part (length part / 8)));
     }
 
-    pub key-has : {row k : ℕ} {found b : Bool} {r : Tested.Tested} → length part / 8 ≤ 128 → SayListed part (length part / 8) ws row vs found → SayBelongs (getD ws (at + 3) 0) found b → testedAnswer r ≡ done b k → SayNameHas store ws at row vs k r
+    pub key-has : {row k : ℕ} {found b : Bool} {r : Tested.Tested} → length part / 8 ≤ 128 → SayListed part (length part / 8) ws row vs found → SayBelongs (getD ws (at + 3) 0) found b → testedIs r ≡ done b k → SayNameHas store ws at row vs k r
     key-has {k} few l g e = record {
       means = λ t m p w n ts s.
           let v = name-here t m p w in

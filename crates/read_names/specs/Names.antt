@@ -15,7 +15,7 @@ use Rattle.meaning.specs.Values.{Values, value, rowOf}
 use Rattle.meaning.specs.Evidence.{heldIn}
 use Rattle.meaning.specs.Reading.{done, after, small}
 use Rattle.read_values.specs.Places.{At, nameWords, StandsRow}
-use Rattle.read_values.specs.Answers.{Filled, setAnswer, testedAnswer, IfDone}
+use Rattle.read_values.specs.Answers.{Filled, setReadIs, testedIs, IfDone}
 use Rattle.read_values.specs.declared.Read.{Read}
 use Rattle.read_values.specs.declared.Tested.{Tested}
 
@@ -32,7 +32,7 @@ pub record Records (rs : List ℕ) (count : ℕ) : Type 0 where
 
 pub record SayName (store ws : List ℕ) (at : ℕ) (vs : Values) (k : ℕ) (r : Read) (area : List ℕ) : Type 0 where
   pub filled : IfDone Filled r area
-  pub means : (t : Term) (n : ℕ) (p : Polarity) → At ws at (nameWords t n p) → small (heldIn store (value vs t) n p) k ≡ setAnswer r area
+  pub means : (t : Term) (n : ℕ) (p : Polarity) → At ws at (nameWords t n p) → small (heldIn store (value vs t) n p) k ≡ setReadIs r area
 
 -- whether the row that the terms come to is among those of the records
 pub record SayListed (rs : List ℕ) (count : ℕ) (ws : List ℕ) (at : ℕ) (vs : Values) (r : Bool) : Type 0 where
@@ -45,4 +45,4 @@ pub record SayBelongs (form : ℕ) (listed r : Bool) : Type 0 where
 -- whether the row that the terms come to belongs to the name's set, or the refusal that reading the name meets
 pub record SayNameHas (store ws : List ℕ) (at row : ℕ) (vs : Values) (k : ℕ) (r : Tested) : Type 0 where
   pub means : (t : Term) (m : ℕ) (p : Polarity) → At ws at (nameWords t m p) → (n : ℕ) (ts : List Term) → StandsRow n ws row ts →
-      after (small (heldIn store (value vs t) m p) k) (λ s i. done (has s (rowOf vs ts)) i) ≡ testedAnswer r
+      after (small (heldIn store (value vs t) m p) k) (λ s i. done (has s (rowOf vs ts)) i) ≡ testedIs r

@@ -21,7 +21,7 @@ use row_words::search::Found;
 use row_words::search::find;
 use row_words::write;
 use rows::FIRST_KEY;
-use rows::MOST_LISTED;
+use rows::MOST_ROWS;
 use sets::clear;
 use store::certificates_in;
 
@@ -63,7 +63,7 @@ pub fn read_name(
     }
     let records = certificates_in(store, key, name, polarity);
     let listed = records.len() / RECORD_WORDS;
-    if MOST_LISTED < listed {
+    if MOST_ROWS < listed {
         return Read::Refused(TOO_MANY_ROWS);
     }
     copy_rows(records, listed, area);
@@ -118,7 +118,7 @@ pub fn name_has(
     }
     let records = certificates_in(store, key, name, polarity);
     let listed = records.len() / RECORD_WORDS;
-    if MOST_LISTED < listed {
+    if MOST_ROWS < listed {
         return Tested::Refused(TOO_MANY_ROWS);
     }
     let found = is_listed(words, row, values, count, records, listed);

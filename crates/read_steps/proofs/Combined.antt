@@ -12,9 +12,9 @@ use Rattle.set_algebra.specs.Combined.{Combined}
 use Rattle.sets.proofs.Standing.{Fit, sound-fit}
 use Rattle.set_algebra.proofs.Standing.{unite-fit, subtract-fit, combined-stands}
 use Rattle.meaning.specs.Reading.{done}
-use Rattle.read_values.specs.Answers.{Filled, setAnswer, IfDone}
+use Rattle.read_values.specs.Answers.{Filled, setReadIs, IfDone}
 use Rattle.read_steps.specs.Steps.{combined, SayCombined}
-use Rattle.read_values.proofs.Answers.{lies, small-few, small-many}
+use Rattle.read_values.proofs.Answers.{stands-filled, small-few, small-many}
 use Rattle.read_values.specs.declared.Read.the-variants.{Done, Refused}
 
 module _ {area : List ℕ} (left : Filled area) (right : Filled (drop 642 area)) where
@@ -28,13 +28,13 @@ module _ {area : List ℕ} (left : Filled area) (right : Filled (drop 642 area))
 
   module _ (minus : Bool) {k : ℕ} {after : List ℕ} {fits : Bool} (c : Combined (combined minus (setIn area) (setIn (drop 642 area))) area after fits) where
     pub value-fits : fits ≡ true → SayCombined minus k area (Done k) after
-    unfolding IfDone setAnswer
+    unfolding IfDone setReadIs
     value-fits e =
         let s = combined-stands c e (value-fit minus) (left .long) in
-        record { filled = lies s; means = small-few _ k (leb-true _ 128 (sym (c .answer) ∙ e)) ∙ ap (λ (z : RowSet). done z k) (sym (s .set)) }
+        record { filled = stands-filled s; means = small-few _ k (leb-true _ 128 (sym (c .answer) ∙ e)) ∙ ap (λ (z : RowSet). done z k) (sym (s .set)) }
 
     pub value-too-large : fits ≡ false → SayCombined minus k area (Refused 13) after
-    unfolding IfDone setAnswer
+    unfolding IfDone setReadIs
     value-too-large e = record { filled = tt; means = small-many (combined minus (setIn area) (setIn (drop 642 area))) k (leb-false _ 128 (sym (c .answer) ∙ e)) }
 
   module _ {minus : Bool} {after : List ℕ} {fits : Bool} where

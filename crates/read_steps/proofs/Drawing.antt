@@ -15,12 +15,12 @@ use Rattle.sets.proofs.SetWords.{width-at}
 use Rattle.policy.specs.Syntax.{Slot}
 use Rattle.policy.specs.Words.{fresh}
 use Rattle.meaning.specs.Values.{Values}
-use Rattle.meaning.specs.Reading.{Answer, done, refused, Reading, after, tick, match, onMatch, drawEach}
+use Rattle.meaning.specs.Reading.{Result, done, refused, Reading, after, tick, match, onMatch, drawEach}
 use Rattle.read_values.specs.Values.{Unchanged}
 use Rattle.read_values.specs.Places.{StandsPattern}
 use Rattle.read_values.specs.Answers.{Filled}
 use Rattle.read_values.proofs.Lent.{unchanged-self, unchanged-then}
-use Rattle.read_steps.specs.Steps.{matchedAs, drawnAnswer, Among, InScope, SayMatch, SayDrawn}
+use Rattle.read_steps.specs.Steps.{matchedIs, drawnIs, Among, InScope, SayMatch, SayDrawn}
 use Rattle.read_steps.specs.declared.Matched.{Matched}
 use Rattle.read_steps.specs.declared.Drawn as Drawn
 
@@ -34,13 +34,13 @@ drawn-since {xs} {i} {k} {r} {later} u s = record {
   among = s .among;
   scope = s .scope;
   means = λ p h rest found.
-      subst (λ (vs : Values). drawEach rest p vs (drop i xs) found k ≡ drawnAnswer r later rest p vs xs found) (u .front) (s .means p h rest found);
+      subst (λ (vs : Values). drawEach rest p vs (drop i xs) found k ≡ drawnIs r later rest p vs xs found) (u .front) (s .means p h rest found);
 }
 
 module _ {ws : List ℕ} {at : ℕ} {values : List ℕ} {count : ℕ} {xs : List Row} {i k : ℕ} {r : Drawn.Drawn} {later : List ℕ} (s : SayDrawn ws at values count xs i k r later) where
   drawn-as : {d : Drawn.Drawn} → r ≡ d → {p : List Slot} → StandsPattern count ws at p → (rest : Values → List Row → Reading (List Row)) (found : List Row) →
-      drawEach rest p (take count values) (drop i xs) found k ≡ drawnAnswer d later rest p (take count values) xs found
-  drawn-as e {p} h rest found = s .means p h rest found ∙ ap (λ (d : Drawn.Drawn). drawnAnswer d later rest p (take count values) xs found) e
+      drawEach rest p (take count values) (drop i xs) found k ≡ drawnIs d later rest p (take count values) xs found
+  drawn-as e {p} h rest found = s .means p h rest found ∙ ap (λ (d : Drawn.Drawn). drawnIs d later rest p (take count values) xs found) e
 
   module _ {next draws scope : ℕ} (e : r ≡ Drawn.the-variants.Matches next draws scope) where
     drawn-among : (i < next) × (next ≤ length xs)
@@ -59,28 +59,28 @@ module _ {ws : List ℕ} {at : ℕ} {values : List ℕ} {count : ℕ} {xs : List
 
     pub drawn-row : {p : List Slot} → StandsPattern count ws at p → (rest : Values → List Row → Reading (List Row)) (found : List Row) →
         drawEach rest p (take count values) (drop i xs) found k ≡ after (rest (take scope later) found draws) (λ more. drawEach rest p (take count values) (drop next xs) more)
-    unfolding drawnAnswer
+    unfolding drawnIs
     drawn-row h rest found = drawn-as e h rest found
 
   pub drawn-end : {draws : ℕ} → r ≡ Drawn.the-variants.End draws → {p : List Slot} → StandsPattern count ws at p → (rest : Values → List Row → Reading (List Row)) (found : List Row) →
       drawEach rest p (take count values) (drop i xs) found k ≡ done found draws
-  unfolding drawnAnswer
+  unfolding drawnIs
   drawn-end e h rest found = drawn-as e h rest found
 
   pub drawn-refused : {n : ℕ} → r ≡ Drawn.the-variants.Refused n → {p : List Slot} → StandsPattern count ws at p → (rest : Values → List Row → Reading (List Row)) (found : List Row) →
       drawEach rest p (take count values) (drop i xs) found k ≡ refused n
-  unfolding drawnAnswer
+  unfolding drawnIs
   drawn-refused e h rest found = drawn-as e h rest found
 
 -- ---- one draw
 
 module _ (rest : Values → List Row → Reading (List Row)) (p : List Slot) (vs : Values) (xs found : List Row) (k i : ℕ) (inside : i < length xs) where
-  draw-due : {a : Answer (Unit {0})} → tick k ≡ a →
+  draw-due : {a : Result (Unit {0})} → tick k ≡ a →
       drawEach rest p vs (drop i xs) found k ≡ after a (λ _. λ j. after (onMatch rest found (match p vs (getD xs i [])) j) (λ more. drawEach rest p vs (drop (i + 1) xs) more))
   unfolding drawEach
   draw-due h =
       rw (drop-cons xs i [] inside, add-one)
-      (ap (λ (a : Answer (Unit {0})). after a (λ _. λ j. after (onMatch rest found (match p vs (getD xs i [])) j) (λ more. drawEach rest p vs (drop (suc i) xs) more))) h)
+      (ap (λ (a : Result (Unit {0})). after a (λ _. λ j. after (onMatch rest found (match p vs (getD xs i [])) j) (λ more. drawEach rest p vs (drop (suc i) xs) more))) h)
 
   draw-limit : {n : ℕ} → tick k ≡ refused n → drawEach rest p vs (drop i xs) found k ≡ refused n
   unfolding after
@@ -119,7 +119,7 @@ seeking-start {area} {free} f e = record {
 module _ {ws : List ℕ} {at : ℕ} {first : List ℕ} {count k : ℕ} {area : List ℕ} {free i listed : ℕ} {values : List ℕ} {used j : ℕ}
     (d : Seeking ws at first count k area free i listed values used j) where
   pub seeking-end : listed ≤ j → SayDrawn ws at first count (rowsIn (drop free area)) i k (Drawn.the-variants.End used) values
-  unfolding drawnAnswer Among InScope drawEach
+  unfolding drawnIs Among InScope drawEach
   seeking-end h = record {
     unchanged = d .unchanged;
     among = tt;
@@ -156,7 +156,7 @@ module _ {ws : List ℕ} {at : ℕ} {first : List ℕ} {count k : ℕ} {area : L
         ∙ sym (row-at (drop free area) j count-here)
 
     pub seeking-limit : {n : ℕ} → tick used ≡ refused n → SayDrawn ws at first count (rowsIn (drop free area)) i k (Drawn.the-variants.Refused n) values
-    unfolding drawnAnswer Among InScope
+    unfolding drawnIs Among InScope
     seeking-limit many = record {
       unchanged = d .unchanged;
       among = tt;
@@ -168,13 +168,13 @@ module _ {ws : List ℕ} {at : ℕ} {first : List ℕ} {count k : ℕ} {area : L
       still : Unchanged count first later
       still = unchanged-then (d .unchanged) (said .unchanged)
 
-      matched : {p : List Slot} → StandsPattern count ws at p → match p (take count first) (getD (rowsIn (drop free area)) j []) ≡ matchedAs m later
+      matched : {p : List Slot} → StandsPattern count ws at p → match p (take count first) (getD (rowsIn (drop free area)) j []) ≡ matchedIs m later
       matched {p} s =
           ap (λ (x : Row). match p (take count first) x) (sym row-is)
           ∙ ap (λ (vs : Values). match p vs (rowIn (fiveAt area (free + 2 + 5 * j)))) (sym (d .unchanged .front)) ∙ said .means p s
 
       pub seeking-miss : m .ok ≡ false → Seeking ws at first count k area free i listed later one (j + 1)
-      unfolding matchedAs onMatch after
+      unfolding matchedIs onMatch after
       seeking-miss ko =
           let a = d .ahead in
           record {
@@ -186,7 +186,7 @@ module _ {ws : List ℕ} {at : ℕ} {first : List ℕ} {count k : ℕ} {area : L
           }
 
       pub seeking-hit : m .ok ≡ true → SayDrawn ws at first count (rowsIn (drop free area)) i k (Drawn.the-variants.Matches (j + 1) one (m .count)) later
-      unfolding matchedAs onMatch drawnAnswer Among InScope
+      unfolding matchedIs onMatch drawnIs Among InScope
       seeking-hit ok =
           let a = d .ahead in
           let l = inside-rows in

@@ -11,7 +11,7 @@ use Rattle.rows.specs.Row.{Row, rowBefore}
 use Rattle.rows.specs.Sets.{has}
 use Rattle.rows.specs.Layout.{rowsIn, setIn}
 use Rattle.row_words.specs.Values as held
-use Rattle.sets.specs.Values.{insertion, afterInsert}
+use Rattle.sets.specs.Values.{insertedFor, afterInsert}
 use Rattle.row_words.specs.declared.row.Row as Held-row
 use Rattle.sets.specs.declared.Inserted as Inserted
 use Rattle.sets.specs.declared.Inserted.the-variants.{New, Known, Full}
@@ -25,12 +25,12 @@ use Rattle.meaning.specs.Reading.{done, refused, within}
 use Rattle.read_values.specs.Rows.{SayRow}
 use Rattle.read_values.specs.Answers.{Filled, IfDone}
 use Rattle.read_steps.specs.Areas.{Gathering, Kept}
-use Rattle.read_steps.specs.Steps.{rowsAnswer, SayHead, SayHas}
-use Rattle.read_values.proofs.Answers.{lies}
+use Rattle.read_steps.specs.Steps.{rowsReadIs, SayHead, SayHas}
+use Rattle.read_values.proofs.Answers.{stands-filled}
 use Rattle.read_steps.proofs.Areas.{kept-self, written-kept}
 use Rattle.read_values.specs.declared.Read.the-variants.{Done, Refused}
 
-pub row-is-wide : {ws : List ℕ} {at : ℕ} {vs : Values} {r : Held-row.Row} → length (r .atoms) ≡ 4 → SayRow ws at vs r → Width (held.rowOf r)
+pub row-is-wide : {ws : List ℕ} {at : ℕ} {vs : Values} {r : Held-row.Row} → length (r .atoms) ≡ 4 → SayRow ws at vs r → Width (held.rowIs r)
 row-is-wide {r} four s = let l = held-length r four (s .few) in let a = s .some in let b = s .few in record { some = omega arith; few = omega arith }
 
 -- ---- a row inserted into a sound set
@@ -47,7 +47,7 @@ pub record NoRoom (ws : List ℕ) (r : Row) (after : List ℕ) : Type 0 where
   pub same : after ≡ ws
   pub many : 128 < length (insert rowBefore r (rowsIn ws))
 
-module _ {ws : List ℕ} (f : Filled ws) {r : Row} (width : Width r) (a : Inserted.Inserted) (answer : a ≡ insertion (setIn ws) r) (after : List ℕ) (words : after ≡ afterInsert a ws r) where
+module _ {ws : List ℕ} (f : Filled ws) {r : Row} (width : Width r) (a : Inserted.Inserted) (answer : a ≡ insertedFor (setIn ws) r) (after : List ℕ) (words : after ≡ afterInsert a ws r) where
   there : (a ≡ Full → ⊥) → Listed ws r after
   there n =
       let few = inserted-few ws r (f .sound) a answer n in
@@ -56,7 +56,7 @@ module _ {ws : List ℕ} (f : Filled ws) {r : Row} (width : Width r) (a : Insert
       let e = words ∙ inserted-words a ws r n in
       let s = written-stands fit few′ ws (f .long) e in
       record {
-        filled = lies s;
+        filled = stands-filled s;
         form = stands-form s ∙ formed-word (getD ws 0 0) _ (true-sound ws (f .sound) .form);
         rows = stands-rows s ∙ formed-listing (getD ws 0 0) _;
         few = few;
@@ -88,24 +88,24 @@ unfolding within
 within-many xs k h = rw (lt-leb (length xs) 128 h, within)
 
 module _ {ws : List ℕ} {at : ℕ} {vs : Values} {k : ℕ} {entry : List ℕ} (g : Gathering entry) {r : Held-row.Row} (s : SayRow ws at vs r) {after : List ℕ} where
-  pub head-listed : Listed entry (held.rowOf r) after → SayHead ws at vs k entry (Done k) after
-  unfolding IfDone rowsAnswer
+  pub head-listed : Listed entry (held.rowIs r) after → SayHead ws at vs k entry (Done k) after
+  unfolding IfDone rowsReadIs
   head-listed l = record {
     gathering = record { filled = l .filled; finite = l .form ∙ g .finite };
     means = λ n ts h.
         ap (λ (x : Row). within (insert rowBefore x (rowsIn entry)) k) (sym (s .means n ts h))
-        ∙ within-few (insert rowBefore (held.rowOf r) (rowsIn entry)) k (l .few) ∙ ap (λ (xs : List Row). done xs k) (sym (l .rows));
+        ∙ within-few (insert rowBefore (held.rowIs r) (rowsIn entry)) k (l .few) ∙ ap (λ (xs : List Row). done xs k) (sym (l .rows));
     kept = l .kept;
   }
 
-  pub head-no-room : NoRoom entry (held.rowOf r) after → SayHead ws at vs k entry (Refused 13) after
-  unfolding IfDone rowsAnswer
+  pub head-no-room : NoRoom entry (held.rowIs r) after → SayHead ws at vs k entry (Refused 13) after
+  unfolding IfDone rowsReadIs
   head-no-room n = record {
     gathering = tt;
     means = λ m ts h.
-        ap (λ (x : Row). within (insert rowBefore x (rowsIn entry)) k) (sym (s .means m ts h)) ∙ within-many (insert rowBefore (held.rowOf r) (rowsIn entry)) k (n .many);
+        ap (λ (x : Row). within (insert rowBefore x (rowsIn entry)) k) (sym (s .means m ts h)) ∙ within-many (insert rowBefore (held.rowIs r) (rowsIn entry)) k (n .many);
     kept = λ free. subst (Kept free entry) (sym (n .same)) kept-self;
   }
 
-pub says-has : {ws : List ℕ} {at : ℕ} {vs : Values} {set : List ℕ} {r : Held-row.Row} {b : Bool} → SayRow ws at vs r → b ≡ has (setIn set) (held.rowOf r) → SayHas ws at vs set b
+pub says-has : {ws : List ℕ} {at : ℕ} {vs : Values} {set : List ℕ} {r : Held-row.Row} {b : Bool} → SayRow ws at vs r → b ≡ has (setIn set) (held.rowIs r) → SayHas ws at vs set b
 says-has {set} s e = record { means = λ n ts h. ap (has (setIn set)) (sym (s .means n ts h)) ∙ sym e }

@@ -24,7 +24,7 @@ use Rattle.read_values.specs.declared.Read.the-variants.{Done}
 use Rattle.read_values.proofs.Places.{row-wide}
 use Rattle.read_values.proofs.Rows.{row-of-length}
 use Rattle.read_steps.specs.Areas.{Gathering}
-use Rattle.read_steps.specs.Steps.{rowsAnswer, IsLast, SayIs, SayLast, SayHead}
+use Rattle.read_steps.specs.Steps.{rowsReadIs, IsLast, SayIs, SayLast, SayHead}
 use Rattle.read_steps.proofs.Areas.{kept-self}
 use Rattle.read_steps.proofs.Inserting.{within-few}
 
@@ -85,7 +85,7 @@ last-in xs l = let some = l .0 in subst (λ (y : Row). y ∈ xs) (sym (l .1)) (g
 
 -- to gather it again changes nothing
 pub head-known : {ws : List ℕ} {at : ℕ} {vs : Values} {k : ℕ} {entry : List ℕ} {r : Bool} → Gathering entry → SayLast ws at vs entry r → r ≡ true → SayHead ws at vs k entry (Done k) entry
-unfolding IfDone rowsAnswer
+unfolding IfDone rowsReadIs
 head-known {vs} {k} {entry} g s e =
     let sound = g .filled .sound in
     record {

@@ -15,14 +15,14 @@ use Rattle.rows.specs.Layout.{rowIn, fiveAt}
 use Rattle.row_words.proofs.RowLaws.{row-at-length, row-at-atom}
 use Rattle.policy.specs.Syntax.{Term, Slot, old, new}
 use Rattle.policy.specs.Words.{termWords, slotWords, fresh}
-use Rattle.policy.specs.Held.{termOf}
+use Rattle.policy.specs.Held.{termIs}
 use Rattle.policy.specs.declared.Term as Held-term
 use Rattle.policy.specs.declared.Slot.the-variants.{Old, New}
 use Rattle.meaning.specs.Values.{Values, value}
 use Rattle.meaning.specs.Reading.{match}
 use Rattle.read_values.specs.Values.{Bound, Unchanged, termHeld, slotHeld}
 use Rattle.read_values.specs.Places.{At, StandsPattern, SomePattern, IsSlot}
-use Rattle.read_steps.specs.Steps.{matchedAs, SayMatch}
+use Rattle.read_steps.specs.Steps.{matchedIs, SayMatch}
 use Rattle.read_values.proofs.Places.{at-word, at-next, at-skip, at-long, term-length, slots-length, slots-scope, pattern-wide}
 use Rattle.read_values.proofs.Held.{held-value}
 use Rattle.read_values.proofs.Lent.{unchanged-self, unchanged-then, unchanged-less, unchanged-bind, take-bind, bound-bind}
@@ -142,7 +142,7 @@ module _ {ws : List ℕ} {at n : ℕ} {vs : Values} {x : Row} {width scope : ℕ
         }
 
     module _ {t : Held-term.Term} (i : IsSlot ws (at + 1 + 2 * j) (Old t)) where
-      old-match : (q : List Slot) (y : OldNext ws (at + 1 + 2 * j) scope (width - j) t q) (r : Option Values) (b : Bool) → eqb (value us (termOf t)) a ≡ b →
+      old-match : (q : List Slot) (y : OldNext ws (at + 1 + 2 * j) scope (width - j) t q) (r : Option Values) (b : Bool) → eqb (value us (termIs t)) a ≡ b →
           _≡_ {A = Option Values} (elim b as (λ c. Option Values) [ true ↦ match (y .p) us (drop (j + 1) x) | false ↦ none ]) r → match q us (drop j x) ≡ r
       unfolding match
       old-match q y r b e g =
@@ -150,7 +150,7 @@ module _ {ws : List ℕ} {at n : ℕ} {vs : Values} {x : Row} {width scope : ℕ
           ∙ ap (λ (c : Bool). elim c as (λ c. Option Values) [ true ↦ match (y .p) us (drop (j + 1) x) | false ↦ none ])
           (ap (λ (u : ℕ). eqb u a) (sym (held-value us (y .t) (y .held))) ∙ e) ∙ g
 
-      matching-old : value us (termOf t) ≡ a → Matching ws at n vs x width scope us (j + 1)
+      matching-old : value us (termIs t) ≡ a → Matching ws at n vs x width scope us (j + 1)
       unfolding fresh
       matching-old e =
           let w = old-next (omega arith) i (iv .here) in
@@ -162,7 +162,7 @@ module _ {ws : List ℕ} {at n : ℕ} {vs : Values} {x : Row} {width scope : ℕ
             count = λ m g. iv .count m (λ q s. let y = old-next (omega arith) i s in let k = g (y .p) (moved (y .rest)) in let f = ap fresh (y .is) in omega arith);
           }
 
-      matching-fails : (value us (termOf t) ≡ a → ⊥) → (q : List Slot) → SlotsLeft ws (at + 1) n width q → match q vs x ≡ none
+      matching-fails : (value us (termIs t) ≡ a → ⊥) → (q : List Slot) → SlotsLeft ws (at + 1) n width q → match q vs x ≡ none
       matching-fails e = iv .means none (λ q s. let y = old-next (omega arith) i s in old-match q y none false (ne-eqb _ _ e) refl)
 
 none-left : (x : Row) (j : ℕ) → length x ≤ j → drop j x ≡ []
@@ -201,7 +201,7 @@ same-width ws at area row room few e = record { long = row-at-length area row ro
 -- rows of another width do not match
 pub other-width : {ws : List ℕ} {at : ℕ} {values : List ℕ} {count : ℕ} (area : List ℕ) (row : ℕ) → row + 5 ≤ length area → getD area row 0 ≤ 4 → (getD area row 0 ≡ getD ws at 0 → ⊥) →
     SayMatch ws at values count (rowIn (fiveAt area row)) (record { ok = false; count = count }) values
-unfolding matchedAs
+unfolding matchedIs
 other-width {values} {count} area row room few h = record {
   unchanged = unchanged-self;
   means = λ p s.
@@ -230,15 +230,15 @@ module _ {ws : List ℕ} {at : ℕ} {values : List ℕ} {count : ℕ} {area : Li
           slots = matching-new (iv .slots) less (fits .long) (fits .atom j less) i (take-bind valuesNow scope _ (omega arith));
         }
 
-    pub passed-old : {t : Held-term.Term} → j < getD ws at 0 → IsSlot ws (at + 1 + 2 * j) (Old t) → value (take scope valuesNow) (termOf t) ≡ getD area (row + 1 + j) 0 →
+    pub passed-old : {t : Held-term.Term} → j < getD ws at 0 → IsSlot ws (at + 1 + 2 * j) (Old t) → value (take scope valuesNow) (termIs t) ≡ getD area (row + 1 + j) 0 →
         Passed ws at values count area row valuesNow scope (j + 1)
     passed-old less i e =
         record { unchanged = iv .unchanged; bound = iv .bound; more = iv .more; slots = matching-old (iv .slots) less (fits .long) (fits .atom j less) i e }
 
     module _ (b : Bound values count) where
-      pub mismatched : {t : Held-term.Term} → j < getD ws at 0 → IsSlot ws (at + 1 + 2 * j) (Old t) → (value (take scope valuesNow) (termOf t) ≡ getD area (row + 1 + j) 0 → ⊥) →
+      pub mismatched : {t : Held-term.Term} → j < getD ws at 0 → IsSlot ws (at + 1 + 2 * j) (Old t) → (value (take scope valuesNow) (termIs t) ≡ getD area (row + 1 + j) 0 → ⊥) →
           SayMatch ws at values count (rowIn (fiveAt area row)) (record { ok = false; count = count }) valuesNow
-      unfolding matchedAs
+      unfolding matchedIs
       mismatched less i e = record {
         unchanged = iv .unchanged;
         means = λ p s. matching-fails (iv .slots) less (fits .long) (fits .atom j less) i e p (slots-inside (b .scope) s);
@@ -246,7 +246,7 @@ module _ {ws : List ℕ} {at : ℕ} {values : List ℕ} {count : ℕ} {area : Li
       }
 
       pub matched : getD ws at 0 ≤ j → SayMatch ws at values count (rowIn (fiveAt area row)) (record { ok = true; count = scope }) valuesNow
-      unfolding match fresh matchedAs
+      unfolding match fresh matchedIs
       matched h =
           let long = fits .long in
           let x : Row = rowIn (fiveAt area row) in

@@ -13,10 +13,10 @@ use Rattle.rows.specs.Layout.{setRoom, rowsIn, setIn}
 use Rattle.policy.specs.Syntax.{Term, Slot}
 use Rattle.policy.specs.Words.{fresh}
 use Rattle.meaning.specs.Values.{Values, rowOf}
-use Rattle.meaning.specs.Reading.{Answer, done, refused, Reading, after, within, small, match, drawEach}
+use Rattle.meaning.specs.Reading.{Result, done, refused, Reading, after, within, small, match, drawEach}
 use Rattle.read_values.specs.Values.{Unchanged}
 use Rattle.read_values.specs.Places.{StandsRow, StandsPattern}
-use Rattle.read_values.specs.Answers.{Filled, setAnswer, IfDone}
+use Rattle.read_values.specs.Answers.{Filled, setReadIs, IfDone}
 use Rattle.read_values.specs.declared.Read.{Read}
 use Rattle.read_values.specs.declared.Read.the-variants.{Done, Refused}
 use Rattle.read_steps.specs.Areas.{Gathering, Kept}
@@ -26,20 +26,20 @@ use Rattle.read_steps.specs.declared.Drawn as Drawn
 -- ---- answers
 
 -- while a comprehension's rows are gathered
-unfoldable pub rowsAnswer : Read → List ℕ → Answer (List Row)
-rowsAnswer (Done k) area = done (rowsIn area) k
-rowsAnswer (Refused n) area = refused n
+unfoldable pub rowsReadIs : Read → List ℕ → Result (List Row)
+rowsReadIs (Done k) area = done (rowsIn area) k
+rowsReadIs (Refused n) area = refused n
 
 -- the values in scope after a match
-unfoldable pub matchedAs : Matched → List ℕ → Option Values
-matchedAs m values = elim (m .ok) [ true ↦ some (take (m .count) values) | false ↦ none ]
+unfoldable pub matchedIs : Matched → List ℕ → Option Values
+matchedIs m values = elim (m .ok) [ true ↦ some (take (m .count) values) | false ↦ none ]
 
 -- drawing on: after a row that matches come the guards that follow, read by `rest`, and then the rows behind it
-unfoldable pub drawnAnswer : Drawn.Drawn → List ℕ → (Values → List Row → Reading (List Row)) → List Slot → Values → List Row → List Row → Answer (List Row)
+unfoldable pub drawnIs : Drawn.Drawn → List ℕ → (Values → List Row → Reading (List Row)) → List Slot → Values → List Row → List Row → Result (List Row)
 unfolding after drawEach
-drawnAnswer (Drawn.the-variants.Matches next draws scope) values rest p vs xs found = after (rest (take scope values) found draws) (λ more. drawEach rest p vs (drop next xs) more)
-drawnAnswer (Drawn.the-variants.End draws) values rest p vs xs found = done found draws
-drawnAnswer (Drawn.the-variants.Refused n) values rest p vs xs found = refused n
+drawnIs (Drawn.the-variants.Matches next draws scope) values rest p vs xs found = after (rest (take scope values) found draws) (λ more. drawEach rest p vs (drop next xs) more)
+drawnIs (Drawn.the-variants.End draws) values rest p vs xs found = done found draws
+drawnIs (Drawn.the-variants.Refused n) values rest p vs xs found = refused n
 
 -- a row that matches is one of the n rows from row i on
 unfoldable pub Among : Drawn.Drawn → ℕ → ℕ → Type 0
@@ -67,7 +67,7 @@ IsLast x xs = (0 < length xs) × (x ≡ getD xs (length xs - 1) [])
 -- the left set lies at the front, the right one behind it
 pub record SayCombined (minus : Bool) (k : ℕ) (entry : List ℕ) (r : Read) (area : List ℕ) : Type 0 where
   pub filled : IfDone Filled r area
-  pub means : small (combined minus (setIn entry) (setIn (drop setRoom entry))) k ≡ setAnswer r area
+  pub means : small (combined minus (setIn entry) (setIn (drop setRoom entry))) k ≡ setReadIs r area
 
 -- whether the row that the terms come to is x
 pub record SayIs (ws : List ℕ) (at : ℕ) (vs : Values) (x : Row) (r : Bool) : Type 0 where
@@ -79,13 +79,13 @@ pub record SayLast (ws : List ℕ) (at : ℕ) (vs : Values) (set : List ℕ) (r 
 
 pub record SayHead (ws : List ℕ) (at : ℕ) (vs : Values) (k : ℕ) (entry : List ℕ) (r : Read) (area : List ℕ) : Type 0 where
   pub gathering : IfDone Gathering r area
-  pub means : (n : ℕ) (ts : List Term) → StandsRow n ws at ts → within (insert rowBefore (rowOf vs ts) (rowsIn entry)) k ≡ rowsAnswer r area
+  pub means : (n : ℕ) (ts : List Term) → StandsRow n ws at ts → within (insert rowBefore (rowOf vs ts) (rowsIn entry)) k ≡ rowsReadIs r area
   pub kept : (free : ℕ) → Kept free entry area
 
 -- a pattern against the row x
 pub record SayMatch (ws : List ℕ) (at : ℕ) (values : List ℕ) (count : ℕ) (x : Row) (m : Matched) (valuesNow : List ℕ) : Type 0 where
   pub unchanged : Unchanged count values valuesNow
-  pub means : (p : List Slot) → StandsPattern count ws at p → match p (take count values) x ≡ matchedAs m valuesNow
+  pub means : (p : List Slot) → StandsPattern count ws at p → match p (take count values) x ≡ matchedIs m valuesNow
   pub scope : (p : List Slot) → StandsPattern count ws at p → m .ok ≡ true → m .count ≡ count + fresh p
 
 -- whether the row that the terms come to belongs to the set
@@ -98,4 +98,4 @@ pub record SayDrawn (ws : List ℕ) (at : ℕ) (values : List ℕ) (count : ℕ)
   pub among : Among r i (length xs)
   pub scope : (p : List Slot) → StandsPattern count ws at p → InScope r (count + fresh p)
   pub means : (p : List Slot) → StandsPattern count ws at p → (rest : Values → List Row → Reading (List Row)) (found : List Row) →
-      drawEach rest p (take count values) (drop i xs) found k ≡ drawnAnswer r valuesNow rest p (take count values) xs found
+      drawEach rest p (take count values) (drop i xs) found k ≡ drawnIs r valuesNow rest p (take count values) xs found

@@ -15,7 +15,7 @@ use read_values::slot_at;
 use read_values::tick;
 use read_values::value_of;
 use refusals::TOO_MANY_ROWS;
-use row_words::row::wide;
+use row_words::wide;
 use set_algebra::subtract;
 use set_algebra::unite;
 use sets::Inserted;

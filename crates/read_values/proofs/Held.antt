@@ -10,7 +10,7 @@ use lib.ListN.{length, take, getD, length-take, List·getD-eq-default}
 use lib.Seq.{getD-take}
 use Rattle.policy.specs.Syntax.{Term, atom, var, Slot, old, new, Body, head, draw, same, different, absent}
 use Rattle.policy.specs.Words.{termWords, slotWords, guardCount, exprWords, bodyWords}
-use Rattle.policy.specs.Held.{termOf}
+use Rattle.policy.specs.Held.{termIs}
 use Rattle.meaning.specs.Values.{Values, value}
 use Rattle.read_values.specs.Values.{termHeld, slotHeld, guardHeld, passing}
 use Rattle.read_values.specs.Places.{At, SomeGuard, IsTerm, IsSlot, IsGuard}
@@ -27,30 +27,30 @@ use denote.Enum.Declared.{tagOf}
 -- ---- values
 
 module _ {x : Held-term.Term} {v : ℕ} where
-  pub value-atom : (vs : Values) → x ≡ Atom v → v ≡ value vs (termOf x)
-  unfolding value termOf
+  pub value-atom : (vs : Values) → x ≡ Atom v → v ≡ value vs (termIs x)
+  unfolding value termIs
   value-atom vs is = rw is refl
 
   module _ {i : ℕ} (values : List ℕ) (count : ℕ) (is : x ≡ Variable v) (index : i ≡ v) where
-    pub value-in : i < count → getD values i 0 ≡ value (take count values) (termOf x)
-    unfolding value termOf
+    pub value-in : i < count → getD values i 0 ≡ value (take count values) (termIs x)
+    unfolding value termIs
     value-in h = rw (is, ← index) (sym (getD-take count values i 0 h))
 
-    pub value-out : count ≤ i → 0 ≡ value (take count values) (termOf x)
-    unfolding value termOf
+    pub value-out : count ≤ i → 0 ≡ value (take count values) (termIs x)
+    unfolding value termIs
     value-out h = rw (is, ← index) (sym (List·getD-eq-default (take count values) 0 {n = i} (omega (arith, length-take count values))))
 
-term-back : (t : Term) → termOf (termHeld t) ≡ t
-unfolding termOf termHeld
+term-back : (t : Term) → termIs (termHeld t) ≡ t
+unfolding termIs termHeld
 term-back (atom a) = refl
 term-back (var i) = refl
 
 -- the value of a term is that of the term held
-pub held-value : (vs : Values) {x : Held-term.Term} (t : Term) → x ≡ termHeld t → value vs (termOf x) ≡ value vs t
-held-value vs t h = ap (λ (y : Held-term.Term). value vs (termOf y)) h ∙ ap (value vs) (term-back t)
+pub held-value : (vs : Values) {x : Held-term.Term} (t : Term) → x ≡ termHeld t → value vs (termIs x) ≡ value vs t
+held-value vs t h = ap (λ (y : Held-term.Term). value vs (termIs y)) h ∙ ap (value vs) (term-back t)
 
 -- whether a comparison passes, from the two atoms
-module _ (vs : Values) {x y : Held-term.Term} {a b : ℕ} (first : a ≡ value vs (termOf x)) (second : b ≡ value vs (termOf y)) {g : Held-guard.Guard} where
+module _ (vs : Values) {x y : Held-term.Term} {a b : ℕ} (first : a ≡ value vs (termIs x)) (second : b ≡ value vs (termIs y)) {g : Held-guard.Guard} where
   pub same-passes : g ≡ Same x y → eqb a b ≡ passing vs g
   unfolding passing
   same-passes e = rw (first, second, e) refl

@@ -7,11 +7,11 @@ use lib.ListN.{length, take, getD, length-map, List·getD-map, List·getD-eq-def
 use Rattle.rows.specs.Row.{Row}
 use Rattle.rows.specs.Layout.{rowIn}
 use Rattle.row_words.specs.Values as held
-use Rattle.row_words.specs.Values.{wordsOf}
+use Rattle.row_words.specs.Values.{fiveIs}
 use Rattle.policy.specs.Syntax.{Term, atom}
 use Rattle.policy.specs.Words.{termWords, each, termRowWords}
 use Rattle.meaning.specs.Values.{Values, value, rowOf}
-use Rattle.policy.specs.Held.{termOf}
+use Rattle.policy.specs.Held.{termIs}
 use Rattle.read_values.specs.Places.{At, StandsRow, SomeRow, IsTerm}
 use Rattle.read_values.specs.Rows.{SayAtom, SayRow}
 use Rattle.read_values.proofs.Places.{at-next, at-skip, at-front, term-length, row-wide, row-width}
@@ -40,7 +40,7 @@ unfolding rowOf
 row-of-length vs ts = length-map ts (value vs)
 
 module _ {ws : List ℕ} {at : ℕ} {vs : Values} {j : ℕ} where
-  pub term-atom : {x : Held-term.Term} → j < getD ws at 0 → IsTerm ws (at + 1 + 2 * j) x → SayAtom ws at vs j (value vs (termOf x))
+  pub term-atom : {x : Held-term.Term} → j < getD ws at 0 → IsTerm ws (at + 1 + 2 * j) x → SayAtom ws at vs j (value vs (termIs x))
   term-atom less i = record {
     means = λ n ts s.
         let w = row-wide s .width in
@@ -61,7 +61,7 @@ four-atoms (a ∷ b ∷ c ∷ d ∷ e ∷ xs) h = absurd (omega arith)
 
 pub row-of-atoms : {ws : List ℕ} {at : ℕ} {vs : Values} {a b c d : ℕ} → SomeRow ws at → SayAtom ws at vs 0 a → SayAtom ws at vs 1 b → SayAtom ws at vs 2 c → SayAtom ws at vs 3 d →
     SayRow ws at vs (record { width = getD ws at 0; atoms = a ∷ b ∷ c ∷ d ∷ [] })
-unfolding held.rowOf wordsOf rowIn
+unfolding held.rowIs fiveIs rowIn
 row-of-atoms {ws} {at} {vs} some a b c d =
     let w = row-width some in
     record {

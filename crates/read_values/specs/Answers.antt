@@ -6,7 +6,7 @@ use mathlib.Core.List.{List, []}
 use lib.ListN.{length, getD}
 use Rattle.rows.specs.Sets.{RowSet}
 use Rattle.rows.specs.Layout.{setRoom, rowsIn, setIn, soundSet}
-use Rattle.meaning.specs.Reading.{Answer, done, refused}
+use Rattle.meaning.specs.Reading.{Result, done, refused}
 use Rattle.read_values.specs.declared.Read.{Read}
 use Rattle.read_values.specs.declared.Read.the-variants.{Done, Refused}
 use Rattle.read_values.specs.declared.Tested as Tested
@@ -22,20 +22,20 @@ pub record Empty (form : ℕ) (area : List ℕ) : Type 0 where
   pub is : getD area 0 0 ≡ form
   pub none : rowsIn area ≡ []
 
-unfoldable pub setAnswer : Read → List ℕ → Answer RowSet
-setAnswer (Done k) area = done (setIn area) k
-setAnswer (Refused n) area = refused n
+unfoldable pub setReadIs : Read → List ℕ → Result RowSet
+setReadIs (Done k) area = done (setIn area) k
+setReadIs (Refused n) area = refused n
 
 -- whether one draw more is made
-unfoldable pub ticked : Read → Answer (Unit {0})
-ticked (Done k) = done tt k
-ticked (Refused n) = refused n
+unfoldable pub tickIs : Read → Result (Unit {0})
+tickIs (Done k) = done tt k
+tickIs (Refused n) = refused n
 
 -- whether a row belongs
-unfoldable pub testedAnswer : Tested.Tested → Answer Bool
-testedAnswer (Tested.the-variants.Has k) = done true k
-testedAnswer (Tested.the-variants.Lacks k) = done false k
-testedAnswer (Tested.the-variants.Refused n) = refused n
+unfoldable pub testedIs : Tested.Tested → Result Bool
+testedIs (Tested.the-variants.Has k) = done true k
+testedIs (Tested.the-variants.Lacks k) = done false k
+testedIs (Tested.the-variants.Refused n) = refused n
 
 -- what holds of the area if the reading is done
 unfoldable pub IfDone : (List ℕ → Type 0) → Read → List ℕ → Type 0

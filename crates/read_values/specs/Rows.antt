@@ -17,4 +17,4 @@ pub record SayAtom (ws : List ℕ) (at : ℕ) (vs : Values) (j r : ℕ) : Type 0
 pub record SayRow (ws : List ℕ) (at : ℕ) (vs : Values) (r : Held-row.Row) : Type 0 where
   pub some : 1 ≤ r .width
   pub few : r .width ≤ 4
-  pub means : (n : ℕ) (ts : List Term) → StandsRow n ws at ts → held.rowOf r ≡ rowOf vs ts
+  pub means : (n : ℕ) (ts : List Term) → StandsRow n ws at ts → held.rowIs r ≡ rowOf vs ts

@@ -6,7 +6,7 @@ use mathlib.Core.List.{List}
 use lib.Dec.{eqb}
 use lib.ListN.{length, take}
 use Rattle.policy.specs.Syntax.{Term, atom, var, Slot, old, new, Body, head, draw, same, different, absent}
-use Rattle.policy.specs.Held.{termOf}
+use Rattle.policy.specs.Held.{termIs}
 use Rattle.policy.specs.declared.Term as Held-term
 use Rattle.policy.specs.declared.Term.the-variants.{Atom, Variable}
 use Rattle.policy.specs.declared.Slot as Held-slot
@@ -47,6 +47,6 @@ guardHeld (absent r e b) = Absent
 -- whether a comparison passes: "same and different, if the two atoms are equal or differ". The others compare nothing; of them it says no.
 unfoldable pub passing : Values → Held-guard.Guard → Bool
 passing vs Draw = false
-passing vs (Same x y) = eqb (value vs (termOf x)) (value vs (termOf y))
-passing vs (Different x y) = not (eqb (value vs (termOf x)) (value vs (termOf y)))
+passing vs (Same x y) = eqb (value vs (termIs x)) (value vs (termIs y))
+passing vs (Different x y) = not (eqb (value vs (termIs x)) (value vs (termIs y)))
 passing vs Absent = false

@@ -5,13 +5,13 @@ pub mod skip;
 ghost use mathlib.Core.Path.{_≡_};
 ghost use Prim.Native.Nat.{_+_, _≤_};
 ghost use lib.ListN.{length, take};
-ghost use Rattle.policy.specs.Held.{termOf};
+ghost use Rattle.policy.specs.Held.{termIs};
 ghost use Rattle.meaning.specs.Reading.{tick};
 ghost use Rattle.meaning.specs.Values.{value};
 ghost use Rattle.read_values.specs.Values.{Bound, passing};
 ghost use Rattle.read_values.specs.Places.{IsTerm, IsSlot, IsGuard, SomeRow, SomeGuard};
 ghost use Rattle.read_values.specs.Rows.{SayAtom, SayRow};
-ghost use Rattle.read_values.specs.Answers.{ticked, testedAnswer};
+ghost use Rattle.read_values.specs.Answers.{tickIs, testedIs};
 ghost use Rattle.meaning.specs.Reading.{done};
 use policy::GUARD_ABSENT;
 use policy::GUARD_DRAW;
@@ -23,7 +23,7 @@ use policy::TAG_NEW;
 use policy::Term;
 use refusals::TOO_MANY_DRAWS;
 use row_words::row::Row;
-use row_words::row::wide;
+use row_words::wide;
 
 // The numbers that stay the same through a reading: how many definitions were read before.
 pub struct Given {
@@ -47,7 +47,7 @@ const MOST_DRAWS: u32 = 1000000;
 
 // One draw more, unless as many were made as may be.
 pub fn tick(draws: u32) -> Read
-    ensures { λ r. ⌜ ticked r ≡ tick draws ⌝ }
+    ensures { λ r. ⌜ tickIs r ≡ tick draws ⌝ }
 {
     if MOST_DRAWS <= draws {
         return Read::Refused(TOO_MANY_DRAWS);
@@ -56,7 +56,7 @@ pub fn tick(draws: u32) -> Read
 }
 
 pub fn told(has: bool, draws: u32) -> Tested
-    ensures { λ r. ⌜ testedAnswer r ≡ done has draws ⌝ }
+    ensures { λ r. ⌜ testedIs r ≡ done has draws ⌝ }
 {
     if has {
         Tested::Has(draws)
@@ -111,7 +111,7 @@ pub fn guard_at(words: &[u32], at: usize) -> Guard
 // What a term comes to; a checked one names a variable in scope.
 pub fn value_of(values: &[u32; 16], count: usize, term: Term) -> u32
     requires { ⌜ Bound (now values) count ⌝ }
-    ensures { λ r. ⌜ r ≡ value (take count (now (values .entry))) (termOf term) ⌝ }
+    ensures { λ r. ⌜ r ≡ value (take count (now (values .entry))) (termIs term) ⌝ }
 {
     match term {
         Term::Atom(a) => a,

@@ -1,4 +1,4 @@
-// The refusal numbers. The table itself is `specs/Table.antt`.
+// The refusal numbers. The table itself is `specs/RefusalTable.antt`.
 pub const BAD_HEADER: u32 = 1;
 
 pub const BAD_TABLE: u32 = 2;

@@ -10,7 +10,7 @@ use borrow.Author.Tests.{le-leb, lt-leb}
 use Rattle.rows.specs.Ordered.{wordsBefore}
 use Rattle.rows.specs.Row.{Row, rowBefore}
 use Rattle.rows.specs.Layout.{rowIn, rowWords, fiveAt, zeros, soundRow}
-use Rattle.row_words.specs.Values.{wordsOf, rowOf, orderOf}
+use Rattle.row_words.specs.Values.{fiveIs, rowIs, orderFor}
 use Rattle.row_words.specs.declared.row.Row as Held
 use Rattle.row_words.specs.declared.row.Order.the-variants.{Before, Same, After}
 use Rattle.rows.proofs.Case.{Case, isTrue, isFalse, split, never}
@@ -121,51 +121,51 @@ first-differs (a ∷ x) (b ∷ y) (suc j) e h k l =
     step-equal a b (wordsBefore x y) f ∙ first-differs x y j g (omega arith) (omega arith) l
 
 module _ (x y : Row) where
-  pub order-before : rowBefore x y ≡ true → orderOf x y ≡ Before
-  unfolding orderOf
-  order-before e = rw (e, orderOf)
+  pub order-before : rowBefore x y ≡ true → orderFor x y ≡ Before
+  unfolding orderFor
+  order-before e = rw (e, orderFor)
 
-  pub order-after : rowBefore y x ≡ true → orderOf x y ≡ After
-  unfolding orderOf
+  pub order-after : rowBefore y x ≡ true → orderFor x y ≡ After
+  unfolding orderFor
   order-after e = go (split (rowBefore x y))
     where
-      go : Case (rowBefore x y) → orderOf x y ≡ After
+      go : Case (rowBefore x y) → orderFor x y ≡ After
       go (isTrue f) = never (row-order .transitive x y x f e) (row-order .irreflexive x)
-      go (isFalse f) = rw (f, e, orderOf)
+      go (isFalse f) = rw (f, e, orderFor)
 
-  pub order-same : x ≡ y → orderOf x y ≡ Same
-  unfolding orderOf
+  pub order-same : x ≡ y → orderFor x y ≡ Same
+  unfolding orderFor
   order-same e =
       let f : rowBefore x y ≡ false = ap (rowBefore x) (sym e) ∙ row-order .irreflexive x in
       let g : rowBefore y x ≡ false = ap (rowBefore y) e ∙ row-order .irreflexive y in
-      rw (f, g, orderOf)
+      rw (f, g, orderFor)
 
   -- and back
-  pub before-order : orderOf x y ≡ Before → rowBefore x y ≡ true
-  unfolding orderOf
+  pub before-order : orderFor x y ≡ Before → rowBefore x y ≡ true
+  unfolding orderFor
   before-order e = go (split (rowBefore x y)) (split (rowBefore y x))
     where
       go : Case (rowBefore x y) → Case (rowBefore y x) → rowBefore x y ≡ true
       go (isTrue f) g = f
-      go (isFalse f) (isTrue g) = let h = rw (f, g, orderOf) at e in let z : _≡_ {A = ℕ} 0 1 = cc in absurd (omega arith)
-      go (isFalse f) (isFalse g) = let h = rw (f, g, orderOf) at e in let z : _≡_ {A = ℕ} 0 1 = cc in absurd (omega arith)
+      go (isFalse f) (isTrue g) = let h = rw (f, g, orderFor) at e in let z : _≡_ {A = ℕ} 0 1 = cc in absurd (omega arith)
+      go (isFalse f) (isFalse g) = let h = rw (f, g, orderFor) at e in let z : _≡_ {A = ℕ} 0 1 = cc in absurd (omega arith)
 
-  pub after-order : orderOf x y ≡ After → rowBefore y x ≡ true
-  unfolding orderOf
+  pub after-order : orderFor x y ≡ After → rowBefore y x ≡ true
+  unfolding orderFor
   after-order e = go (split (rowBefore x y)) (split (rowBefore y x))
     where
       go : Case (rowBefore x y) → Case (rowBefore y x) → rowBefore y x ≡ true
-      go (isTrue f) g = let h = rw (f, orderOf) at e in let z : _≡_ {A = ℕ} 0 1 = cc in absurd (omega arith)
+      go (isTrue f) g = let h = rw (f, orderFor) at e in let z : _≡_ {A = ℕ} 0 1 = cc in absurd (omega arith)
       go (isFalse f) (isTrue g) = g
-      go (isFalse f) (isFalse g) = let h = rw (f, g, orderOf) at e in let z : _≡_ {A = ℕ} 0 1 = cc in absurd (omega arith)
+      go (isFalse f) (isFalse g) = let h = rw (f, g, orderFor) at e in let z : _≡_ {A = ℕ} 0 1 = cc in absurd (omega arith)
 
-  pub same-order : orderOf x y ≡ Same → x ≡ y
-  unfolding orderOf
+  pub same-order : orderFor x y ≡ Same → x ≡ y
+  unfolding orderFor
   same-order e = go (split (rowBefore x y)) (split (rowBefore y x))
     where
       go : Case (rowBefore x y) → Case (rowBefore y x) → x ≡ y
-      go (isTrue f) g = let h = rw (f, orderOf) at e in let z : _≡_ {A = ℕ} 0 1 = cc in absurd (omega arith)
-      go (isFalse f) (isTrue g) = let h = rw (f, g, orderOf) at e in let z : _≡_ {A = ℕ} 0 1 = cc in absurd (omega arith)
+      go (isTrue f) g = let h = rw (f, orderFor) at e in let z : _≡_ {A = ℕ} 0 1 = cc in absurd (omega arith)
+      go (isFalse f) (isTrue g) = let h = rw (f, g, orderFor) at e in let z : _≡_ {A = ℕ} 0 1 = cc in absurd (omega arith)
       go (isFalse f) (isFalse g) = row-order .total x y f g
 
   -- narrower, or wider
@@ -212,82 +212,82 @@ agree-end x y j a h = let w = a .width in sym (take-all j x h) ∙ a .front ∙ 
 
 -- ---- a row in hand
 
-pub held-length : (r : Held.Row) → length (r .atoms) ≡ 4 → r .width ≤ 4 → length (rowOf r) ≡ r .width
-unfolding rowOf
+pub held-length : (r : Held.Row) → length (r .atoms) ≡ 4 → r .width ≤ 4 → length (rowIs r) ≡ r .width
+unfolding rowIs
 held-length r l h = length-take-le (r .width) (r .atoms) (omega arith)
 
-pub held-atom : (r : Held.Row) (j : ℕ) → j < r .width → getD (rowOf r) j 0 ≡ getD (r .atoms) j 0
-unfolding rowOf
+pub held-atom : (r : Held.Row) (j : ℕ) → j < r .width → getD (rowIs r) j 0 ≡ getD (r .atoms) j 0
+unfolding rowIs
 held-atom r j h = getD-take (r .width) (r .atoms) j 0 h
 
 -- one that was loaded
-pub loaded-row : (r : Held.Row) (ws : List ℕ) (at : ℕ) → wordsOf r ≡ fiveAt ws at → rowOf r ≡ rowIn (fiveAt ws at)
-unfolding rowOf
+pub loaded-row : (r : Held.Row) (ws : List ℕ) (at : ℕ) → fiveIs r ≡ fiveAt ws at → rowIs r ≡ rowIn (fiveAt ws at)
+unfolding rowIs
 loaded-row r ws at e = ap rowIn e
 
-pub loaded-width : (r : Held.Row) (ws : List ℕ) (at : ℕ) → wordsOf r ≡ fiveAt ws at → r .width ≡ getD ws at 0
-unfolding wordsOf
+pub loaded-width : (r : Held.Row) (ws : List ℕ) (at : ℕ) → fiveIs r ≡ fiveAt ws at → r .width ≡ getD ws at 0
+unfolding fiveIs
 loaded-width r ws at e = ap (λ (l : List ℕ). getD l 0 0) e ∙ five-width ws at
 
 -- its five words: the width, the atoms, and zeros
 module _ (r : Held.Row) (four : length (r .atoms) ≡ 4) (few : r .width ≤ 4) where
-  pub held-width : getD (rowWords (rowOf r)) 0 0 ≡ r .width
+  pub held-width : getD (rowWords (rowIs r)) 0 0 ≡ r .width
   unfolding rowWords
   held-width = held-length r four few
 
-  pub held-words-length : length (rowWords (rowOf r)) ≡ 5
-  held-words-length = row-length (rowOf r) (omega (arith, held-length r four few))
+  pub held-words-length : length (rowWords (rowIs r)) ≡ 5
+  held-words-length = row-length (rowIs r) (omega (arith, held-length r four few))
 
-  pub held-used : (j : ℕ) → 0 < j → j ≤ r .width → getD (rowWords (rowOf r)) j 0 ≡ getD (r .atoms) (j - 1) 0
+  pub held-used : (j : ℕ) → 0 < j → j ≤ r .width → getD (rowWords (rowIs r)) j 0 ≡ getD (r .atoms) (j - 1) 0
   unfolding rowWords
   held-used j a h =
       let e : j ≡ suc (j - 1) = omega arith in
-      ap (λ (k : ℕ). getD (rowWords (rowOf r)) k 0) e
-      ∙ List·getD-append (rowOf r) (replicate (4 - length (rowOf r)) 0) 0 (j - 1) (omega (arith, held-length r four few)) ∙ held-atom r (j - 1) (omega arith)
+      ap (λ (k : ℕ). getD (rowWords (rowIs r)) k 0) e
+      ∙ List·getD-append (rowIs r) (replicate (4 - length (rowIs r)) 0) 0 (j - 1) (omega (arith, held-length r four few)) ∙ held-atom r (j - 1) (omega arith)
 
-  pub held-unused : (j : ℕ) → r .width < j → j < 5 → getD (rowWords (rowOf r)) j 0 ≡ 0
+  pub held-unused : (j : ℕ) → r .width < j → j < 5 → getD (rowWords (rowIs r)) j 0 ≡ 0
   unfolding rowWords
   held-unused j h k =
       let l = held-length r four few in
-      let e : j ≡ suc (length (rowOf r) + (j - 1 - length (rowOf r))) = omega arith in
-      ap (λ (k : ℕ). getD (rowWords (rowOf r)) k 0) e
-      ∙ getD-append-add (rowOf r) (replicate (4 - length (rowOf r)) 0) (j - 1 - length (rowOf r)) 0
-      ∙ getD-replicate (4 - length (rowOf r)) (j - 1 - length (rowOf r)) 0 0 (omega arith)
+      let e : j ≡ suc (length (rowIs r) + (j - 1 - length (rowIs r))) = omega arith in
+      ap (λ (k : ℕ). getD (rowWords (rowIs r)) k 0) e
+      ∙ getD-append-add (rowIs r) (replicate (4 - length (rowIs r)) 0) (j - 1 - length (rowIs r)) 0
+      ∙ getD-replicate (4 - length (rowIs r)) (j - 1 - length (rowIs r)) 0 0 (omega arith)
 
 -- against the five words at a place
 module _ (r : Held.Row) (ws : List ℕ) (at : ℕ) (room : at + 5 ≤ length ws) (four : length (r .atoms) ≡ 4) (few : r .width ≤ 4) (narrow : getD ws at 0 ≤ 4) where
-  mine-width : length (rowOf r) ≡ r .width
+  mine-width : length (rowIs r) ≡ r .width
   mine-width = held-length r four few
 
   their-width : length (rowIn (fiveAt ws at)) ≡ getD ws at 0
   their-width = row-at-length ws at room narrow
 
-  pub compare-narrower : r .width < getD ws at 0 → orderOf (rowOf r) (rowIn (fiveAt ws at)) ≡ Before
+  pub compare-narrower : r .width < getD ws at 0 → orderFor (rowIs r) (rowIn (fiveAt ws at)) ≡ Before
   compare-narrower h = order-before _ _ (narrower _ _ (omega (arith, mine-width, their-width)))
 
-  pub compare-wider : getD ws at 0 < r .width → orderOf (rowOf r) (rowIn (fiveAt ws at)) ≡ After
+  pub compare-wider : getD ws at 0 < r .width → orderFor (rowIs r) (rowIn (fiveAt ws at)) ≡ After
   compare-wider h = order-after _ _ (narrower _ _ (omega (arith, mine-width, their-width)))
 
   module _ (alike : r .width ≡ getD ws at 0) where
-    pub compare-start : Agree (rowOf r) (rowIn (fiveAt ws at)) 0
+    pub compare-start : Agree (rowIs r) (rowIn (fiveAt ws at)) 0
     compare-start = agree-start _ _ (omega (arith, mine-width, their-width))
 
-    module _ (j : ℕ) (a : Agree (rowOf r) (rowIn (fiveAt ws at)) j) where
-      pub compare-end : r .width ≤ j → orderOf (rowOf r) (rowIn (fiveAt ws at)) ≡ Same
+    module _ (j : ℕ) (a : Agree (rowIs r) (rowIn (fiveAt ws at)) j) where
+      pub compare-end : r .width ≤ j → orderFor (rowIs r) (rowIn (fiveAt ws at)) ≡ Same
       compare-end h = order-same _ _ (agree-end _ _ j a (omega (arith, mine-width)))
 
       module _ (h : j < r .width) where
-        here : getD (rowOf r) j 0 ≡ getD (r .atoms) j 0
+        here : getD (rowIs r) j 0 ≡ getD (r .atoms) j 0
         here = held-atom r j h
 
         there : getD (rowIn (fiveAt ws at)) j 0 ≡ getD ws (at + 1 + j) 0
         there = row-at-atom ws at j narrow (omega arith)
 
-        pub compare-less : getD (r .atoms) j 0 < getD ws (at + 1 + j) 0 → orderOf (rowOf r) (rowIn (fiveAt ws at)) ≡ Before
+        pub compare-less : getD (r .atoms) j 0 < getD ws (at + 1 + j) 0 → orderFor (rowIs r) (rowIn (fiveAt ws at)) ≡ Before
         compare-less l = order-before _ _ (agree-before _ _ j a (omega (arith, mine-width)) (omega (arith, here, there)))
 
-        pub compare-more : getD ws (at + 1 + j) 0 < getD (r .atoms) j 0 → orderOf (rowOf r) (rowIn (fiveAt ws at)) ≡ After
+        pub compare-more : getD ws (at + 1 + j) 0 < getD (r .atoms) j 0 → orderFor (rowIs r) (rowIn (fiveAt ws at)) ≡ After
         compare-more l = order-after _ _ (agree-before _ _ j (agree-turned _ _ j a) (omega (arith, their-width)) (omega (arith, here, there)))
 
-        pub compare-next : getD ws (at + 1 + j) 0 ≤ getD (r .atoms) j 0 → getD (r .atoms) j 0 ≤ getD ws (at + 1 + j) 0 → Agree (rowOf r) (rowIn (fiveAt ws at)) (j + 1)
+        pub compare-next : getD ws (at + 1 + j) 0 ≤ getD (r .atoms) j 0 → getD (r .atoms) j 0 ≤ getD ws (at + 1 + j) 0 → Agree (rowIs r) (rowIn (fiveAt ws at)) (j + 1)
         compare-next l m = agree-next _ _ j a (omega (arith, mine-width)) (omega (arith, here, there))

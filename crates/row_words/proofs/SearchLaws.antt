@@ -14,7 +14,7 @@ use Rattle.rows.proofs.Order.{row-order}
 use Rattle.rows.proofs.Ordered.{Ascending, ascending-true}
 use Rattle.rows.proofs.Place.{Between, between-up, between-down, gap-insert, gap-lists, found-lists}
 use Rattle.rows.proofs.LayoutLaws.{length-pieces, piece-at}
-use Rattle.row_words.specs.Values.{orderOf}
+use Rattle.row_words.specs.Values.{orderFor}
 use Rattle.row_words.specs.Search.{rowsAt, Listed, Finds}
 use Rattle.row_words.specs.declared.row.Order as Order
 use Rattle.row_words.specs.declared.row.Order.the-variants.{Before, Same, After}
@@ -101,9 +101,9 @@ module _ {ws : List ℕ} {start step count : ℕ} (l : Listed ws start step coun
   pub below-count : m < count
   below-count = let e = b .end in omega (arith, rows-at-length ws start step count)
 
-  module _ {o : Order.Order} (compared : o ≡ orderOf x (rowIn (fiveAt ws (start + step * m)))) where
-    order-there : orderOf x (getD (rowsAt ws start step count) m []) ≡ o
-    order-there = ap (orderOf x) (rows-at-get ws start step count m below-count) ∙ sym compared
+  module _ {o : Order.Order} (compared : o ≡ orderFor x (rowIn (fiveAt ws (start + step * m)))) where
+    order-there : orderFor x (getD (rowsAt ws start step count) m []) ≡ o
+    order-there = ap (orderFor x) (rows-at-get ws start step count m below-count) ∙ sym compared
 
     order : Ascending rowBefore row-order (rowsAt ws start step count)
     order = ascending-true rowBefore row-order (rowsAt ws start step count) (l .ascends)

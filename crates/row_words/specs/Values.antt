@@ -9,13 +9,13 @@ use Rattle.row_words.specs.declared.row.Order as Order
 use Rattle.row_words.specs.declared.row.Order.the-variants.{Before, Same, After}
 
 -- a row in hand: its five words, and the row that they are
-unfoldable pub wordsOf : Held.Row → List ℕ
-wordsOf r = r .width ∷ r .atoms
+unfoldable pub fiveIs : Held.Row → List ℕ
+fiveIs r = r .width ∷ r .atoms
 
-unfoldable pub rowOf : Held.Row → Row
-unfolding wordsOf rowIn
-rowOf r = rowIn (wordsOf r)
+unfoldable pub rowIs : Held.Row → Row
+unfolding fiveIs rowIn
+rowIs r = rowIn (fiveIs r)
 
 -- which of two rows comes first
-unfoldable pub orderOf : Row → Row → Order.Order
-orderOf x y = elim (rowBefore x y) [ true ↦ Before | false ↦ elim (rowBefore y x) [ true ↦ After | false ↦ Same ] ]
+unfoldable pub orderFor : Row → Row → Order.Order
+orderFor x y = elim (rowBefore x y) [ true ↦ Before | false ↦ elim (rowBefore y x) [ true ↦ After | false ↦ Same ] ]

@@ -7,6 +7,13 @@ ghost use Prim.Native.Nat.{_+_, _≤_};
 ghost use lib.ListN.{length, take, drop};
 ghost use Rattle.rows.specs.Layout.{put};
 
+// A word as a number of rows or words.
+pub fn wide(x: u32) -> usize
+    ensures { λ r. ⌜ r ≡ x ⌝ }
+{
+    x as usize
+}
+
 // Writes words over those that stand at `at`.
 pub fn write(area: &mut [u32], at: usize, words: &[u32])
     requires { ⌜ at + length (now words) ≤ length (now area) ⌝ }

@@ -3,7 +3,8 @@ ghost use mathlib.Core.Path.{_≡_};
 ghost use Prim.Native.Nat.{_+_, _≤_, _<_};
 ghost use lib.ListN.{length, getD};
 ghost use Rattle.rows.specs.Layout.{rowIn, rowWords, fiveAt, soundRow, put};
-ghost use Rattle.row_words.specs.Values.{wordsOf, rowOf, orderOf};
+ghost use Rattle.row_words.specs.Values.{fiveIs, rowIs, orderFor};
+use crate::wide;
 
 pub struct Row {
     pub width: u32,
@@ -19,20 +20,13 @@ pub enum Order {
 // The row whose five words stand at `at`.
 pub fn load(words: &[u32], at: usize) -> Row
     requires { ⌜ at + 5 ≤ length (now words) ⌝ }
-    ensures { λ r. ⌜ wordsOf r ≡ fiveAt (now (words .entry)) at ⌝ }
+    ensures { λ r. ⌜ fiveIs r ≡ fiveAt (now (words .entry)) at ⌝ }
 {
     let atoms = [words[at + 1], words[at + 2], words[at + 3], words[at + 4]];
     Row {
         width: words[at],
         atoms: atoms,
     }
-}
-
-// A word as a number of rows or words.
-pub fn wide(x: u32) -> usize
-    ensures { λ r. ⌜ r ≡ x ⌝ }
-{
-    x as usize
 }
 
 // Are the five words at `at` a row's: a width of 1 to 4, and the unused atoms 0?
@@ -60,7 +54,7 @@ pub fn sound(words: &[u32], at: usize) -> bool
 // Where `row` stands to the row whose five words stand at `at`: the one place that knows the order of rows.
 pub fn compare(row: Row, words: &[u32], at: usize) -> Order
     requires { ⌜ (at + 5 ≤ length (now words)) × (row .width ≤ 4) × (getD (now words) at 0 ≤ 4) ⌝ }
-    ensures { λ r. ⌜ r ≡ orderOf (rowOf row) (rowIn (fiveAt (now (words .entry)) at)) ⌝ }
+    ensures { λ r. ⌜ r ≡ orderFor (rowIs row) (rowIn (fiveAt (now (words .entry)) at)) ⌝ }
 {
     let width = words[at];
     if row.width < width {
@@ -88,7 +82,7 @@ pub fn compare(row: Row, words: &[u32], at: usize) -> Order
 // Word `j` of the five that a row takes. Whatever stands in the unused atoms, their words are 0.
 fn word(row: Row, j: usize) -> u32
     requires { ⌜ (j < 5) × (row .width ≤ 4) ⌝ }
-    ensures { λ r. ⌜ r ≡ getD (rowWords (rowOf row)) j 0 ⌝ }
+    ensures { λ r. ⌜ r ≡ getD (rowWords (rowIs row)) j 0 ⌝ }
 {
     if j == 0 {
         return row.width;
@@ -102,7 +96,7 @@ fn word(row: Row, j: usize) -> u32
 // Writes the row's five words at `at`.
 pub fn store(area: &mut [u32], at: usize, row: Row)
     requires { ⌜ (at + 5 ≤ length (now area)) × (row .width ≤ 4) ⌝ }
-    ensures { λ _. ⌜ now (area .exit) ≡ put at (rowWords (rowOf row)) (now (area .entry)) ⌝ }
+    ensures { λ _. ⌜ now (area .exit) ≡ put at (rowWords (rowIs row)) (now (area .entry)) ⌝ }
 {
     let mut j: usize = 0;
     while j < 5 {

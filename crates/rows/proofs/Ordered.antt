@@ -8,7 +8,7 @@ use mathlib.Core.List.{List, [], _∷_}
 use lib.Dec.{T}
 use lib.ListN.{length}
 use Rattle.rows.specs.Word.{All}
-use Rattle.rows.specs.Ordered.{_∈_, StrictTotal, same, lists, insert, join, keep, beforeFirst, ascending}
+use Rattle.rows.specs.Ordered.{_∈_, StrictTotal, tied, lists, insert, join, keep, beforeFirst, ascending}
 use Rattle.rows.proofs.Case.{Case, isTrue, isFalse, split, never, and-true, true-and, T-true, true-T, T-or, _then_, iff-refl, both-or}
 use Rattle.rows.proofs.Lists.{all-in}
 
@@ -29,9 +29,9 @@ keep-∈ f (x ∷ xs) r = go (keep-∈ f xs r) (split (f x))
     )
 
 module _ {A : Type 0} (before : A → A → Bool) (laws : StrictTotal before) where
-  pub same-iff : (r x : A) → T (same before r x) ↔ (r ≡ x)
-  unfolding same
-  same-iff r x = (λ t. to (split (before r x)) (split (before x r)) (true-T _ t), λ e. subst (λ (y : A). T (same before r y)) e (T-true itself))
+  pub same-iff : (r x : A) → T (tied before r x) ↔ (r ≡ x)
+  unfolding tied
+  same-iff r x = (λ t. to (split (before r x)) (split (before x r)) (true-T _ t), λ e. subst (λ (y : A). T (tied before r y)) e (T-true itself))
     where
       itself : (not (before r r) && not (before r r)) ≡ true
       itself = rw (laws .irreflexive r)
@@ -45,7 +45,7 @@ module _ {A : Type 0} (before : A → A → Bool) (laws : StrictTotal before) wh
   pub lists-iff : (xs : List A) (r : A) → T (lists before xs r) ↔ (r ∈ xs)
   unfolding lists _∈_
   lists-iff [] r = iff-refl
-  lists-iff (x ∷ xs) r = T-or (same before r x) (lists before xs r) then both-or (same-iff r x) (lists-iff xs r)
+  lists-iff (x ∷ xs) r = T-or (tied before r x) (lists before xs r) then both-or (same-iff r x) (lists-iff xs r)
 
   -- what `insert` and `join` hold
   pub insert-∈ : (x : A) (xs : List A) (r : A) → (r ∈ insert before x xs) ↔ ((r ≡ x) ⊎ (r ∈ xs))

@@ -31,14 +31,14 @@ wordsBefore (x ∷ xs) (y ∷ ys) = ltb x y || (eqb x y && wordsBefore xs ys)
 
 module _ {A : Type 0} (before : A → A → Bool) where
   -- neither comes before the other
-  unfoldable pub same : A → A → Bool
-  same x y = not (before x y) && not (before y x)
+  unfoldable pub tied : A → A → Bool
+  tied x y = not (before x y) && not (before y x)
 
   -- is it one of the list?
   unfoldable pub lists : List A → A → Bool
-  unfolding same
+  unfolding tied
   lists [] r = false
-  lists (x ∷ xs) r = same r x || lists xs r
+  lists (x ∷ xs) r = tied r x || lists xs r
 
   -- the list with the element in its place; one that it has already is not put in twice
   unfoldable pub insert : A → List A → List A

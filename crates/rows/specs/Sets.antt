@@ -2,7 +2,7 @@
 use Prim.Native.Nat.{ℕ}
 use mathlib.Core.Bool.{Bool, not}
 use mathlib.Core.List.{List}
-use Rattle.rows.specs.Ordered.{same, lists, join, common, without}
+use Rattle.rows.specs.Ordered.{tied, lists, join, common, without}
 use Rattle.rows.specs.Row.{Row, rowBefore}
 
 pub data RowSet : Type 0 where
@@ -20,7 +20,7 @@ mostRows = 128
 
 -- "A row is in a finite answer if it is listed, in a complement if it is not, and otherwise missing from it."
 unfoldable pub has : RowSet → Row → Bool
-unfolding lists same rowBefore
+unfolding lists tied rowBefore
 has (only xs) r = lists rowBefore xs r
 has (allBut xs) r = not (lists rowBefore xs r)
 

@@ -8,8 +8,6 @@ pub const FIRST_KEY: u32 = 2147483648;
 pub const LAST_NAME: u32 = 65535;
 
 // "No set lists over 128 rows, so a set takes 642 words."
-pub const MOST_ROWS: u32 = 128;
+pub const MOST_ROWS: usize = 128;
 
-pub const MOST_LISTED: usize = MOST_ROWS as usize;
-
-pub const SET_ROOM: usize = 2 + 5 * MOST_LISTED;
+pub const SET_ROOM: usize = 2 + 5 * MOST_ROWS;

@@ -11,10 +11,10 @@ use Rattle.rows.specs.Ordered.{lists, keep, common, without}
 use Rattle.rows.specs.Row.{Row, rowBefore}
 use Rattle.rows.specs.Sets.{RowSet, listing}
 use Rattle.rows.specs.Layout.{rowWords, rowIn, fiveAt, flat, laid, setWords, put, rowsIn, formed, soundSet}
-use Rattle.row_words.specs.Values.{wordsOf, rowOf}
+use Rattle.row_words.specs.Values.{fiveIs, rowIs}
 use Rattle.set_algebra.specs.Private.{roomAt, Apart, Rooms, Passed, Sought, keeps, picked}
 use Rattle.row_words.specs.declared.row.Row as Held
-use Rattle.set_algebra.specs.declared.Place as Place
+use Rattle.set_algebra.specs.declared.Reached as Reached
 use Rattle.rows.proofs.Case.{Case, isTrue, isFalse, split}
 use Rattle.rows.proofs.Order.{row-order}
 use Rattle.rows.proofs.Lists.{all-at, all-take}
@@ -108,10 +108,10 @@ module _ (a : List ℕ) (at : ℕ) (room : at + 642 ≤ length a) (sound : sound
       ap (fiveAt a) (sym e) ∙ ap (take 5) (sym (drop-drop (2 + 5 * i) at a)) ∙ sym (inner (2 + 5 * i) 5 642 (drop at a) (omega arith)) ∙ row-words-at (roomAt at a) i sound h
 
 -- a row loaded from such words is that row
-pub loaded-is : (r : Held.Row) (x : Row) (ws : List ℕ) (at : ℕ) → wordsOf r ≡ fiveAt ws at → fiveAt ws at ≡ rowWords x → rowOf r ≡ x
+pub loaded-is : (r : Held.Row) (x : Row) (ws : List ℕ) (at : ℕ) → fiveIs r ≡ fiveAt ws at → fiveAt ws at ≡ rowWords x → rowIs r ≡ x
 loaded-is r x ws at e f = loaded-row r ws at e ∙ ap rowIn f ∙ row-reads x
 
-pub loaded-narrow : (r : Held.Row) (x : Row) (ws : List ℕ) (at : ℕ) → wordsOf r ≡ fiveAt ws at → fiveAt ws at ≡ rowWords x → length x ≤ 4 → r .width ≤ 4
+pub loaded-narrow : (r : Held.Row) (x : Row) (ws : List ℕ) (at : ℕ) → fiveIs r ≡ fiveAt ws at → fiveAt ws at ≡ rowWords x → length x ≤ 4 → r .width ≤ 4
 unfolding rowWords
 loaded-narrow r x ws at e f h = omega (arith, loaded-width r ws at e, five-width ws at, ap (λ (l : List ℕ). getD l 0 0) f)
 
@@ -238,14 +238,14 @@ module _ (a : List ℕ) (from other : ℕ) (b : Bool) (rooms : Rooms a from othe
     numbers = record { rows = few; low = kept-few; within = f .within; count = room-count a from (rooms .one-room) (rooms .one-sound); one = rooms .one-room; two = rooms .other-room; same = f .same }
 
     -- the row is loaded, and looked for among the others
-    module _ (r : Held.Row) (h : i < length mine) (loaded : wordsOf r ≡ fiveAt now (from + 2 + 5 * i)) where
+    module _ (r : Held.Row) (h : i < length mine) (loaded : fiveIs r ≡ fiveAt now (from + 2 + 5 * i)) where
       lent : take (other + 642 - other) (drop other now) ≡ roomAt other a
       lent = let e : other + 642 - other ≡ 642 = omega arith in ap (λ (k : ℕ). take k (drop other now)) e ∙ other-kept
 
-      row-is : rowOf r ≡ getD mine i []
+      row-is : rowIs r ≡ getD mine i []
       row-is = loaded-is r (getD mine i []) now (from + 2 + 5 * i) loaded (row-here h)
 
-      pub seek-ready : (soundSet (take (other + 642 - other) (drop other now)) ≡ true) × (r .width ≤ 4) × Passed (rowsIn (take (other + 642 - other) (drop other now))) (rowOf r) j
+      pub seek-ready : (soundSet (take (other + 642 - other) (drop other now)) ≡ true) × (r .width ≤ 4) × Passed (rowsIn (take (other + 642 - other) (drop other now))) (rowIs r) j
       seek-ready = (
         ap soundSet lent ∙ rooms .other-sound,
         loaded-narrow r (getD mine i []) now (from + 2 + 5 * i) loaded (row-here h) (all-at _ mine (narrow-in (roomAt from a)) i [] h),
@@ -253,5 +253,5 @@ module _ (a : List ℕ) (from other : ℕ) (b : Bool) (rooms : Rooms a from othe
             (subst (λ (l : List ℕ). Passed (rowsIn l) (getD mine i []) j) (sym lent) (f .passed h)),
       )
 
-      pub sought-here : (s : Place.Place) → Sought (rowsIn (take (other + 642 - other) (drop other now))) (rowOf r) s → Sought theirs (getD mine i []) s
+      pub sought-here : (s : Reached.Reached) → Sought (rowsIn (take (other + 642 - other) (drop other now))) (rowIs r) s → Sought theirs (getD mine i []) s
       sought-here s q = subst (λ (l : List ℕ). Sought (rowsIn l) (getD mine i []) s) lent (subst (λ (x : Row). Sought (rowsIn (take (other + 642 - other) (drop other now))) x s) row-is q)

@@ -9,8 +9,8 @@ use lib.Seq.{take-all, length-take-le}
 use Rattle.rows.specs.Ordered.{join}
 use Rattle.rows.specs.Row.{Row, rowBefore}
 use Rattle.rows.specs.Layout.{rowWords, rowIn, fiveAt, flat, laid, put, rowsIn}
-use Rattle.row_words.specs.Values.{orderOf}
-use Rattle.set_algebra.specs.Private.{lastOrder, roomAt, Rooms}
+use Rattle.row_words.specs.Values.{orderFor}
+use Rattle.set_algebra.specs.Private.{lastOrderFor, roomAt, Rooms}
 use Rattle.row_words.specs.declared.row.Order as Order
 use Rattle.row_words.specs.declared.row.Order.the-variants.{Before, Same, After}
 use Rattle.rows.proofs.Order.{row-order}
@@ -26,18 +26,18 @@ use Rattle.set_algebra.proofs.Filtering.{room-few, room-count, room-row
 
 -- ---- the order of two last rows
 
-pub last-zero : (i : ℕ) (x y : Row) → i ≡ 0 → Before ≡ lastOrder i x y
-unfolding lastOrder
+pub last-zero : (i : ℕ) (x y : Row) → i ≡ 0 → Before ≡ lastOrderFor i x y
+unfolding lastOrderFor
 last-zero zero x y e = refl
 last-zero (suc i) x y e = absurd (omega arith)
 
-pub last-some : (i : ℕ) (x y : Row) → 0 < i → orderOf x y ≡ lastOrder i x y
-unfolding lastOrder
+pub last-some : (i : ℕ) (x y : Row) → 0 < i → orderFor x y ≡ lastOrderFor i x y
+unfolding lastOrderFor
 last-some zero x y h = absurd (omega arith)
 last-some (suc i) x y h = refl
 
-last-is-some : (i : ℕ) (x y : Row) (o : Order.Order) → lastOrder i x y ≡ o → (Before ≡ o → ⊥) → 0 < i
-unfolding lastOrder
+last-is-some : (i : ℕ) (x y : Row) (o : Order.Order) → lastOrderFor i x y ≡ o → (Before ≡ o → ⊥) → 0 < i
+unfolding lastOrderFor
 last-is-some zero x y o e n = absurd (n e)
 last-is-some (suc i) x y o e n = omega arith
 
@@ -141,19 +141,19 @@ module _ (a : List ℕ) (rooms : Rooms a 0 642) where
           omega (arith, five-width now (644 + 5 * (j - 1)), ap (λ (w : List ℕ). getD w 0 0) (e .theirs h), all-at _ ys m (j - 1) [] (omega arith)),
         )
 
-    module _ (o : Order.Order) (said : o ≡ lastOrder i (rowIn (fiveAt now (2 + 5 * (i - 1)))) (rowIn (fiveAt now (644 + 5 * (j - 1))))) where
+    module _ (o : Order.Order) (said : o ≡ lastOrderFor i (rowIn (fiveAt now (2 + 5 * (i - 1)))) (rowIn (fiveAt now (644 + 5 * (j - 1))))) where
       mine-is : 0 < i → rowIn (fiveAt now (2 + 5 * (i - 1))) ≡ getD xs (i - 1) []
       mine-is k = ap rowIn (e .mine k) ∙ row-reads (getD xs (i - 1) [])
 
       theirs-is : rowIn (fiveAt now (644 + 5 * (j - 1))) ≡ getD ys (j - 1) []
       theirs-is = ap rowIn (e .theirs h) ∙ row-reads (getD ys (j - 1) [])
 
-      order-is : 0 < i → orderOf (getD xs (i - 1) []) (getD ys (j - 1) []) ≡ o
+      order-is : 0 < i → orderFor (getD xs (i - 1) []) (getD ys (j - 1) []) ≡ o
       order-is k =
           let p = mine-is k in
           let q = theirs-is in
           let s = last-some i (rowIn (fiveAt now (2 + 5 * (i - 1)))) (rowIn (fiveAt now (644 + 5 * (j - 1)))) k in
-          ap (λ (r : Row). orderOf r (getD ys (j - 1) [])) (sym p) ∙ ap (orderOf (rowIn (fiveAt now (2 + 5 * (i - 1))))) (sym q) ∙ s ∙ sym said
+          ap (λ (r : Row). orderFor r (getD ys (j - 1) [])) (sym p) ∙ ap (orderFor (rowIn (fiveAt now (2 + 5 * (i - 1))))) (sym q) ∙ s ∙ sym said
 
       pub right-last : o ≡ Before → join rowBefore (take i xs) (take j ys) ≡ join rowBefore (take i xs) (take (j - 1) ys) ++ (getD ys (j - 1) [] ∷ [])
       right-last b = firsts-right rowBefore row-order [] xs ys left-ascending right-ascending i j (e .left) (e .right) h (λ k. before-order _ _ (order-is k ∙ b))
@@ -310,7 +310,7 @@ module _ (a : List ℕ) (rooms : Rooms a 0 642) where
           ∙ ap (λ (l : List Row). put 2 (laid (l ++ drop k both)) a) (sym f) ∙ ap (λ (l : List Row). put 2 (laid l) a) (take-append-drop k both)
 
       -- by the order of the two last rows
-      module _ (h : 0 < j) (o : Order.Order) (said : o ≡ lastOrder i (rowIn (fiveAt now (2 + 5 * (i - 1)))) (rowIn (fiveAt now (644 + 5 * (j - 1))))) (after : List ℕ) (same : length after ≡ length now) where
+      module _ (h : 0 < j) (o : Order.Order) (said : o ≡ lastOrderFor i (rowIn (fiveAt now (2 + 5 * (i - 1)))) (rowIn (fiveAt now (644 + 5 * (j - 1))))) (after : List ℕ) (same : length after ≡ length now) where
         pub merging-right : o ≡ Before → after ≡ put (2 + 5 * (k - 1)) (take 5 (drop (644 + 5 * (j - 1)) now)) now → Merging a after i (j - 1) (k - 1)
         merging-right b s =
             let e = merging-ends in

@@ -8,16 +8,16 @@ use lib.ListN.{length, getD, take, drop}
 use Rattle.rows.specs.Ordered.{lists, common, without}
 use Rattle.rows.specs.Row.{Row, rowBefore}
 use Rattle.rows.specs.Layout.{soundSet}
-use Rattle.row_words.specs.Values.{orderOf}
+use Rattle.row_words.specs.Values.{orderFor}
 use Rattle.row_words.specs.declared.row.Order as Order
 use Rattle.row_words.specs.declared.row.Order.the-variants.{Before}
-use Rattle.set_algebra.specs.declared.Place as Place
+use Rattle.set_algebra.specs.declared.Reached as Reached
 
 -- the same of the last of `n` rows, which comes before all if there is none
-unfoldable pub lastOrder : ℕ → Row → Row → Order.Order
-unfolding orderOf
-lastOrder zero x y = Before
-lastOrder (suc n) x y = orderOf x y
+unfoldable pub lastOrderFor : ℕ → Row → Row → Order.Order
+unfolding orderFor
+lastOrderFor zero x y = Before
+lastOrderFor (suc n) x y = orderFor x y
 
 -- the 642 words of a set in an area
 abbrev pub roomAt : ℕ → List ℕ → List ℕ
@@ -40,7 +40,7 @@ unfoldable pub Passed : List Row → Row → ℕ → Type 0
 Passed ys x n = (n ≤ length ys) × ((k : ℕ) → k < n → rowBefore (getD ys k []) x ≡ true)
 
 -- a walk along the list to where the row stands or would stand
-pub record Sought (ys : List Row) (x : Row) (s : Place.Place) : Type 0 where
+pub record Sought (ys : List Row) (x : Row) (s : Reached.Reached) : Type 0 where
   pub passed : Passed ys x (s .at)
   pub found : s .found ≡ lists rowBefore ys x
 

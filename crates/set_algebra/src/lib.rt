@@ -8,45 +8,45 @@ ghost use Rattle.rows.specs.Row.{rowBefore};
 ghost use Rattle.rows.specs.Sets.{only, mostRows, unite, subtract};
 ghost use lib.Dec.{leb};
 ghost use Rattle.rows.specs.Layout.{rowIn, fiveAt, laid, rowsIn, formed, setIn, setWords, soundSet, written, put};
-ghost use Rattle.row_words.specs.Values.{rowOf};
+ghost use Rattle.row_words.specs.Values.{rowIs};
 ghost use Rattle.set_algebra.specs.Combined.{leftBy, Combined};
-ghost use Rattle.set_algebra.specs.Private.{lastOrder, roomAt, Rooms, Passed, Sought, keeps, picked};
+ghost use Rattle.set_algebra.specs.Private.{lastOrderFor, roomAt, Rooms, Passed, Sought, keeps, picked};
 use row_words::copy_down;
 use row_words::copy_up;
 use row_words::row::Order;
 use row_words::row::Row;
 use row_words::row::compare;
 use row_words::row::load;
-use row_words::row::wide;
-use rows::MOST_LISTED;
+use row_words::wide;
+use rows::MOST_ROWS;
 use rows::SET_ROOM;
 
 // the right set lies behind the left one, its count after its form
 const RIGHT_COUNT: usize = SET_ROOM + 1;
 
-pub struct Place {
+pub struct Reached {
     pub at: usize,
     pub found: bool,
 }
 
 // Passes the rows that come before `row`, from `start` on.
-fn seek(set: &[u32], row: Row, start: usize) -> Place
-    requires { ⌜ (soundSet (now set) ≡ true) × (row .width ≤ 4) × Passed (rowsIn (now set)) (rowOf row) start ⌝ }
-    ensures { λ r. ⌜ Sought (rowsIn (now (set .entry))) (rowOf row) r ⌝ }
+fn seek(set: &[u32], row: Row, start: usize) -> Reached
+    requires { ⌜ (soundSet (now set) ≡ true) × (row .width ≤ 4) × Passed (rowsIn (now set)) (rowIs row) start ⌝ }
+    ensures { λ r. ⌜ Sought (rowsIn (now (set .entry))) (rowIs row) r ⌝ }
 {
     let count = wide(set[1]);
     let mut j = start;
     while j < count {
         match compare(row, set, 2 + 5 * j) {
-            Order::Before => return Place {
+            Order::Before => return Reached {
                 at: j,
                 found: false,
             },
-            Order::Same => return Place { at: j, found: true },
+            Order::Same => return Reached { at: j, found: true },
             Order::After => j += 1,
         }
     }
-    Place {
+    Reached {
         at: j,
         found: false,
     }
@@ -89,7 +89,7 @@ fn filter(area: &mut [u32], from: usize, other: usize, listed: bool)
 // Where the last of the left's first `i` rows stands to the last of the right's first `j`. Where the left has none left, the right's comes last.
 fn last(area: &[u32], i: usize, j: usize) -> Order
     requires { ⌜ (2 + 5 * i ≤ length (now area)) × (0 < j) × (644 + 5 * j ≤ length (now area)) × (0 < i → getD (now area) (2 + 5 * (i - 1)) 0 ≤ 4) × (getD (now area) (644 + 5 * (j - 1)) 0 ≤ 4) ⌝ }
-    ensures { λ r. ⌜ r ≡ lastOrder i (rowIn (fiveAt (now (area .entry)) (2 + 5 * (i - 1)))) (rowIn (fiveAt (now (area .entry)) (644 + 5 * (j - 1)))) ⌝ }
+    ensures { λ r. ⌜ r ≡ lastOrderFor i (rowIn (fiveAt (now (area .entry)) (2 + 5 * (i - 1)))) (rowIn (fiveAt (now (area .entry)) (644 + 5 * (j - 1)))) ⌝ }
 {
     if i == 0 {
         return Order::Before;
@@ -158,7 +158,7 @@ fn join(area: &mut [u32]) -> bool
     ensures words { λ r. ⌜ now (area .exit) ≡ leftBy r (formed (getD (now (area .entry)) 0 0) (join rowBefore (rowsIn (roomAt 0 (now (area .entry)))) (rowsIn (roomAt 642 (now (area .entry)))))) (now (area .entry)) ⌝ }
 {
     let total = joint(area);
-    if MOST_LISTED < total {
+    if MOST_ROWS < total {
         return false;
     }
     merge(area, total);

@@ -9,7 +9,7 @@ use Rattle.rows.specs.Ordered.{_∈_, lists}
 use Rattle.rows.specs.Row.{Row, rowBefore}
 use Rattle.rows.specs.Sets.{listing, mostRows}
 use Rattle.rows.specs.Layout.{rowsIn, formed, setIn, soundSet, written}
-use Rattle.sets.specs.Values.{insertion, afterInsert}
+use Rattle.sets.specs.Values.{insertedFor, afterInsert}
 use Rattle.row_words.specs.Search.{Finds}
 use Rattle.row_words.specs.declared.search.Found as Found
 use Rattle.row_words.specs.declared.search.Found.the-variants.{At, Missing}
@@ -27,9 +27,9 @@ module _ (ws : List ℕ) (r : Row) (f : Found.Found) (i : ℕ) (finds : Finds (r
   listed-as b e = ap (λ (xs : List Row). lists rowBefore xs r) (listing-in ws) ∙ e
 
   -- it is listed already
-  pub known-answer : f ≡ At i → Known ≡ insertion (setIn ws) r
-  unfolding insertion
-  known-answer e = rw (listed-as true (at-listed (rowsIn ws) r f i e finds), insertion)
+  pub known-answer : f ≡ At i → Known ≡ insertedFor (setIn ws) r
+  unfolding insertedFor
+  known-answer e = rw (listed-as true (at-listed (rowsIn ws) r f i e finds), insertedFor)
 
   pub known-words : soundSet ws ≡ true → f ≡ At i → ws ≡ afterInsert Known ws r
   unfolding afterInsert setIn
@@ -46,18 +46,18 @@ module _ (ws : List ℕ) (r : Row) (f : Found.Found) (i : ℕ) (finds : Finds (r
     unlisted = listed-as false (missing-unlisted (rowsIn ws) r f i e finds)
 
     -- there is no room
-    pub full-answer : 128 ≤ length (rowsIn ws) → Full ≡ insertion (setIn ws) r
-    unfolding insertion
-    full-answer h = rw (unlisted, listing-in ws, le-ltb (length (rowsIn ws)) mostRows h, insertion)
+    pub full-answer : 128 ≤ length (rowsIn ws) → Full ≡ insertedFor (setIn ws) r
+    unfolding insertedFor
+    full-answer h = rw (unlisted, listing-in ws, le-ltb (length (rowsIn ws)) mostRows h, insertedFor)
 
     pub full-words : ws ≡ afterInsert Full ws r
     unfolding afterInsert
     full-words = refl
 
     -- it is put in
-    pub new-answer : length (rowsIn ws) < 128 → New ≡ insertion (setIn ws) r
-    unfolding insertion
-    new-answer h = rw (unlisted, listing-in ws, lt-ltb (length (rowsIn ws)) mostRows h, insertion)
+    pub new-answer : length (rowsIn ws) < 128 → New ≡ insertedFor (setIn ws) r
+    unfolding insertedFor
+    new-answer h = rw (unlisted, listing-in ws, lt-ltb (length (rowsIn ws)) mostRows h, insertedFor)
 
     pub new-words : (now : List ℕ) → now ≡ written (formed (getD ws 0 0) (take i (rowsIn ws) ++ (r ∷ drop i (rowsIn ws)))) ws → now ≡ afterInsert New ws r
     unfolding afterInsert Finds

@@ -11,7 +11,7 @@ use Rattle.rows.specs.Ordered.{ascending, lists}
 use Rattle.rows.specs.Sets.{has}
 use Rattle.rows.specs.Row.{Row, rowBefore}
 use Rattle.rows.specs.Layout.{rowIn, fiveAt, soundRow, pieces, every, rowsIn, formed, setIn, soundSet}
-use Rattle.row_words.specs.Values.{wordsOf, rowOf, orderOf}
+use Rattle.row_words.specs.Values.{fiveIs, rowIs, orderFor}
 use Rattle.row_words.specs.Search.{rowsAt, Listed, Finds}
 use Rattle.row_words.specs.declared.row.Row as Held
 use Rattle.row_words.specs.declared.row.Order as Order
@@ -29,10 +29,10 @@ width-at n ws i e h = sound-narrow ws (2 + 5 * i) (piece-sound n ws i e h)
 
 -- row `i`, loaded, was compared with row `j`
 module _ (ws : List ℕ) (i j : ℕ) (h : i < getD ws 1 0) (k : j < getD ws 1 0) (r : Held.Row) (o : Order.Order)
-    (loaded : wordsOf r ≡ fiveAt ws (2 + 5 * i)) (compared : o ≡ orderOf (rowOf r) (rowIn (fiveAt ws (2 + 5 * j)))) where
-  rows-order : orderOf (getD (rowsIn ws) i []) (getD (rowsIn ws) j []) ≡ o
+    (loaded : fiveIs r ≡ fiveAt ws (2 + 5 * i)) (compared : o ≡ orderFor (rowIs r) (rowIn (fiveAt ws (2 + 5 * j)))) where
+  rows-order : orderFor (getD (rowsIn ws) i []) (getD (rowsIn ws) j []) ≡ o
   rows-order =
-      let e : getD (rowsIn ws) i [] ≡ rowOf r = row-at ws i h ∙ sym (loaded-row r ws (2 + 5 * i) loaded) in
+      let e : getD (rowsIn ws) i [] ≡ rowIs r = row-at ws i h ∙ sym (loaded-row r ws (2 + 5 * i) loaded) in
       let f : getD (rowsIn ws) j [] ≡ rowIn (fiveAt ws (2 + 5 * j)) = row-at ws j k in
       cc
 
@@ -46,17 +46,17 @@ module _ (ws : List ℕ) (i j : ℕ) (h : i < getD ws 1 0) (k : j < getD ws 1 0)
   rows-after e = after-order _ _ (rows-order ∙ e)
 
 -- a row in hand was compared with row `m`
-module _ (ws : List ℕ) (m : ℕ) (h : m < getD ws 1 0) (r : Held.Row) (o : Order.Order) (compared : o ≡ orderOf (rowOf r) (rowIn (fiveAt ws (2 + 5 * m)))) where
-  row-order-at : orderOf (rowOf r) (getD (rowsIn ws) m []) ≡ o
-  row-order-at = ap (orderOf (rowOf r)) (row-at ws m h) ∙ sym compared
+module _ (ws : List ℕ) (m : ℕ) (h : m < getD ws 1 0) (r : Held.Row) (o : Order.Order) (compared : o ≡ orderFor (rowIs r) (rowIn (fiveAt ws (2 + 5 * m)))) where
+  row-order-at : orderFor (rowIs r) (getD (rowsIn ws) m []) ≡ o
+  row-order-at = ap (orderFor (rowIs r)) (row-at ws m h) ∙ sym compared
 
-  pub row-before : o ≡ Before → rowBefore (rowOf r) (getD (rowsIn ws) m []) ≡ true
+  pub row-before : o ≡ Before → rowBefore (rowIs r) (getD (rowsIn ws) m []) ≡ true
   row-before e = before-order _ _ (row-order-at ∙ e)
 
-  pub row-same : o ≡ Same → getD (rowsIn ws) m [] ≡ rowOf r
+  pub row-same : o ≡ Same → getD (rowsIn ws) m [] ≡ rowIs r
   row-same e = sym (same-order _ _ (row-order-at ∙ e))
 
-  pub row-after : o ≡ After → rowBefore (getD (rowsIn ws) m []) (rowOf r) ≡ true
+  pub row-after : o ≡ After → rowBefore (getD (rowsIn ws) m []) (rowIs r) ≡ true
   row-after e = after-order _ _ (row-order-at ∙ e)
 
 -- a sound set's rows ascend

@@ -12,7 +12,7 @@ use Rattle.rows.specs.Ordered.{_∈_, lists, insert}
 use Rattle.rows.specs.Row.{Row, rowBefore}
 use Rattle.rows.specs.Sets.{RowSet, listing, mostRows}
 use Rattle.rows.specs.Layout.{formWord, setWords, written, rowsIn, formed, setIn, soundSet}
-use Rattle.sets.specs.Values.{insertion, afterInsert}
+use Rattle.sets.specs.Values.{insertedFor, afterInsert}
 use Rattle.sets.specs.declared.Inserted as Inserted
 use Rattle.sets.specs.declared.Inserted.the-variants.{New, Known, Full}
 use Rattle.rows.proofs.Case.{Case, isTrue, isFalse, split, never, T-true, true-T}
@@ -91,9 +91,9 @@ module _ (ws : List ℕ) (r : Row) (s : soundSet ws ≡ true) where
   listed-as : lists rowBefore (rowsIn ws) r ≡ lists rowBefore (listing (setIn ws)) r
   listed-as = ap (λ (xs : List Row). lists rowBefore xs r) (sym (listing-in ws))
 
-  module _ (o : Inserted.Inserted) (q : o ≡ insertion (setIn ws) r) where
+  module _ (o : Inserted.Inserted) (q : o ≡ insertedFor (setIn ws) r) where
     pub inserted-few : (o ≡ Full → ⊥) → length (insert rowBefore r (rowsIn ws)) ≤ 128
-    unfolding insertion
+    unfolding insertedFor
     inserted-few n = go (split (lists rowBefore (listing (setIn ws)) r)) (split (ltb (length (listing (setIn ws))) mostRows))
       where
         go : Case (lists rowBefore (listing (setIn ws)) r) → Case (ltb (length (listing (setIn ws))) mostRows) → length (insert rowBefore r (rowsIn ws)) ≤ 128
@@ -101,15 +101,15 @@ module _ (ws : List ℕ) (r : Row) (s : soundSet ws ≡ true) where
             let i : r ∈ rowsIn ws = lists-iff rowBefore row-order (rowsIn ws) r .0 (T-true (listed-as ∙ l)) in
             omega (arith, size ws s .few, ap length (insert-known rowBefore row-order [] (rowsIn ws) r (sound-ascending ws s) i))
         go (isFalse l) (isTrue m) = omega (arith, ltb-true (length (listing (setIn ws))) mostRows m, ap length (listing-in ws), insert-shorter rowBefore row-order r (rowsIn ws))
-        go (isFalse l) (isFalse m) = absurd (n (q ∙ rw (l, m, insertion)))
+        go (isFalse l) (isFalse m) = absurd (n (q ∙ rw (l, m, insertedFor)))
 
     pub full-many : o ≡ Full → 128 < length (insert rowBefore r (rowsIn ws))
-    unfolding insertion
+    unfolding insertedFor
     full-many f = go (split (lists rowBefore (listing (setIn ws)) r)) (split (ltb (length (listing (setIn ws))) mostRows))
       where
         go : Case (lists rowBefore (listing (setIn ws)) r) → Case (ltb (length (listing (setIn ws))) mostRows) → 128 < length (insert rowBefore r (rowsIn ws))
-        go (isTrue l) m = let k : o ≡ Known = q ∙ rw (l, insertion) in let z : _≡_ {A = ℕ} 0 1 = cc in absurd (omega arith)
-        go (isFalse l) (isTrue m) = let k : o ≡ New = q ∙ rw (l, m, insertion) in let z : _≡_ {A = ℕ} 0 1 = cc in absurd (omega arith)
+        go (isTrue l) m = let k : o ≡ Known = q ∙ rw (l, insertedFor) in let z : _≡_ {A = ℕ} 0 1 = cc in absurd (omega arith)
+        go (isFalse l) (isTrue m) = let k : o ≡ New = q ∙ rw (l, m, insertedFor) in let z : _≡_ {A = ℕ} 0 1 = cc in absurd (omega arith)
         go (isFalse l) (isFalse m) = omega (
           arith,
           ltb-false (length (listing (setIn ws))) mostRows m,

@@ -12,8 +12,8 @@ use Rattle.sets.specs.declared.Inserted as Inserted
 use Rattle.sets.specs.declared.Inserted.the-variants.{New, Known, Full}
 
 -- "repeats count once", and no set lists over 128 rows
-unfoldable pub insertion : RowSet → Row → Inserted.Inserted
-insertion s r = elim (lists rowBefore (listing s) r) [ true ↦ Known | false ↦ elim (ltb (length (listing s)) mostRows) [ true ↦ New | false ↦ Full ] ]
+unfoldable pub insertedFor : RowSet → Row → Inserted.Inserted
+insertedFor s r = elim (lists rowBefore (listing s) r) [ true ↦ Known | false ↦ elim (ltb (length (listing s)) mostRows) [ true ↦ New | false ↦ Full ] ]
 
 -- the words afterwards
 unfoldable pub afterInsert : Inserted.Inserted → List ℕ → Row → List ℕ

@@ -8,9 +8,9 @@ ghost use lib.ListN.{length, getD, take, drop};
 ghost use Rattle.rows.specs.Ordered.{ascending};
 ghost use Rattle.rows.specs.Row.{rowBefore};
 ghost use Rattle.rows.specs.Layout.{pieces, every, soundRow, rowsIn, formed, setIn, soundSet, written};
-ghost use Rattle.row_words.specs.Values.{rowOf};
+ghost use Rattle.row_words.specs.Values.{rowIs};
 ghost use Rattle.row_words.specs.Search.{Finds};
-ghost use Rattle.sets.specs.Values.{insertion, afterInsert};
+ghost use Rattle.sets.specs.Values.{insertedFor, afterInsert};
 use row_words::copy_up;
 use row_words::row;
 use row_words::row::Order;
@@ -18,9 +18,9 @@ use row_words::row::Row;
 use row_words::row::compare;
 use row_words::row::load;
 use row_words::row::store;
-use row_words::row::wide;
 use row_words::search;
 use row_words::search::Found;
+use row_words::wide;
 use rows::MOST_ROWS;
 
 pub enum Inserted {
@@ -72,10 +72,10 @@ pub fn sound(set: &[u32]) -> bool
     if 1 < set[0] {
         return false;
     }
-    if MOST_ROWS < set[1] {
+    let count = wide(set[1]);
+    if MOST_ROWS < count {
         return false;
     }
-    let count = wide(set[1]);
     if set.len() < 2 + 5 * count {
         return false;
     }
@@ -88,7 +88,7 @@ pub fn sound(set: &[u32]) -> bool
 // The place of a row among those listed, by halving.
 fn find(set: &[u32], row: Row) -> Found
     requires { ⌜ (soundSet (now set) ≡ true) × (row .width ≤ 4) ⌝ }
-    ensures { λ r. ⌜ Finds (rowsIn (now (set .entry))) (rowOf row) r ⌝ }
+    ensures { λ r. ⌜ Finds (rowsIn (now (set .entry))) (rowIs row) r ⌝ }
 {
     search::find(set, 2, 5, wide(set[1]), row)
 }
@@ -96,7 +96,7 @@ fn find(set: &[u32], row: Row) -> Found
 // The place of a row, looked for at the end first: rows mostly come in order.
 fn find_from_end(set: &[u32], row: Row) -> Found
     requires { ⌜ (soundSet (now set) ≡ true) × (row .width ≤ 4) ⌝ }
-    ensures { λ r. ⌜ Finds (rowsIn (now (set .entry))) (rowOf row) r ⌝ }
+    ensures { λ r. ⌜ Finds (rowsIn (now (set .entry))) (rowIs row) r ⌝ }
 {
     let count = wide(set[1]);
     if count == 0 {
@@ -113,7 +113,7 @@ fn find_from_end(set: &[u32], row: Row) -> Found
 // "A row is in a finite answer if it is listed, in a complement if it is not."
 pub fn has(set: &[u32], row: Row) -> bool
     requires { ⌜ (soundSet (now set) ≡ true) × (row .width ≤ 4) ⌝ }
-    ensures { λ r. ⌜ r ≡ has (setIn (now (set .entry))) (rowOf row) ⌝ }
+    ensures { λ r. ⌜ r ≡ has (setIn (now (set .entry))) (rowIs row) ⌝ }
 {
     let finite = set[0] == 0;
     match find(set, row) {
@@ -134,7 +134,7 @@ pub fn clear(set: &mut [u32], form: u32)
 // Puts a row in at place `i`: the later ones move up by five words.
 fn insert_at(set: &mut [u32], i: usize, row: Row)
     requires { ⌜ (soundSet (now set) ≡ true) × (642 ≤ length (now set)) × (i ≤ length (rowsIn (now set))) × (length (rowsIn (now set)) < 128) × (row .width ≤ 4) ⌝ }
-    ensures { λ _. ⌜ now (set .exit) ≡ written (formed (getD (now (set .entry)) 0 0) (take i (rowsIn (now (set .entry))) ++ (rowOf row ∷ drop i (rowsIn (now (set .entry)))))) (now (set .entry)) ⌝ }
+    ensures { λ _. ⌜ now (set .exit) ≡ written (formed (getD (now (set .entry)) 0 0) (take i (rowsIn (now (set .entry))) ++ (rowIs row ∷ drop i (rowsIn (now (set .entry)))))) (now (set .entry)) ⌝ }
 {
     let listed = set[1];
     let at = 2 + 5 * i;
@@ -147,13 +147,13 @@ fn insert_at(set: &mut [u32], i: usize, row: Row)
 // Has the set list a row too, if it does not yet.
 pub fn insert(set: &mut [u32], row: Row) -> Inserted
     requires { ⌜ (soundSet (now set) ≡ true) × (642 ≤ length (now set)) × (1 ≤ row .width) × (row .width ≤ 4) ⌝ }
-    ensures answer { λ r. ⌜ r ≡ insertion (setIn (now (set .entry))) (rowOf row) ⌝ }
-    ensures words { λ r. ⌜ now (set .exit) ≡ afterInsert r (now (set .entry)) (rowOf row) ⌝ }
+    ensures answer { λ r. ⌜ r ≡ insertedFor (setIn (now (set .entry))) (rowIs row) ⌝ }
+    ensures words { λ r. ⌜ now (set .exit) ≡ afterInsert r (now (set .entry)) (rowIs row) ⌝ }
 {
     match find_from_end(set, row) {
         Found::At(_) => Inserted::Known,
         Found::Missing(i) => {
-            if set[1] == MOST_ROWS {
+            if wide(set[1]) == MOST_ROWS {
                 return Inserted::Full;
             }
             insert_at(set, i, row);

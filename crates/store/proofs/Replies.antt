@@ -6,7 +6,7 @@ use mathlib.Core.List.{List}
 use native.Mathlib.Omega.{arith}
 use lib.ListN.{length}
 use borrow.Author.Tests.{lt-ltb, le-ltb}
-use Rattle.refusals.specs.Table.{badStore, badCertificate, storeFull}
+use Rattle.refusals.specs.RefusalTable.{badStore, badCertificate, storeFull}
 use Rattle.rows.specs.Ordered.{lists, insert}
 use Rattle.certificates.specs.Certificate.{soundRecord, recordBefore}
 use Rattle.certificates.specs.Store.{capacity, countOf, records, soundStore, withRecords}
@@ -15,13 +15,13 @@ use Rattle.certificates.proofs.Sound.{records-length, sound-store}
 
 module _ (store w : List ℕ) where
   -- the store goes by the reply
-  pub goes-by : (a : FilingReply) (now : List ℕ) → a ≡ fileReply store w → now ≡ storeBy a store w → (a ≡ fileReply store w) × (now ≡ storeAfter store w)
+  pub reply-and-store : (a : FilingReply) (now : List ℕ) → a ≡ fileReply store w → now ≡ storeBy a store w → (a ≡ fileReply store w) × (now ≡ storeAfter store w)
   unfolding storeAfter
-  goes-by a now e f = (e, f ∙ ap (λ (b : FilingReply). storeBy b store w) e)
+  reply-and-store a now e f = (e, f ∙ ap (λ (b : FilingReply). storeBy b store w) e)
 
   pub kept : (n : ℕ) → refused n ≡ fileReply store w → (refused n ≡ fileReply store w) × (store ≡ storeAfter store w)
   unfolding storeBy
-  kept n e = goes-by (refused n) store e refl
+  kept n e = reply-and-store (refused n) store e refl
 
   pub reply-unsound : soundStore store ≡ false → refused badStore ≡ fileReply store w
   unfolding fileReply
@@ -35,7 +35,7 @@ module _ (store w : List ℕ) where
     module _ (good : soundRecord w ≡ true) where
       pub reply-held : lists recordBefore (records store) w ≡ true → (held ≡ fileReply store w) × (store ≡ storeAfter store w)
       unfolding fileReply replyGiven storeBy
-      reply-held l = goes-by held store (rw (sound, fileReply, good, l, replyGiven)) refl
+      reply-held l = reply-and-store held store (rw (sound, fileReply, good, l, replyGiven)) refl
 
       module _ (new : lists recordBefore (records store) w ≡ false) where
         pub reply-full : countOf store ≡ capacity → refused storeFull ≡ fileReply store w
@@ -47,4 +47,4 @@ module _ (store w : List ℕ) where
         unfolding fileReply replyGiven storeBy
         reply-filed now c e =
             let f = sound-store store sound .few in
-            goes-by filed now (rw (sound, fileReply, good, new, lt-ltb (length (records store)) capacity (omega (arith, records-length store)), replyGiven)) e
+            reply-and-store filed now (rw (sound, fileReply, good, new, lt-ltb (length (records store)) capacity (omega (arith, records-length store)), replyGiven)) e

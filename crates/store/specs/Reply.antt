@@ -4,7 +4,7 @@ use Rattle.store.specs.declared.Filing.{Filing}
 use Rattle.store.specs.declared.Filing.the-variants.{Filed, Held, Refused}
 
 -- the code's enum, case by case
-unfoldable pub replyIs : Filing → FilingReply
-replyIs Filed = filed
-replyIs Held = held
-replyIs (Refused n) = refused n
+unfoldable pub filingIs : Filing → FilingReply
+filingIs Filed = filed
+filingIs Held = held
+filingIs (Refused n) = refused n

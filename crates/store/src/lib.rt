@@ -4,7 +4,7 @@ ghost use mathlib.Core.Path.{_≡_};
 ghost use mathlib.Core.Bool.{true};
 ghost use lib.ListN.{length, take, drop};
 ghost use Rattle.certificates.specs.Store.{soundStore};
-ghost use Rattle.store.specs.Reply.{replyIs};
+ghost use Rattle.store.specs.Reply.{filingIs};
 ghost use Rattle.certificates.specs.Filing.{fileReply, storeAfter};
 ghost use Rattle.certificates.specs.NamePart.{namePart};
 ghost use Rattle.certificates.specs.Spans.{Spans};
@@ -24,7 +24,7 @@ pub enum Filing {
 
 // Files a certificate: 8 for the store, 9 for the certificate, Held, 10, and otherwise it is put in its place.
 pub fn file(store: &mut [u32], certificate: &[u32]) -> Filing
-    ensures { λ r. ⌜ replyIs r ≡ fileReply (now (store .entry)) (now (certificate .entry)) ⌝ }
+    ensures { λ r. ⌜ filingIs r ≡ fileReply (now (store .entry)) (now (certificate .entry)) ⌝ }
     ensures { λ _. ⌜ now (store .exit) ≡ storeAfter (now (store .entry)) (now (certificate .entry)) ⌝ }
 {
     if !sound_store(store) {

@@ -14,7 +14,7 @@ use certificates::CAPACITY;
 use certificates::RECORD_WORDS;
 use certificates::ROW_IN_RECORD;
 use certificates::STORE_WORDS;
-use row_words::row::wide;
+use row_words::wide;
 
 const FIRST_ATOM: usize = ROW_IN_RECORD + 1;
 

@@ -1,11 +1,11 @@
 -- The measure is four times the count of words left, and a little more for the members that call others at the same word. Each way out is
 -- a law of `CycleAnswers`.
 use native.Mathlib.Omega.{arith}
-use Rattle.check_polarity.specs.Earlier.{knownIn}
+use Rattle.check_polarity.specs.Earlier.{earlierIs}
 use Rattle.check_terms.proofs.Answering.{word-found, word-refused}
 use Rattle.check_terms.proofs.TermAnswers.{guard-found, guard-refused}
 use Rattle.check_terms.proofs.RowAnswers.{passed-found, passed-lost}
-use Rattle.check_leaves.proofs.CheckAnswers.{checked, unchecked}
+use Rattle.check_leaves.proofs.CheckAnswers.{facts-answered, refusal-answered}
 use Rattle.check_expressions.proofs.CycleAnswers.{expr-uncoded, expr-deep, expr-coded, leaf-answers, comprehension-uncounted, comprehension-counted, two-first, two-second, union-found, difference-found, head-answers}
 use Rattle.check_expressions.proofs.CycleAnswers.{guards-unopened, guards-draw, guards-compared, guards-absent, pattern-found, pattern-lost, draw-ninth, draw-unread, draw-unmatched, draw-rest, draw-found, absent-unread, absent-set, absent-rest, absent-found}
 use borrow.Author.Needs.{needs}
@@ -39,7 +39,7 @@ use Rattle.check_polarity.proofs.draw_of.Reads as draw-of-reads
 use Rattle.check_polarity.proofs.union_of.Reads as union-of-reads
 use Rattle.check_terms.proofs.read_guard.Reads as read-guard-reads
 use Rattle.check_terms.proofs.read_pattern.Reads as read-pattern-reads
-use Rattle.check_terms.proofs.read_row.Reads as read-row-reads
+use Rattle.check_terms.proofs.pass_row.Reads as pass-row-reads
 use Rattle.check_terms.proofs.word_between.Reads as word-between-reads
 use Rattle.check_expressions.proofs.+check_absent+check_code+check_draw+check_expr+check_guards+check_two.{
   statement,
@@ -123,7 +123,7 @@ check-two-below t =
 
 -- what `check-absent` knows of the functions that it calls
 abbrev check-absent-claims : ℕ → check-absent-lts.Claims
-check-absent-claims t = (read-row-reads.Asked, read-row-reads.Learnt, check-expr-below t, check-expr.Post, check-guards-below t, check-guards.Post, absent-of-reads.Asked, absent-of-reads.Learnt)
+check-absent-claims t = (pass-row-reads.Asked, pass-row-reads.Learnt, check-expr-below t, check-expr.Post, check-guards-below t, check-guards.Post, absent-of-reads.Asked, absent-of-reads.Learnt)
 
 -- what `check-code` knows of the functions that it calls
 abbrev check-code-claims : ℕ → check-code-lts.Claims
@@ -145,8 +145,8 @@ check-guards-claims t = (check-head-reads.Asked, check-head-reads.Learnt, read-g
 abbrev check-two-claims : ℕ → check-two-lts.Claims
 check-two-claims t = (check-expr-below t, check-expr.Post, union-of-reads.Asked, union-of-reads.Learnt, difference-of-reads.Asked, difference-of-reads.Learnt)
 
-check-absent-read-row-requires : (t : ℕ) → check-absent-lts.Need-read-row-requires (check-absent-claims t) (check-absent-at t) check-absent.Post
-check-absent-read-row-requires t c κs = search needs
+check-absent-pass-row-requires : (t : ℕ) → check-absent-lts.Need-pass-row-requires (check-absent-claims t) (check-absent-at t) check-absent.Post
+check-absent-pass-row-requires t c κs = search needs
 
 check-absent-enum-known-n : (t : ℕ) → check-absent-lts.Need-enum-known-n (check-absent-claims t) (check-absent-at t) check-absent.Post
 check-absent-enum-known-n t c = search needs
@@ -158,7 +158,7 @@ check-absent-check-expr-requires : (t : ℕ) → check-absent-lts.Need-check-exp
 check-absent-check-expr-requires t c κs =
     let r = c .before in
     let s = r .before .before .before .before in
-    let row = passed-found (r .before .before .read-row .ensures) (r .set .given .1) in
+    let row = passed-found (r .before .before .pass-row .ensures) (r .set .given .1) in
     (omega (arith, s .pre .0, row .onward, row .within), s .pre .1)
 
 check-absent-enum-known-n-2 : (t : ℕ) → check-absent-lts.Need-enum-known-n-2 (check-absent-claims t) (check-absent-at t) check-absent.Post
@@ -172,8 +172,8 @@ check-absent-check-guards-requires t c κs =
     let e = c .before in
     let r = e .before .before .before .before in
     let s = r .before .before .before .before in
-    let row = passed-found (r .before .before .read-row .ensures) (r .set .given .1) in
-    let set = checked (e .before .before .check-expr .ensures) (e .lacking .given .1) in
+    let row = passed-found (r .before .before .pass-row .ensures) (r .set .given .1) in
+    let set = facts-answered (e .before .before .check-expr .ensures) (e .lacking .given .1) in
     (omega (arith, s .pre .0, row .onward, set .onward, set .within), s .pre .1)
 
 check-absent-enum-known-n-3 : (t : ℕ) → check-absent-lts.Need-enum-known-n-3 (check-absent-claims t) (check-absent-at t) check-absent.Post
@@ -188,21 +188,21 @@ check-absent-absent-of-requires t c κs = search needs
 check-absent-returns : (t : ℕ) → check-absent-lts.Need-returns (check-absent-claims t) (check-absent-at t) check-absent.Post
 check-absent-returns t c =
     let a = c .before .before .before .before .before .args in
-    absent-unread (a .levels) (a .variables) (a .draws) (knownIn (a .earlier)) (a .left) (passed-lost (c .before .before .before .read-row .ensures) (c .before .n .given .1))
+    absent-unread (a .levels) (a .variables) (a .draws) (earlierIs (a .earlier)) (a .left) (passed-lost (c .before .before .before .pass-row .ensures) (c .before .n .given .1))
 
 check-absent-returns-2 : (t : ℕ) → check-absent-lts.Need-returns-2 (check-absent-claims t) (check-absent-at t) check-absent.Post
 check-absent-returns-2 t c =
     let r = c .before .before .before .before .before in
     let a = r .before .before .before .before .args in
-    absent-set (a .levels) (a .variables) (a .draws) (knownIn (a .earlier)) (a .left) (passed-found (r .before .before .read-row .ensures) (r .set .given .1)) (unchecked (c .before .before .before .check-expr .ensures) (c .before .n2 .given .1))
+    absent-set (a .levels) (a .variables) (a .draws) (earlierIs (a .earlier)) (a .left) (passed-found (r .before .before .pass-row .ensures) (r .set .given .1)) (refusal-answered (c .before .before .before .check-expr .ensures) (c .before .n2 .given .1))
 
 check-absent-returns-3 : (t : ℕ) → check-absent-lts.Need-returns-3 (check-absent-claims t) (check-absent-at t) check-absent.Post
 check-absent-returns-3 t c =
     let e = c .before .before .before .before .before in
     let r = e .before .before .before .before in
     let a = r .before .before .before .before .args in
-    absent-rest (a .levels) (a .variables) (a .draws) (knownIn (a .earlier)) (a .left) (passed-found (r .before .before .read-row .ensures) (r .set .given .1)) (checked (e .before .before .check-expr .ensures) (e .lacking .given .1))
-    (unchecked (c .before .before .before .check-guards .ensures) (c .before .n3 .given .1))
+    absent-rest (a .levels) (a .variables) (a .draws) (earlierIs (a .earlier)) (a .left) (passed-found (r .before .before .pass-row .ensures) (r .set .given .1)) (facts-answered (e .before .before .check-expr .ensures) (e .lacking .given .1))
+    (refusal-answered (c .before .before .before .check-guards .ensures) (c .before .n3 .given .1))
 
 check-absent-returns-4 : (t : ℕ) → check-absent-lts.Need-returns-4 (check-absent-claims t) (check-absent-at t) check-absent.Post
 check-absent-returns-4 t c =
@@ -210,8 +210,8 @@ check-absent-returns-4 t c =
     let e = o .before .before .before .before in
     let r = e .before .before .before .before in
     let a = r .before .before .before .before .args in
-    absent-found (a .levels) (a .variables) (a .draws) (knownIn (a .earlier)) (a .left) (passed-found (r .before .before .read-row .ensures) (r .set .given .1)) (checked (e .before .before .check-expr .ensures) (e .lacking .given .1))
-    (checked (o .before .before .check-guards .ensures) (o .others .given .1)) (c .absent-of .ensures)
+    absent-found (a .levels) (a .variables) (a .draws) (earlierIs (a .earlier)) (a .left) (passed-found (r .before .before .pass-row .ensures) (r .set .given .1)) (facts-answered (e .before .before .check-expr .ensures) (e .lacking .given .1))
+    (facts-answered (o .before .before .check-guards .ensures) (o .others .given .1)) (c .absent-of .ensures)
 
 check-code-check-two-requires : (t : ℕ) → check-code-lts.Need-check-two-requires (check-code-claims t) (check-code-at t) check-code.Post
 check-code-check-two-requires t c κs = search needs
@@ -231,7 +231,7 @@ check-code-check-leaf-requires t c κs = search needs
 check-code-returns-3 : (t : ℕ) → check-code-lts.Need-returns-3 (check-code-claims t) (check-code-at t) check-code.Post
 check-code-returns-3 t c =
     let a = c .before .before .before .before .before .args in
-    leaf-answers (a .levels) (a .variables) (a .draws) (knownIn (a .earlier)) (a .code) (c .before .before .before .if1 .left) (c .before .before .if2 .left) (c .before .if3 .taken) (c .check-leaf .ensures)
+    leaf-answers (a .levels) (a .variables) (a .draws) (earlierIs (a .earlier)) (a .code) (c .before .before .before .if1 .left) (c .before .before .if2 .left) (c .before .if3 .taken) (c .check-leaf .ensures)
 
 check-code-word-between-requires : (t : ℕ) → check-code-lts.Need-word-between-requires (check-code-claims t) (check-code-at t) check-code.Post
 check-code-word-between-requires t c κs = search needs
@@ -256,19 +256,19 @@ check-code-returns-4 : (t : ℕ) → check-code-lts.Need-returns-4 (check-code-c
 check-code-returns-4 t c =
     let e = c .before .before .before .before in
     let a = e .before .before .before .before .args in
-    comprehension-uncounted (a .levels) (a .variables) (a .draws) (knownIn (a .earlier)) (a .code) (omega (arith, e .if3 .left)) (word-refused (c .before .before .before .word-between .ensures) (c .before .n .given .1))
+    comprehension-uncounted (a .levels) (a .variables) (a .draws) (earlierIs (a .earlier)) (a .code) (omega (arith, e .if3 .left)) (word-refused (c .before .before .before .word-between .ensures) (c .before .n .given .1))
 
 check-code-returns-5 : (t : ℕ) → check-code-lts.Need-returns-5 (check-code-claims t) (check-code-at t) check-code.Post
 check-code-returns-5 t c =
     let e = c .before .before .before .before .before in
     let a = e .before .before .before .before .args in
-    comprehension-counted (a .levels) (a .variables) (a .draws) (knownIn (a .earlier)) (a .code) (omega (arith, e .if3 .left))
+    comprehension-counted (a .levels) (a .variables) (a .draws) (earlierIs (a .earlier)) (a .code) (omega (arith, e .if3 .left))
     (word-found (c .before .before .before .before .word-between .ensures) (c .before .before .count .given .1)) (c .check-guards .ensures)
 
 check-draw-returns : (t : ℕ) → check-draw-lts.Need-returns (check-draw-claims t) (check-draw-at t) check-draw.Post
 check-draw-returns t c =
     let a = c .before .before .args in
-    draw-ninth (a .levels) (a .variables) (a .draws) (knownIn (a .earlier)) (a .left) (c .if1 .taken)
+    draw-ninth (a .levels) (a .variables) (a .draws) (earlierIs (a .earlier)) (a .left) (c .if1 .taken)
 
 check-draw-add-check-expr : (t : ℕ) → check-draw-lts.Need-add-check-expr (check-draw-claims t) (check-draw-at t) check-draw.Post
 check-draw-add-check-expr t c = search needs
@@ -296,7 +296,7 @@ check-draw-check-guards-requires t c κs =
     let p = c .before in
     let d = p .before .before .before .before in
     let s = d .before .before .before .before .before in
-    let set = checked (d .before .before .check-expr .ensures) (d .drawn .given .1) in
+    let set = facts-answered (d .before .before .check-expr .ensures) (d .drawn .given .1) in
     let pattern = pattern-found (p .before .before .read-pattern .ensures) (p .scope .given .1) in
     (omega (arith, s .pre .0, set .onward, pattern .onward, pattern .within), s .pre .1)
 
@@ -313,14 +313,14 @@ check-draw-returns-2 : (t : ℕ) → check-draw-lts.Need-returns-2 (check-draw-c
 check-draw-returns-2 t c =
     let f = c .before .before .before .before in
     let a = f .before .before .args in
-    draw-unread (a .levels) (a .variables) (a .draws) (knownIn (a .earlier)) (a .left) (f .if1 .left) (unchecked (c .before .before .before .check-expr .ensures) (c .before .n .given .1))
+    draw-unread (a .levels) (a .variables) (a .draws) (earlierIs (a .earlier)) (a .left) (f .if1 .left) (refusal-answered (c .before .before .before .check-expr .ensures) (c .before .n .given .1))
 
 check-draw-returns-3 : (t : ℕ) → check-draw-lts.Need-returns-3 (check-draw-claims t) (check-draw-at t) check-draw.Post
 check-draw-returns-3 t c =
     let d = c .before .before .before .before .before in
     let f = d .before .before .before in
     let a = f .before .before .args in
-    draw-unmatched (a .levels) (a .variables) (a .draws) (knownIn (a .earlier)) (a .left) (f .if1 .left) (checked (d .before .before .check-expr .ensures) (d .drawn .given .1)) (pattern-lost (c .before .before .before .read-pattern .ensures) (c .before .n2 .given .1))
+    draw-unmatched (a .levels) (a .variables) (a .draws) (earlierIs (a .earlier)) (a .left) (f .if1 .left) (facts-answered (d .before .before .check-expr .ensures) (d .drawn .given .1)) (pattern-lost (c .before .before .before .read-pattern .ensures) (c .before .n2 .given .1))
 
 check-draw-returns-4 : (t : ℕ) → check-draw-lts.Need-returns-4 (check-draw-claims t) (check-draw-at t) check-draw.Post
 check-draw-returns-4 t c =
@@ -328,8 +328,8 @@ check-draw-returns-4 t c =
     let d = p .before .before .before .before in
     let f = d .before .before .before in
     let a = f .before .before .args in
-    draw-rest (a .levels) (a .variables) (a .draws) (knownIn (a .earlier)) (a .left) (f .if1 .left) (checked (d .before .before .check-expr .ensures) (d .drawn .given .1)) (pattern-found (p .before .before .read-pattern .ensures) (p .scope .given .1))
-    (unchecked (c .before .before .before .check-guards .ensures) (c .before .n3 .given .1))
+    draw-rest (a .levels) (a .variables) (a .draws) (earlierIs (a .earlier)) (a .left) (f .if1 .left) (facts-answered (d .before .before .check-expr .ensures) (d .drawn .given .1)) (pattern-found (p .before .before .read-pattern .ensures) (p .scope .given .1))
+    (refusal-answered (c .before .before .before .check-guards .ensures) (c .before .n3 .given .1))
 
 check-draw-returns-5 : (t : ℕ) → check-draw-lts.Need-returns-5 (check-draw-claims t) (check-draw-at t) check-draw.Post
 check-draw-returns-5 t c =
@@ -338,8 +338,8 @@ check-draw-returns-5 t c =
     let d = p .before .before .before .before in
     let f = d .before .before .before in
     let a = f .before .before .args in
-    draw-found (a .levels) (a .variables) (a .draws) (knownIn (a .earlier)) (a .left) (f .if1 .left) (checked (d .before .before .check-expr .ensures) (d .drawn .given .1)) (pattern-found (p .before .before .read-pattern .ensures) (p .scope .given .1))
-    (checked (o .before .before .check-guards .ensures) (o .others .given .1)) (c .draw-of .ensures)
+    draw-found (a .levels) (a .variables) (a .draws) (earlierIs (a .earlier)) (a .left) (f .if1 .left) (facts-answered (d .before .before .check-expr .ensures) (d .drawn .given .1)) (pattern-found (p .before .before .read-pattern .ensures) (p .scope .given .1))
+    (facts-answered (o .before .before .check-guards .ensures) (o .others .given .1)) (c .draw-of .ensures)
 
 check-expr-word-between-requires : (t : ℕ) → check-expr-lts.Need-word-between-requires (check-expr-claims t) (check-expr-at t) check-expr.Post
 check-expr-word-between-requires t c κs = search needs
@@ -365,17 +365,17 @@ check-expr-check-code-requires t c κs =
 check-expr-returns : (t : ℕ) → check-expr-lts.Need-returns (check-expr-claims t) (check-expr-at t) check-expr.Post
 check-expr-returns t c =
     let a = c .before .before .before .before .before .args in
-    expr-uncoded (a .variables) (a .draws) (knownIn (a .earlier)) (a .levels) (word-refused (c .before .before .before .word-between .ensures) (c .before .n .given .1))
+    expr-uncoded (a .variables) (a .draws) (earlierIs (a .earlier)) (a .levels) (word-refused (c .before .before .before .word-between .ensures) (c .before .n .given .1))
 
 check-expr-returns-2 : (t : ℕ) → check-expr-lts.Need-returns-2 (check-expr-claims t) (check-expr-at t) check-expr.Post
 check-expr-returns-2 t c =
     let a = c .before .before .before .before .before .before .args in
-    expr-deep (a .variables) (a .draws) (knownIn (a .earlier)) (word-found (c .before .before .before .before .word-between .ensures) (c .before .before .code .given .1)) (a .levels) (c .if1 .taken)
+    expr-deep (a .variables) (a .draws) (earlierIs (a .earlier)) (word-found (c .before .before .before .before .word-between .ensures) (c .before .before .code .given .1)) (a .levels) (c .if1 .taken)
 
 check-expr-returns-3 : (t : ℕ) → check-expr-lts.Need-returns-3 (check-expr-claims t) (check-expr-at t) check-expr.Post
 check-expr-returns-3 t c =
     let a = c .before .before .before .before .before .before .before .args in
-    expr-coded (a .variables) (a .draws) (knownIn (a .earlier)) (word-found (c .before .before .before .before .before .word-between .ensures) (c .before .before .before .code .given .1)) (a .levels) (c .before .if1 .left)
+    expr-coded (a .variables) (a .draws) (earlierIs (a .earlier)) (word-found (c .before .before .before .before .before .word-between .ensures) (c .before .before .before .code .given .1)) (a .levels) (c .before .if1 .left)
     (c .check-code .ensures)
 
 check-guards-check-head-requires : (t : ℕ) → check-guards-lts.Need-check-head-requires (check-guards-claims t) (check-guards-at t) check-guards.Post
@@ -384,7 +384,7 @@ check-guards-check-head-requires t c κs = search needs
 check-guards-returns : (t : ℕ) → check-guards-lts.Need-returns (check-guards-claims t) (check-guards-at t) check-guards.Post
 check-guards-returns t c =
     let a = c .before .before .before .args in
-    head-answers (a .levels) (a .variables) (a .draws) (knownIn (a .earlier)) (a .left) (c .before .if1 .taken) (c .check-head .ensures)
+    head-answers (a .levels) (a .variables) (a .draws) (earlierIs (a .earlier)) (a .left) (c .before .if1 .taken) (c .check-head .ensures)
 
 check-guards-read-guard-requires : (t : ℕ) → check-guards-lts.Need-read-guard-requires (check-guards-claims t) (check-guards-at t) check-guards.Post
 check-guards-read-guard-requires t c κs = search needs
@@ -435,28 +435,28 @@ check-guards-returns-2 : (t : ℕ) → check-guards-lts.Need-returns-2 (check-gu
 check-guards-returns-2 t c =
     let f = c .before .before .before .before in
     let a = f .before .before .args in
-    guards-unopened (a .levels) (a .variables) (a .draws) (knownIn (a .earlier)) (a .left) (f .if1 .left) (guard-refused (c .before .before .before .read-guard .ensures) (c .before .n .given .1))
+    guards-unopened (a .levels) (a .variables) (a .draws) (earlierIs (a .earlier)) (a .left) (f .if1 .left) (guard-refused (c .before .before .before .read-guard .ensures) (c .before .n .given .1))
 
 check-guards-returns-3 : (t : ℕ) → check-guards-lts.Need-returns-3 (check-guards-claims t) (check-guards-at t) check-guards.Post
 check-guards-returns-3 t c =
     let g = c .before .before .before .before in
     let f = g .before .before .before in
     let a = f .before .before .args in
-    guards-draw (a .levels) (a .variables) (a .draws) (knownIn (a .earlier)) (a .left) (f .if1 .left) (g .before .before .read-guard .ensures) (g .guard .given .1) (c .before .enum-told .given .1) (c .check-draw .ensures)
+    guards-draw (a .levels) (a .variables) (a .draws) (earlierIs (a .earlier)) (a .left) (f .if1 .left) (g .before .before .read-guard .ensures) (g .guard .given .1) (c .before .enum-told .given .1) (c .check-draw .ensures)
 
 check-guards-returns-4 : (t : ℕ) → check-guards-lts.Need-returns-4 (check-guards-claims t) (check-guards-at t) check-guards.Post
 check-guards-returns-4 t c =
     let g = c .before .before .before in
     let f = g .before .before .before in
     let a = f .before .before .args in
-    guards-compared (a .levels) (a .variables) (a .draws) (knownIn (a .earlier)) (a .left) (f .if1 .left) (g .before .before .read-guard .ensures) (g .guard .given .1) (c .before .match2 .keys2) (c .check-guards .ensures)
+    guards-compared (a .levels) (a .variables) (a .draws) (earlierIs (a .earlier)) (a .left) (f .if1 .left) (g .before .before .read-guard .ensures) (g .guard .given .1) (c .before .match2 .keys2) (c .check-guards .ensures)
 
 check-guards-returns-5 : (t : ℕ) → check-guards-lts.Need-returns-5 (check-guards-claims t) (check-guards-at t) check-guards.Post
 check-guards-returns-5 t c =
     let g = c .before .before .before .before in
     let f = g .before .before .before in
     let a = f .before .before .args in
-    guards-absent (a .levels) (a .variables) (a .draws) (knownIn (a .earlier)) (a .left) (f .if1 .left) (g .before .before .read-guard .ensures) (g .guard .given .1) (c .before .enum-told2 .given .1) (c .check-absent .ensures)
+    guards-absent (a .levels) (a .variables) (a .draws) (earlierIs (a .earlier)) (a .left) (f .if1 .left) (g .before .before .read-guard .ensures) (g .guard .given .1) (c .before .enum-told2 .given .1) (c .check-absent .ensures)
 
 check-two-check-expr-requires : (t : ℕ) → check-two-lts.Need-check-expr-requires (check-two-claims t) (check-two-at t) check-two.Post
 check-two-check-expr-requires t c κs = search needs
@@ -471,7 +471,7 @@ check-two-check-expr-requires-2 : (t : ℕ) → check-two-lts.Need-check-expr-re
 check-two-check-expr-requires-2 t c κs =
     let l = c .before in
     let s = l .before .before .before .before in
-    let left = checked (l .before .before .check-expr .ensures) (l .left .given .1) in
+    let left = facts-answered (l .before .before .check-expr .ensures) (l .left .given .1) in
     (omega (arith, s .pre .0, left .onward, left .within), s .pre .1 .0)
 
 check-two-enum-known-n-2 : (t : ℕ) → check-two-lts.Need-enum-known-n-2 (check-two-claims t) (check-two-at t) check-two.Post
@@ -490,15 +490,15 @@ check-two-returns : (t : ℕ) → check-two-lts.Need-returns (check-two-claims t
 check-two-returns t c =
     let s = c .before .before .before .before .before in
     let a = s .args in
-    two-first (a .levels) (a .variables) (a .draws) (knownIn (a .earlier)) (a .code) (s .pre .1 .1) (s .pre .1 .2) (unchecked (c .before .before .before .check-expr .ensures) (c .before .n .given .1))
+    two-first (a .levels) (a .variables) (a .draws) (earlierIs (a .earlier)) (a .code) (s .pre .1 .1) (s .pre .1 .2) (refusal-answered (c .before .before .before .check-expr .ensures) (c .before .n .given .1))
 
 check-two-returns-2 : (t : ℕ) → check-two-lts.Need-returns-2 (check-two-claims t) (check-two-at t) check-two.Post
 check-two-returns-2 t c =
     let l = c .before .before .before .before .before in
     let s = l .before .before .before .before in
     let a = s .args in
-    two-second (a .levels) (a .variables) (a .draws) (knownIn (a .earlier)) (a .code) (s .pre .1 .1) (s .pre .1 .2) (checked (l .before .before .check-expr .ensures) (l .left .given .1))
-    (unchecked (c .before .before .before .check-expr2 .ensures) (c .before .n2 .given .1))
+    two-second (a .levels) (a .variables) (a .draws) (earlierIs (a .earlier)) (a .code) (s .pre .1 .1) (s .pre .1 .2) (facts-answered (l .before .before .check-expr .ensures) (l .left .given .1))
+    (refusal-answered (c .before .before .before .check-expr2 .ensures) (c .before .n2 .given .1))
 
 check-two-returns-3 : (t : ℕ) → check-two-lts.Need-returns-3 (check-two-claims t) (check-two-at t) check-two.Post
 check-two-returns-3 t c =
@@ -506,8 +506,8 @@ check-two-returns-3 t c =
     let l = r .before .before .before .before in
     let s = l .before .before .before .before in
     let a = s .args in
-    union-found (a .levels) (a .variables) (a .draws) (knownIn (a .earlier)) (a .code) (s .pre .1 .1) (s .pre .1 .2)
-    (checked (l .before .before .check-expr .ensures) (l .left .given .1)) (checked (r .before .before .check-expr2 .ensures) (r .right .given .1)) (c .before .if1 .taken) (c .union-of .ensures)
+    union-found (a .levels) (a .variables) (a .draws) (earlierIs (a .earlier)) (a .code) (s .pre .1 .1) (s .pre .1 .2)
+    (facts-answered (l .before .before .check-expr .ensures) (l .left .given .1)) (facts-answered (r .before .before .check-expr2 .ensures) (r .right .given .1)) (c .before .if1 .taken) (c .union-of .ensures)
 
 check-two-returns-4 : (t : ℕ) → check-two-lts.Need-returns-4 (check-two-claims t) (check-two-at t) check-two.Post
 check-two-returns-4 t c =
@@ -515,8 +515,8 @@ check-two-returns-4 t c =
     let l = r .before .before .before .before in
     let s = l .before .before .before .before in
     let a = s .args in
-    difference-found (a .levels) (a .variables) (a .draws) (knownIn (a .earlier)) (a .code) (s .pre .1 .1) (s .pre .1 .2)
-    (checked (l .before .before .check-expr .ensures) (l .left .given .1)) (checked (r .before .before .check-expr2 .ensures) (r .right .given .1)) (c .before .if1 .left) (c .difference-of .ensures)
+    difference-found (a .levels) (a .variables) (a .draws) (earlierIs (a .earlier)) (a .code) (s .pre .1 .1) (s .pre .1 .2)
+    (facts-answered (l .before .before .check-expr .ensures) (l .left .given .1)) (facts-answered (r .before .before .check-expr2 .ensures) (r .right .given .1)) (c .before .if1 .left) (c .difference-of .ensures)
 
 pub +check-absent+check-code+check-draw+check-expr+check-guards+check-two-spec :
     {M : Type 1} → statement M
@@ -531,7 +531,7 @@ pub +check-absent+check-code+check-draw+check-expr+check-guards+check-two-spec :
     (λ t. check-absent-lts.spec (check-absent-claims t)
     (check-absent-at t)
     check-absent.Post
-    (check-absent-read-row-requires t)
+    (check-absent-pass-row-requires t)
     (check-absent-enum-known-n t)
     (check-absent-enum-known-set t)
     (check-absent-check-expr-requires t)

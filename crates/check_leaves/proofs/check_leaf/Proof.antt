@@ -1,5 +1,5 @@
 -- A leaf's own function answers for it.
-use Rattle.check_polarity.specs.Earlier.{knownIn}
+use Rattle.check_polarity.specs.Earlier.{earlierIs}
 use Rattle.check_leaves.proofs.LeafAnswers.{leaf-none}
 use borrow.Author.Needs.{needs}
 use Rattle.check_leaves.proofs.check_leaf.Statement.{statement}
@@ -32,7 +32,7 @@ returns-4 c = rw (c .before .if4 .taken) (c .check-name .ensures)
 returns-5 : tie.Need-returns-5
 returns-5 c =
     let a = c .before .before .before .before .before .args in
-    leaf-none (a .variables) (a .draws) (knownIn (a .earlier)) (a .code) (c .before .before .before .if1 .left) (c .before .before .if2 .left) (c .before .if3 .left) (c .if4 .left)
+    leaf-none (a .variables) (a .draws) (earlierIs (a .earlier)) (a .code) (c .before .before .before .if1 .left) (c .before .before .if2 .left) (c .before .if3 .left) (c .if4 .left)
 
 pub check-leaf-spec : {M : Type 1} → statement M
 check-leaf-spec =

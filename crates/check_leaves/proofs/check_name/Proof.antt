@@ -1,6 +1,6 @@
 -- Each way out is a law of `LeafAnswers`.
 use native.Mathlib.Omega.{arith}
-use Rattle.check_polarity.specs.Earlier.{knownIn}
+use Rattle.check_polarity.specs.Earlier.{earlierIs}
 use Rattle.check_terms.proofs.Answering.{word-found, word-refused}
 use Rattle.check_terms.proofs.RowAnswers.{passed-found, passed-lost}
 use Rattle.check_leaves.proofs.LeafAnswers.{name-unissued, name-over, name-unpolarized, name-found}
@@ -8,8 +8,8 @@ use borrow.Author.Needs.{needs}
 use Rattle.check_leaves.proofs.check_name.Statement.{statement}
 use Rattle.check_leaves.proofs.check_name.Tie as tie
 
-read-issuer-requires : tie.Need-read-issuer-requires
-read-issuer-requires c κs = search needs
+pass-issuer-requires : tie.Need-pass-issuer-requires
+pass-issuer-requires c κs = search needs
 
 enum-known-n : tie.Need-enum-known-n
 enum-known-n c = search needs
@@ -44,13 +44,13 @@ add-t21 c = omega (arith, word-found (c .before .before .before .word-between2 .
 returns : tie.Need-returns
 returns c =
     let a = c .before .before .before .before .before .args in
-    name-unissued (a .variables) (a .draws) (knownIn (a .earlier)) (passed-lost (c .before .before .before .read-issuer .ensures) (c .before .n .given .1))
+    name-unissued (a .variables) (a .draws) (earlierIs (a .earlier)) (passed-lost (c .before .before .before .pass-issuer .ensures) (c .before .n .given .1))
 
 returns-2 : tie.Need-returns-2
 returns-2 c =
     let i : tie.After-name = c .before .before .before .before .before in
     let a = i .before .before .before .before .args in
-    name-over (a .variables) (a .draws) (knownIn (a .earlier)) (passed-found (i .before .before .read-issuer .ensures) (i .name .given .1))
+    name-over (a .variables) (a .draws) (earlierIs (a .earlier)) (passed-found (i .before .before .pass-issuer .ensures) (i .name .given .1))
     (word-refused (c .before .before .before .word-between .ensures) (c .before .n2 .given .1))
 
 returns-3 : tie.Need-returns-3
@@ -58,7 +58,7 @@ returns-3 c =
     let m : tie.After-enum-told = c .before .before .before .before in
     let i : tie.After-name = m .before .before .before .before in
     let a = i .before .before .before .before .args in
-    name-unpolarized (a .variables) (a .draws) (knownIn (a .earlier)) (passed-found (i .before .before .read-issuer .ensures) (i .name .given .1))
+    name-unpolarized (a .variables) (a .draws) (earlierIs (a .earlier)) (passed-found (i .before .before .pass-issuer .ensures) (i .name .given .1))
     (word-found (m .before .before .word-between .ensures) (m .enum-told .given .1)) (word-refused (c .before .before .before .word-between2 .ensures) (c .before .n3 .given .1))
 
 returns-4 : tie.Need-returns-4
@@ -66,14 +66,14 @@ returns-4 c =
     let m : tie.After-enum-told = c .before .before .before .before in
     let i : tie.After-name = m .before .before .before .before in
     let a = i .before .before .before .before .args in
-    name-found (a .variables) (a .draws) (knownIn (a .earlier)) (passed-found (i .before .before .read-issuer .ensures) (i .name .given .1))
+    name-found (a .variables) (a .draws) (earlierIs (a .earlier)) (passed-found (i .before .before .pass-issuer .ensures) (i .name .given .1))
     (word-found (m .before .before .word-between .ensures) (m .enum-told .given .1)) (word-found (c .before .before .before .word-between2 .ensures) (c .before .polarity .given .1))
 
 pub check-name-spec : {M : Type 1} → statement M
 check-name-spec =
     tie.close
     (tie.spec
-    read-issuer-requires
+    pass-issuer-requires
     enum-known-n
     enum-known-name
     word-between-requires

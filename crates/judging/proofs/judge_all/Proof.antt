@@ -5,11 +5,11 @@ use native.Mathlib.Omega.{arith}
 use lib.ListN.{getD}
 use Rattle.policy.specs.Table.{entryAt}
 use Rattle.policy_table.specs.Entries.{entryPlace}
-use Rattle.policy.specs.Judgement.{checkDefinition}
-use Rattle.check_polarity.specs.Earlier.{knownIn}
-use Rattle.judging.specs.Whole.{wholeOf}
+use Rattle.policy.specs.Checking.{checkDefinition}
+use Rattle.check_polarity.specs.Earlier.{earlierIs}
+use Rattle.judging.specs.Whole.{wholeFor}
 use Rattle.policy_table.proofs.PartAnswers.{Listed, listed-of}
-use Rattle.judging.proofs.JudgeAnswers.{Judging, judging-starts, judging-refused, judging-goes-on, query-unjudged, query-judged}
+use Rattle.judging.proofs.JudgeAnswers.{Judging, none-judged, judging-refused, definition-judged, query-unjudged, query-judged}
 use borrow.Author.Needs.{needs}
 use Rattle.judging.proofs.judge_all.Statement.{statement}
 use Rattle.judging.proofs.judge_all.Tie as tie
@@ -40,12 +40,12 @@ abbrev again : Judged → Loop
 again j = j .before .before .before
 
 -- the definition judged is the next one
-next-judged : (j : Judged) → j .judge-entry .result ≡ wholeOf (knownIn (again j .loop .earlier))
-    (checkDefinition (entry (again j) .args .policy .now) (knownIn (again j .loop .earlier)) (entryAt (entry (again j) .args .policy .now) (entryPlace (again j .loop .next))))
+next-judged : (j : Judged) → j .judge-entry .result ≡ wholeFor (earlierIs (again j .loop .earlier))
+    (checkDefinition (entry (again j) .args .policy .now) (earlierIs (again j .loop .earlier)) (entryAt (entry (again j) .args .policy .now) (entryPlace (again j .loop .next))))
 next-judged j =
     let p = entry (again j) .args .policy .now in
-    let ks = knownIn (again j .loop .earlier) in
-    j .judge-entry .ensures ∙ ap (λ i. wholeOf ks (checkDefinition p ks (entryAt p (entryPlace i)))) (j .before .wide .ensures)
+    let ks = earlierIs (again j .loop .earlier) in
+    j .judge-entry .ensures ∙ ap (λ i. wholeFor ks (checkDefinition p ks (entryAt p (entryPlace i)))) (j .before .wide .ensures)
 
 -- ---- answers
 
@@ -53,7 +53,7 @@ loop-holds : tie.Need-loop-holds Inv-loop μ-loop
 loop-holds c =
     let start = c .before .before .before in
     let a = start .args in
-    judging-starts (a .policy .now) (a .query .now) (a .count) _ (start .pre) (c .none-earlier .ensures .0) (c .none-earlier .ensures .1)
+    none-judged (a .policy .now) (a .query .now) (a .count) _ (start .pre) (c .none-earlier .ensures .0) (c .none-earlier .ensures .1)
 
 add-next : tie.Need-add-next Inv-loop μ-loop
 add-next c = omega (arith, c .before .loop-test .taken, entries (c .before .before) .few)
@@ -112,7 +112,7 @@ loop-again c =
     let j = place .before .before .before .before in
     let l = again j in
     let a = entry l .args in
-    judging-goes-on (a .policy .now) (a .query .now) (a .count) (l .loop .next) (l .loop .earlier) (l .loop .inv) (j .before .before .loop-test .taken) (next-judged j)
+    definition-judged (a .policy .now) (a .query .now) (a .count) (l .loop .next) (l .loop .earlier) (l .loop .inv) (j .before .before .loop-test .taken) (next-judged j)
     (c .before .before .before .before .facts .given .1)
     (ap (λ o. getD (a .policy .now) (o + 1) 0) (place .entry-place .ensures ∙ ap (λ i. entryPlace i) (j .before .wide .ensures)))
     (c .with-definition .ensures .0) (c .with-definition .ensures .1)

@@ -9,7 +9,7 @@ use borrow.Author.Tests.{not-true, not-false}
 use borrow.Author.Needs.{needs}
 use Rattle.policy.specs.Table.{entryAt, soundHeader, soundEntry}
 use Rattle.policy_table.specs.Entries.{entryPlace, entriesBefore}
-use Rattle.policy_table.proofs.TableAnswers.{Header, header-of, Sound, sound-of, Reading, table-unheaded, table-starts, table-unsound, table-goes-on, table-ends, table-left-over}
+use Rattle.policy_table.proofs.TableAnswers.{Header, header-of, Sound, sound-of, Reading, unsound-header-refused, none-read, unsound-entry-refused, sound-entry-read, table-ends, table-left-over}
 use Rattle.policy_table.proofs.read_table.Statement.{statement}
 use Rattle.policy_table.proofs.read_table.Tie as tie
 
@@ -60,7 +60,7 @@ size c = c .wide2 .ensures ∙ ap (λ a. getD (policy (turned (passed c))) (a + 
 -- ---- before the loop
 
 returns : tie.Need-returns Inv-loop μ-loop
-returns c = table-unheaded (c .before .before .before .args .policy .now) (sym (c .before .sound-header .ensures) ∙ not-true _ (c .if1 .taken))
+returns c = unsound-header-refused (c .before .before .before .args .policy .now) (sym (c .before .sound-header .ensures) ∙ not-true _ (c .if1 .taken))
 
 shared-slice-read-wide : tie.Need-shared-slice-read-wide Inv-loop μ-loop
 shared-slice-read-wide c = omega (arith, header (c .before) .two)
@@ -71,7 +71,7 @@ entry-place-requires c κs = omega (arith, c .wide .ensures, header (c .before .
 loop-holds : tie.Need-loop-holds Inv-loop μ-loop
 loop-holds c =
     let h = c .before .before .before in
-    table-starts (words h) _ (headed h) (c .entry-place .ensures ∙ ap (λ n. entryPlace n) (c .before .wide .ensures))
+    none-read (words h) _ (headed h) (c .entry-place .ensures ∙ ap (λ n. entryPlace n) (c .before .wide .ensures))
 
 -- ---- an entry
 
@@ -84,7 +84,7 @@ returns-2 : tie.Need-returns-2 Inv-loop μ-loop
 returns-2 c =
     let t = c .before .before in
     let l = t .before in
-    table-unsound (policy l) (l .loop .i) (l .loop .due) (l .loop .inv) (more t) (sym (c .before .sound-entry .ensures) ∙ not-true _ (c .if2 .taken))
+    unsound-entry-refused (policy l) (l .loop .i) (l .loop .due) (l .loop .inv) (more t) (sym (c .before .sound-entry .ensures) ∙ not-true _ (c .if2 .taken))
 
 entry-place-requires-2 : tie.Need-entry-place-requires-2 Inv-loop μ-loop
 entry-place-requires-2 c κs = omega (arith, more (c .before .before), header (entry (turned c)) .count)
@@ -118,7 +118,7 @@ loop-less c = omega (arith, passed c .before .before .loop-test .taken)
 loop-again : tie.Need-loop-again Inv-loop μ-loop
 loop-again c =
     let l = turned (passed c) in
-    table-goes-on (policy l) (l .loop .i) (l .loop .due) (l .loop .inv) (more (passed c .before .before)) (sound (passed c)) (ap (λ n. l .loop .due + n) (size c))
+    sound-entry-read (policy l) (l .loop .i) (l .loop .due) (l .loop .inv) (more (passed c .before .before)) (sound (passed c)) (ap (λ n. l .loop .due + n) (size c))
 
 -- ---- after the loop
 

@@ -5,7 +5,7 @@ use mathlib.Core.List.{List}
 use native.Mathlib.Omega.{arith}
 use Rattle.policy.specs.Table.{Entry, entryAt, named, soundEntry}
 use Rattle.policy_table.specs.Entries.{entryPlace, entriesBefore}
-use Rattle.policy_table.proofs.TableAnswers.{placed, entry-name, entry-polarity, entry-offset, entry-empty, entry-past, entry-else}
+use Rattle.policy_table.proofs.TableAnswers.{placed, name-over-unsound, polarity-over-unsound, offset-not-due-unsound, empty-part-unsound, part-past-policy-unsound, entry-sound-if-not-named}
 use borrow.Author.Needs.{needs}
 use Rattle.policy_table.proofs.sound_entry.Statement.{statement}
 use Rattle.policy_table.proofs.sound_entry.Tie as tie
@@ -66,14 +66,14 @@ some s h = s .if4 .left (s .before .wide2 .ensures ∙ h)
 
 returns : tie.Need-returns
 unfolding entryAt
-returns c = let e = c .before .before in answer e (entry-name (policy e) (due e) (earlier e) (read e) (c .if1 .taken))
+returns c = let e = c .before .before in answer e (name-over-unsound (policy e) (due e) (earlier e) (read e) (c .if1 .taken))
 
 returns-2 : tie.Need-returns-2
 unfolding entryAt
 returns-2 c =
     let n = c .before .before in
     let e = from-name n in
-    answer e (entry-polarity (policy e) (due e) (earlier e) (read e) (n .if1 .left) (c .if2 .taken))
+    answer e (polarity-over-unsound (policy e) (due e) (earlier e) (read e) (n .if1 .left) (c .if2 .taken))
 
 returns-3 : tie.Need-returns-3
 unfolding entryAt
@@ -81,7 +81,7 @@ returns-3 c =
     let q = c .before .before .before in
     let n = from-polarity q in
     let e = from-name n in
-    answer e (entry-offset (policy e) (due e) (earlier e) (read e) (n .if1 .left) (q .if2 .left) (λ h. c .if3 .taken (c .before .wide .ensures ∙ h)))
+    answer e (offset-not-due-unsound (policy e) (due e) (earlier e) (read e) (n .if1 .left) (q .if2 .left) (λ h. c .if3 .taken (c .before .wide .ensures ∙ h)))
 
 returns-4 : tie.Need-returns-4
 unfolding entryAt
@@ -91,7 +91,7 @@ returns-4 c =
     let n = from-polarity q in
     let e = from-name n in
     answer e
-    (entry-empty (policy e) (due e) (earlier e) (read e) (n .if1 .left) (q .if2 .left) (offset-due o) (sym (c .before .wide2 .ensures) ∙ c .if4 .taken))
+    (empty-part-unsound (policy e) (due e) (earlier e) (read e) (n .if1 .left) (q .if2 .left) (offset-due o) (sym (c .before .wide2 .ensures) ∙ c .if4 .taken))
 
 returns-5 : tie.Need-returns-5
 unfolding entryAt
@@ -102,7 +102,7 @@ returns-5 c =
     let n = from-polarity q in
     let e = from-name n in
     answer e
-    (entry-past (policy e) (due e) (earlier e) (read e) (n .if1 .left) (q .if2 .left) (offset-due o) (some s)
+    (part-past-policy-unsound (policy e) (due e) (earlier e) (read e) (n .if1 .left) (q .if2 .left) (offset-due o) (some s)
     (start e .pre .2) (omega (arith, s .before .wide2 .ensures, c .if5 .taken)))
 
 returns-6 : tie.Need-returns-6
@@ -114,7 +114,7 @@ returns-6 c =
     let n = from-polarity q in
     let e = from-name n in
     answer e
-    (entry-else (policy e) (due e) (earlier e) (read e) (n .if1 .left) (q .if2 .left) (offset-due o) (some s)
+    (entry-sound-if-not-named (policy e) (due e) (earlier e) (read e) (n .if1 .left) (q .if2 .left) (offset-due o) (some s)
     (start e .pre .2) (omega (arith, s .before .wide2 .ensures, c .before .if5 .left))
     (c .is-named .ensures ∙ ap (λ a. named (earlier e) (entryAt (policy e) a)) (sym (e .entry-place .ensures))))
 

@@ -1,6 +1,6 @@
 use mathlib.Core.Path.{_∙_, ap}
 use Rattle.policy_table.specs.Entries.{entryPlace}
-use Rattle.policy_table.proofs.TableAnswers.{header-short, header-long, header-format, header-count, header-fits}
+use Rattle.policy_table.proofs.TableAnswers.{short-header-unsound, long-header-unsound, other-format-unsound, many-definitions-unsound, header-sound-if-table-fits}
 use borrow.Author.Needs.{needs}
 use Rattle.policy_table.proofs.sound_header.Statement.{statement}
 use Rattle.policy_table.proofs.sound_header.Tie as tie
@@ -16,23 +16,23 @@ from-format one = one .before .before
 -- ---- answers
 
 returns : tie.Need-returns
-returns c = header-short (c .before .before .args .policy .now) (c .if1 .taken)
+returns c = short-header-unsound (c .before .before .args .policy .now) (c .if1 .taken)
 
 returns-2 : tie.Need-returns-2
-returns-2 c = let two = c .before in header-long (entry two .args .policy .now) (two .if1 .left) (c .if2 .taken)
+returns-2 c = let two = c .before in long-header-unsound (entry two .args .policy .now) (two .if1 .left) (c .if2 .taken)
 
 returns-3 : tie.Need-returns-3
 returns-3 c =
     let few = c .before .before in
     let two = few .before in
-    header-format (entry two .args .policy .now) (two .if1 .left) (few .if2 .left) (c .if3 .taken)
+    other-format-unsound (entry two .args .policy .now) (two .if1 .left) (few .if2 .left) (c .if3 .taken)
 
 returns-4 : tie.Need-returns-4
 returns-4 c =
     let one = c .before .before in
     let few = from-format one in
     let two = few .before in
-    header-count (entry two .args .policy .now) (two .if1 .left) (few .if2 .left) (one .if3 .left) (c .if4 .taken)
+    many-definitions-unsound (entry two .args .policy .now) (two .if1 .left) (few .if2 .left) (one .if3 .left) (c .if4 .taken)
 
 returns-5 : tie.Need-returns-5
 returns-5 c =
@@ -40,7 +40,7 @@ returns-5 c =
     let one = count .before .before in
     let few = from-format one in
     let two = few .before in
-    header-fits (entry two .args .policy .now) (two .if1 .left) (few .if2 .left) (one .if3 .left) (count .if4 .left)
+    header-sound-if-table-fits (entry two .args .policy .now) (two .if1 .left) (few .if2 .left) (one .if3 .left) (count .if4 .left)
     (c .entry-place .ensures ∙ ap (λ i. entryPlace i) (c .before .wide .ensures))
 
 pub sound-header-spec : {M : Type 1} → statement M

@@ -6,7 +6,7 @@ use lib.ListN.{length}
 use borrow.Author.Needs.{needs}
 use Rattle.meaning.specs.Reading.{done, tick}
 use Rattle.read_values.proofs.Lent.{bound-after}
-use Rattle.read_values.proofs.Answers.{ticks, ticks-no-more}
+use Rattle.read_values.proofs.Answers.{ticked-done, ticked-refused}
 use Rattle.read_steps.proofs.Drawing.{Seeking, drawn-room, seeking-start, row-inside, row-narrow, seeking-limit, seeking-miss, seeking-hit, seeking-end}
 use Rattle.read_steps.proofs.draw_next.Statement.{statement}
 use Rattle.read_steps.proofs.draw_next.Tie as tie
@@ -32,7 +32,7 @@ abbrev turn : tie.After-match-row Inv-loop μ-loop → tie.In-loop Inv-loop μ-l
 turn c = c .before .before .before .before .before .before
 
 one : (c : tie.After-match-row Inv-loop μ-loop) → tick (turn c .before .loop .used) ≡ done tt (c .before .before .before .d .given .0 .0)
-one c = ticks (turn c .before .loop .used) (c .before .before .before .before .before .tick .ensures) (c .before .before .before .d .given .1)
+one c = ticked-done (turn c .before .loop .used) (c .before .before .before .before .before .tick .ensures) (c .before .before .before .d .given .1)
 
 -- ---- before the loop
 
@@ -53,7 +53,7 @@ loop-holds c = seeking-start (c .before .before .before .before .pre .2) (c .wid
 returns : tie.Need-returns Inv-loop μ-loop
 returns c =
     let t = c .before .before .before .before in
-    seeking-limit (t .before .loop .inv) (t .loop-test .taken) (ticks-no-more (t .before .loop .used) (c .before .before .before .tick .ensures) (c .before .n .given .1))
+    seeking-limit (t .before .loop .inv) (t .loop-test .taken) (ticked-refused (t .before .loop .used) (c .before .before .before .tick .ensures) (c .before .n .given .1))
 
 add-row : tie.Need-add-row Inv-loop μ-loop
 add-row c = let r = row (c .before .before .before .before) in let good = entry (c .before .before .before .before .before) .good in omega arith

@@ -22,7 +22,7 @@ row-of-requires c κs = let pre = c .before .before .before .before .before .pre
 abbrev entry : tie.After-row-of → tie.Start
 entry r = r .before .before .before .before .before .before
 
-wide : (r : tie.After-row-of) → Width (held.rowOf (r .row-of .result))
+wide : (r : tie.After-row-of) → Width (held.rowIs (r .row-of .result))
 wide r = let four : length (r .row-of .result .atoms) ≡ 4 = search needs in row-is-wide four (r .row-of .ensures)
 
 insert-requires : tie.Need-insert-requires

@@ -5,7 +5,7 @@ use native.Mathlib.Omega.{arith}
 use lib.ListN.{length}
 use Rattle.rows.specs.Row.{rowBefore}
 use Rattle.rows.specs.Layout.{rowsIn}
-use Rattle.row_words.specs.Values.{rowOf}
+use Rattle.row_words.specs.Values.{rowIs}
 use Rattle.rows.proofs.Order.{row-order}
 use Rattle.rows.proofs.Place.{between-up}
 use Rattle.sets.proofs.SetWords.{Size, size, width-in, row-before, row-same, row-after, sound-ascending}
@@ -15,7 +15,7 @@ use Rattle.set_algebra.proofs.seek.Statement.{statement}
 use Rattle.set_algebra.proofs.seek.Tie as tie
 
 abbrev Inv-loop : tie.InvT-loop
-Inv-loop set row start count j₀ j = Walked (rowsIn set) (rowOf row) j
+Inv-loop set row start count j₀ j = Walked (rowsIn set) (rowIs row) j
 
 abbrev μ-loop : tie.MeasureT-loop
 μ-loop set row start count j₀ j = count - j
@@ -40,7 +40,7 @@ loop-holds : tie.Need-loop-holds Inv-loop μ-loop
 loop-holds c =
     let start = c .before .before .before in
     let a = start .args in
-    walk-start (rowsIn (a .set .now)) (rowOf (a .row)) (a .start) (start .pre .2)
+    walk-start (rowsIn (a .set .now)) (rowIs (a .row)) (a .start) (start .pre .2)
 
 -- ---- a row
 
@@ -62,7 +62,7 @@ returns c =
     let l = compared .before .before in
     let start = entry l in
     let a = start .args in
-    seek-before (rowsIn (a .set .now)) (rowOf (a .row)) (sound-ascending (a .set .now) (start .pre .0)) (l .loop .j) (l .loop .inv) (less (compared .before))
+    seek-before (rowsIn (a .set .now)) (rowIs (a .row)) (sound-ascending (a .set .now) (start .pre .0)) (l .loop .j) (l .loop .inv) (less (compared .before))
     (row-before (a .set .now) _ (omega arith) (a .row) _ (compared .compare .ensures) (c .enum-told .given .1))
 
 returns-2 : tie.Need-returns-2 Inv-loop μ-loop
@@ -70,7 +70,7 @@ returns-2 c =
     let compared = c .before .before in
     let l = compared .before .before in
     let a = entry l .args in
-    seek-same (rowsIn (a .set .now)) (rowOf (a .row)) (l .loop .j) (l .loop .inv) (less (compared .before))
+    seek-same (rowsIn (a .set .now)) (rowIs (a .row)) (l .loop .j) (l .loop .inv) (less (compared .before))
     (row-same (a .set .now) _ (omega arith) (a .row) _ (compared .compare .ensures) (c .enum-told2 .given .1))
 
 add-j : tie.Need-add-j Inv-loop μ-loop
@@ -83,7 +83,7 @@ loop-again c =
     let start = entry l in
     let a = start .args in
     let n = less (compared .before) in
-    between-up rowBefore row-order [] (rowsIn (a .set .now)) (sound-ascending (a .set .now) (start .pre .0)) (rowOf (a .row)) _ _ _ (l .loop .inv) (omega arith) (omega arith)
+    between-up rowBefore row-order [] (rowsIn (a .set .now)) (sound-ascending (a .set .now) (start .pre .0)) (rowIs (a .row)) _ _ _ (l .loop .inv) (omega arith) (omega arith)
     (row-after (a .set .now) _ (omega arith) (a .row) _ (compared .compare .ensures) (c .enum-told3 .given .1))
 
 -- ---- after the loop
@@ -93,7 +93,7 @@ returns-3 c =
     let l = c .before in
     let a = entry l .args in
     let s = sized (entry l) in
-    seek-end (rowsIn (a .set .now)) (rowOf (a .row)) (l .loop .j) (l .loop .inv) (omega arith)
+    seek-end (rowsIn (a .set .now)) (rowIs (a .row)) (l .loop .j) (l .loop .inv) (omega arith)
 
 pub seek-spec : {M : Type 1} → statement M
 seek-spec =

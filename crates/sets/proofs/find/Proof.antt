@@ -3,7 +3,7 @@ use mathlib.Core.Path.{subst}
 use mathlib.Core.List.{List}
 use native.Mathlib.Omega.{arith}
 use Rattle.rows.specs.Row.{Row}
-use Rattle.row_words.specs.Values.{rowOf}
+use Rattle.row_words.specs.Values.{rowIs}
 use Rattle.row_words.specs.Search.{Finds}
 use Rattle.sets.proofs.SetWords.{size, set-rows, set-listed}
 use borrow.Author.Needs.{needs}
@@ -21,7 +21,7 @@ find-requires c κs =
 returns : tie.Need-returns
 returns c =
     let a = c .before .before .before .before .args in
-    subst (λ (xs : List Row). Finds xs (rowOf (a .row)) (c .find .result)) (set-rows (a .set .now) _ (c .before .wide .ensures)) (c .find .ensures)
+    subst (λ (xs : List Row). Finds xs (rowIs (a .row)) (c .find .result)) (set-rows (a .set .now) _ (c .before .wide .ensures)) (c .find .ensures)
 
 pub find-spec : {M : Type 1} → statement M
 find-spec = tie.close (tie.spec shared-slice-read-wide (λ c κs. search needs) find-requires returns)

@@ -1,7 +1,7 @@
 -- The last row decides, or the search among all.
 use native.Mathlib.Omega.{arith}
 use Rattle.rows.specs.Layout.{rowsIn}
-use Rattle.row_words.specs.Values.{rowOf}
+use Rattle.row_words.specs.Values.{rowIs}
 use Rattle.row_words.proofs.SearchLaws.{finds-at}
 use Rattle.sets.proofs.SetWords.{Size, size, width-in, row-same, row-after, finds-none, finds-past}
 use borrow.Author.Needs.{needs}
@@ -15,7 +15,7 @@ shared-slice-read-wide c =
 returns : tie.Need-returns
 returns c =
     let a = c .before .before .before .before .args in
-    finds-none (a .set .now) _ (c .before .wide .ensures) (rowOf (a .row)) (omega arith)
+    finds-none (a .set .now) _ (c .before .wide .ensures) (rowIs (a .row)) (omega arith)
 
 -- some are listed
 some : (c : tie.Else1) → Size (c .before .before .before .before .args .set .now)
@@ -37,13 +37,13 @@ returns-3 : tie.Need-returns-3
 returns-3 c =
     let a = c .before .before .before .before .before .before .before .args in
     let s = some (c .before .before .before) in
-    finds-at (rowsIn (a .set .now)) (rowOf (a .row)) _ (omega arith) (row-same (a .set .now) _ (omega arith) (a .row) _ (c .before .before .compare .ensures) (c .enum-told2 .given .1))
+    finds-at (rowsIn (a .set .now)) (rowIs (a .row)) _ (omega arith) (row-same (a .set .now) _ (omega arith) (a .row) _ (c .before .before .compare .ensures) (c .enum-told2 .given .1))
 
 returns-4 : tie.Need-returns-4
 returns-4 c =
     let d = c .before .before .before .before .before .before .before in
     let s = some (c .before .before .before) in
-    finds-past (d .args .set .now) _ (c .before .before .before .before .wide .ensures) (d .pre .0) (rowOf (d .args .row)) (omega arith)
+    finds-past (d .args .set .now) _ (c .before .before .before .before .wide .ensures) (d .pre .0) (rowIs (d .args .row)) (omega arith)
     (row-after (d .args .set .now) _ (omega arith) (d .args .row) _ (c .before .before .compare .ensures) (c .enum-told3 .given .1))
 
 pub find-from-end-spec : {M : Type 1} → statement M

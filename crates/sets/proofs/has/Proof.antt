@@ -1,7 +1,7 @@
 -- The search, and the form.
 use native.Mathlib.Omega.{arith}
 use Rattle.rows.specs.Layout.{rowsIn}
-use Rattle.row_words.specs.Values.{rowOf}
+use Rattle.row_words.specs.Values.{rowIs}
 use Rattle.row_words.proofs.SearchLaws.{at-listed, missing-unlisted}
 use Rattle.sets.proofs.SetWords.{size, has-listed, has-unlisted}
 use borrow.Author.Needs.{needs}
@@ -15,12 +15,12 @@ shared-slice-read-finite c =
 returns : tie.Need-returns
 returns c =
     let a = c .before .before .before .before .before .args in
-    has-listed (a .set .now) (rowOf (a .row)) (at-listed (rowsIn (a .set .now)) (rowOf (a .row)) _ _ (c .enum-told .given .1) (c .before .before .find .ensures))
+    has-listed (a .set .now) (rowIs (a .row)) (at-listed (rowsIn (a .set .now)) (rowIs (a .row)) _ _ (c .enum-told .given .1) (c .before .before .find .ensures))
 
 returns-2 : tie.Need-returns-2
 returns-2 c =
     let a = c .before .before .before .before .before .args in
-    has-unlisted (a .set .now) (rowOf (a .row)) (missing-unlisted (rowsIn (a .set .now)) (rowOf (a .row)) _ _ (c .enum-told2 .given .1) (c .before .before .find .ensures))
+    has-unlisted (a .set .now) (rowIs (a .row)) (missing-unlisted (rowsIn (a .set .now)) (rowIs (a .row)) _ _ (c .enum-told2 .given .1) (c .before .before .find .ensures))
 
 pub has-spec : {M : Type 1} → statement M
 has-spec =

@@ -5,7 +5,7 @@ use mathlib.Core.List.{List}
 use native.Mathlib.Omega.{arith}
 use lib.ListN.{length, getD, take, drop, set, length-set}
 use Rattle.rows.specs.Layout.{rowWords, put, rowsIn}
-use Rattle.row_words.specs.Values.{rowOf}
+use Rattle.row_words.specs.Values.{rowIs}
 use Rattle.row_words.proofs.RowLaws.{held-length}
 use Rattle.sets.proofs.SetWords.{Size, size}
 use Rattle.sets.proofs.Laid.{row-put-in}
@@ -59,13 +59,13 @@ returns c =
     let ws : List ℕ = a .set .now in
     let s = sized w in
     let l = held-length (a .row) (four (start w)) (omega arith) in
-    let row : List ℕ = rowWords (rowOf (a .row)) in
+    let row : List ℕ = rowWords (rowIs (a .row)) in
     let gap : ℕ → List ℕ = λ m. put (2 + 5 * a .i + 5) (take (5 * (m - a .i)) (drop (2 + 5 * a .i) ws)) ws in
     let all : List ℕ = put (2 + 5 * a .i) row (gap (length (rowsIn ws))) in
     let n : w .wide .result ≡ length (rowsIn ws) = w .wide .ensures ∙ s .count in
     let p : stored .store .last .0 ≡ all = stored .store .ensures ∙ ap (put (2 + 5 * a .i) row) (moved .copy-up .ensures ∙ ap gap n) in
     ap (λ (m : List ℕ). set m 1 (getD ws 1 0 + 1)) p ∙ ap (λ (m : ℕ). set all 1 (m + 1)) (s .count)
-    ∙ row-put-in ws (start w .pre .0) (a .i) (rowOf (a .row)) (omega arith) (omega arith) (omega arith)
+    ∙ row-put-in ws (start w .pre .0) (a .i) (rowIs (a .row)) (omega arith) (omega arith) (omega arith)
 
 pub insert-at-spec : {M : Type 1} → statement M
 insert-at-spec =

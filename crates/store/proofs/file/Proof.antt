@@ -9,7 +9,7 @@ use borrow.Author.Tests.{not-true, not-false}
 use Rattle.rows.specs.Ordered.{lists}
 use Rattle.certificates.specs.Certificate.{soundRecord, recordBefore}
 use Rattle.certificates.specs.Store.{soundStore, records}
-use Rattle.store.specs.Reply.{replyIs}
+use Rattle.store.specs.Reply.{filingIs}
 use Rattle.certificates.proofs.Filings.{not-listed}
 use Rattle.certificates.proofs.Sound.{sound-record, sound-store}
 use Rattle.certificates.proofs.Stores.{place-few, held-is, put-is-insert}
@@ -54,13 +54,13 @@ new n = is-listed (n .before) ∙ n .if3 .left
 -- ---- the tests, and what each makes of the reply
 
 returns : tie.Need-returns
-unfolding replyIs
+unfolding filingIs
 returns c =
     let a = c .before .before .before .before .before .args in
     kept (a .store .now) (a .certificate .now) _ (reply-unsound (a .store .now) (a .certificate .now) (sym (c .before .sound-store .ensures) ∙ not-true _ (c .if1 .taken)))
 
 returns-2 : tie.Need-returns-2
-unfolding replyIs
+unfolding filingIs
 returns-2 c =
     let e = c .before .before in
     kept (held e) (given e) _ (reply-bad (held e) (given e) (sound e) (sym (c .before .sound-record .ensures) ∙ not-true _ (c .if2 .taken)))
@@ -72,7 +72,7 @@ is-held-requires c κs =
     omega arith
 
 returns-3 : tie.Need-returns-3
-unfolding replyIs
+unfolding filingIs
 returns-3 c =
     let r = checked (c .before) in
     let e = tested r in
@@ -85,7 +85,7 @@ slice-read-if4 c =
     omega arith
 
 returns-4 : tie.Need-returns-4
-unfolding replyIs
+unfolding filingIs
 returns-4 c =
     let n = c .before .before in
     let r = checked (n .before) in
@@ -104,7 +104,7 @@ insert-requires c κs =
     (sound-record (given e) (good r) .eight, ((omega arith, omega arith), omega arith))
 
 returns-5 : tie.Need-returns-5
-unfolding replyIs
+unfolding filingIs
 returns-5 c =
     let n = c .before .before .before .before .before .before in
     let h = n .before in

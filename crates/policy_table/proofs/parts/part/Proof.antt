@@ -4,17 +4,17 @@ use native.Mathlib.Omega.{arith}
 use lib.ListN.{length}
 use borrow.Author.Needs.{needs}
 use denote.Ref.{now}
-use Rattle.policy.specs.Part.{inPolicy, placeOf}
+use Rattle.policy.specs.Part.{inPolicy, partSpan}
 use Rattle.policy_table.proofs.PartAnswers.{place-inside, place-held, query-held, query-part, policy-part}
 use Rattle.policy_table.proofs.parts.part.Statement.{statement}
 use Rattle.policy_table.proofs.parts.part.Tie as tie
 
 -- ---- places
 
-abbrev entry : tie.After-place-of → tie.Start
+abbrev entry : tie.After-part-span → tie.Start
 entry p = p .before .before .before
 
-abbrev found : tie.After-start → tie.After-place-of
+abbrev found : tie.After-start → tie.After-part-span
 found s = s .before .before
 
 abbrev start : tie.After-start → ℕ
@@ -23,8 +23,8 @@ start s = s .start .given .0 .0
 abbrev size : tie.After-start → ℕ
 size s = s .start .given .0 .1 .0
 
-held : (s : tie.After-start) → inPolicy (start s) (size s) ≡ placeOf (now (entry (found s) .args .policy)) (entry (found s) .args .number)
-held s = place-held _ (found s .place-of .result) (start s) (size s) (found s .place-of .ensures) (s .start .given .1)
+held : (s : tie.After-start) → inPolicy (start s) (size s) ≡ partSpan (now (entry (found s) .args .policy)) (entry (found s) .args .number)
+held s = place-held _ (found s .part-span .result) (start s) (size s) (found s .part-span .ensures) (s .start .given .1)
 
 inside : (s : tie.After-start) → start s + size s ≤ length (now (entry (found s) .args .policy))
 inside s = place-inside (now (entry (found s) .args .policy)) (entry (found s) .args .number) (start s) (size s) (held s)
@@ -44,7 +44,7 @@ returns : tie.Need-returns
 returns c =
     let p = c .before .before in
     let a = entry p .args in
-    query-part (now (a .policy)) (now (a .query)) (a .number) (query-held _ (p .place-of .result) (p .place-of .ensures) (c .enum-told .given .1))
+    query-part (now (a .policy)) (now (a .query)) (a .number) (query-held _ (p .part-span .result) (p .part-span .ensures) (c .enum-told .given .1))
 
 returns-2 : tie.Need-returns-2
 returns-2 c =

@@ -26,7 +26,7 @@ use Rattle.read_expressions.proofs.+draw_rows+expr_has+read_absent+read
 use Rattle.read_expressions.proofs.read_two.Reads as read-two
 use Rattle.read_expressions.proofs.read_two.Kinds as read-two-kinds
 use Rattle.read_expressions.proofs.+draw_rows+expr_has+read_absent+read_draw+read_expr+read_guards+read_two.Lts-read_two as read-two-lts
-use Rattle.row_words.proofs.row.wide.Reads as wide-reads
+use Rattle.row_words.proofs.wide.Reads as wide-reads
 use Rattle.read_leaves.proofs.leaf_has.Reads as leaf-has-reads
 use Rattle.read_leaves.proofs.read_leaf.Reads as read-leaf-reads
 use Rattle.policy.proofs.is_node.Reads as is-node-reads

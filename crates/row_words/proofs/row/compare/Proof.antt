@@ -5,13 +5,13 @@ use native.Mathlib.Omega.{arith}
 use lib.ListN.{length}
 use borrow.Author.Needs.{needs}
 use Rattle.rows.specs.Layout.{rowIn, fiveAt}
-use Rattle.row_words.specs.Values.{rowOf}
+use Rattle.row_words.specs.Values.{rowIs}
 use Rattle.row_words.proofs.RowLaws.{Agree, compare-narrower, compare-wider, compare-start, compare-end, compare-less, compare-more, compare-next}
 use Rattle.row_words.proofs.row.compare.Statement.{statement}
 use Rattle.row_words.proofs.row.compare.Tie as tie
 
 abbrev Inv-loop : tie.InvT-loop
-Inv-loop words at row width end j₀ j = Agree (rowOf row) (rowIn (fiveAt words at)) j
+Inv-loop words at row width end j₀ j = Agree (rowIs row) (rowIn (fiveAt words at)) j
 
 abbrev μ-loop : tie.MeasureT-loop
 μ-loop words at row width end j₀ j = end - j

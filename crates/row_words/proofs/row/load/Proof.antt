@@ -2,13 +2,13 @@
 use mathlib.Core.Path.{sym}
 use native.Mathlib.Omega.{arith}
 use borrow.Author.Needs.{needs}
-use Rattle.row_words.specs.Values.{wordsOf}
+use Rattle.row_words.specs.Values.{fiveIs}
 use Rattle.row_words.proofs.RowLaws.{five-words}
 use Rattle.row_words.proofs.row.load.Statement.{statement}
 use Rattle.row_words.proofs.row.load.Tie as tie
 
 returns : tie.Need-returns
-unfolding wordsOf
+unfolding fiveIs
 returns c =
     let a = c .before .before .before .before .before .args in
     sym (five-words (a .words .now) (a .at) (omega arith))

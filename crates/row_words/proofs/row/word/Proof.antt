@@ -7,7 +7,7 @@ use Prim.Native.Nat.{ℕ}
 use mathlib.Core.Path.{_∙_, ap}
 use lib.ListN.{getD}
 use Rattle.rows.specs.Layout.{rowWords}
-use Rattle.row_words.specs.Values.{rowOf}
+use Rattle.row_words.specs.Values.{rowIs}
 use borrow.Author.Needs.{needs}
 use Rattle.row_words.proofs.row.word.Statement.{statement}
 use Rattle.row_words.proofs.row.word.Tie as tie
@@ -17,7 +17,7 @@ returns c =
     let a = c .before .args in
     let four : length (a .t1 .atoms) ≡ 4 = search needs in
     let z : 0 ≡ a .j = omega arith in
-    sym (held-width (a .t1) four (omega arith)) ∙ ap (λ (k : ℕ). getD (rowWords (rowOf (a .t1))) k 0) z
+    sym (held-width (a .t1) four (omega arith)) ∙ ap (λ (k : ℕ). getD (rowWords (rowIs (a .t1))) k 0) z
 
 returns-2 : tie.Need-returns-2
 returns-2 c =

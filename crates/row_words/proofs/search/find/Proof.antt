@@ -7,7 +7,7 @@ use lib.ListN.{length}
 use Rattle.rows.specs.Row.{rowBefore}
 use Rattle.rows.proofs.Order.{row-order}
 use Rattle.rows.proofs.Place.{Between, between-all}
-use Rattle.row_words.specs.Values.{rowOf}
+use Rattle.row_words.specs.Values.{rowIs}
 use Rattle.row_words.specs.Search.{rowsAt}
 use Rattle.row_words.proofs.SearchLaws.{rows-at-length, below-count, halve-before, halve-same, halve-after, finds-missing}
 use borrow.Author.Needs.{needs}
@@ -15,7 +15,7 @@ use Rattle.row_words.proofs.search.find.Statement.{statement}
 use Rattle.row_words.proofs.search.find.Tie as tie
 
 abbrev Inv-loop : tie.InvT-loop
-Inv-loop words start step count row low₀ high₀ low high = Between rowBefore row-order [] (rowsAt words start step count) (rowOf row) low high
+Inv-loop words start step count row low₀ high₀ low high = Between rowBefore row-order [] (rowsAt words start step count) (rowIs row) low high
 
 abbrev μ-loop : tie.MeasureT-loop
 μ-loop words start step count row low₀ high₀ low high = high - low
@@ -23,7 +23,7 @@ abbrev μ-loop : tie.MeasureT-loop
 loop-holds : tie.Need-loop-holds Inv-loop μ-loop
 loop-holds c =
     let a = c .before .args in
-    between-all rowBefore row-order [] _ (rowOf (a .row)) (a .count) (sym (rows-at-length (a .words .now) (a .start) (a .step) (a .count)))
+    between-all rowBefore row-order [] _ (rowIs (a .row)) (a .count) (sym (rows-at-length (a .words .now) (a .start) (a .step) (a .count)))
 
 -- the row in the middle
 abbrev middle : tie.In-loop Inv-loop μ-loop → ℕ

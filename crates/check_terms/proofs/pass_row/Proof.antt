@@ -6,8 +6,8 @@ use Rattle.check_terms.proofs.Answering.{word-found, keeps-got, keeps-l
 use Rattle.check_terms.proofs.TermAnswers.{term-found, term-refused}
 use Rattle.check_terms.proofs.RowAnswers.{Going, going-on, going-lost, going-done, row-starts, row-refused, shows-passed, shows-stopped}
 use borrow.Author.Needs.{needs}
-use Rattle.check_terms.proofs.read_row.Statement.{statement}
-use Rattle.check_terms.proofs.read_row.Tie as tie
+use Rattle.check_terms.proofs.pass_row.Statement.{statement}
+use Rattle.check_terms.proofs.pass_row.Tie as tie
 
 abbrev Inv-loop : tie.InvT-loop
 Inv-loop words at variables width next₀ left₀ next left = Going words at (term variables) (keeping nothing (row variables)) left next
@@ -33,8 +33,8 @@ returns-2 c = let a = c .before .before .before .before .before .args in shows-s
 returns-3 : tie.Need-returns-3 Inv-loop μ-loop
 returns-3 c = shows-passed (going-done (c .before .loop .inv) (c .loop-test .left))
 
-pub read-row-spec : {M : Type 1} → statement M
-read-row-spec =
+pub pass-row-spec : {M : Type 1} → statement M
+pass-row-spec =
     tie.close
     (tie.spec
     Inv-loop

@@ -6,10 +6,10 @@ use borrow.Author.Needs.{needs}
 use denote.Ref.{now}
 use Rattle.policy.specs.Table.{table, readTable}
 use Rattle.policy_table.specs.Entries.{entriesFrom}
-use Rattle.policy_table.specs.Places.{placeIs}
+use Rattle.policy_table.specs.Spans.{partSpanIs}
 use Rattle.policy_table.proofs.PartAnswers.{table-read, table-refused, Listed, listed-of, place-none, place-query, place-past, place-entry}
-use Rattle.policy_table.proofs.parts.place_of.Statement.{statement}
-use Rattle.policy_table.proofs.parts.place_of.Tie as tie
+use Rattle.policy_table.proofs.parts.part_span.Statement.{statement}
+use Rattle.policy_table.proofs.parts.part_span.Tie as tie
 
 -- ---- places
 
@@ -35,15 +35,15 @@ counted e = e .before .before .before
 -- ---- no entry
 
 returns : tie.Need-returns
-unfolding placeIs
+unfolding partSpanIs
 returns c = let k = c .before .before in place-query (policy k) (start k .args .number) (count k) (sound k) (c .if1 .taken)
 
 returns-2 : tie.Need-returns-2
-unfolding placeIs
+unfolding partSpanIs
 returns-2 c = let k = c .before .before .before in place-past (policy k) (start k .args .number) (count k) (sound k) (c .before .if1 .left) (c .if2 .taken)
 
 returns-3 : tie.Need-returns-3
-unfolding placeIs
+unfolding partSpanIs
 returns-3 c =
     let refused = c .before in
     let read = refused .before .before in
@@ -63,7 +63,7 @@ shared-slice-read-wide-2 c =
     omega (arith, listed (counted e) .fits, e .if2 .left, placed .wide .ensures)
 
 returns-4 : tie.Need-returns-4
-unfolding placeIs
+unfolding partSpanIs
 returns-4 c =
     let started = c .before .before in
     let placed = started .before .before in
@@ -72,8 +72,8 @@ returns-4 c =
     rw (started .wide2 .ensures, c .wide3 .ensures, placed .wide .ensures)
     (place-entry (policy k) (start k .args .number) (count k) (sound k) (e .before .if1 .left) (e .if2 .left))
 
-pub place-of-spec : {M : Type 1} → statement M
-place-of-spec =
+pub part-span-spec : {M : Type 1} → statement M
+part-span-spec =
     tie.close
     (tie.spec
     (λ c κs. search needs)

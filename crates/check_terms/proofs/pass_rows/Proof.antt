@@ -5,8 +5,8 @@ use Rattle.check_terms.specs.Answers.{keeping, nothing}
 use Rattle.check_terms.proofs.Answering.{word-found}
 use Rattle.check_terms.proofs.RowAnswers.{Going, going-on, going-lost, going-done, passed-found, passed-lost, rows-start, rows-refused, shows-passed, shows-stopped}
 use borrow.Author.Needs.{needs}
-use Rattle.check_terms.proofs.read_rows.Statement.{statement}
-use Rattle.check_terms.proofs.read_rows.Tie as tie
+use Rattle.check_terms.proofs.pass_rows.Statement.{statement}
+use Rattle.check_terms.proofs.pass_rows.Tie as tie
 
 abbrev Inv-loop : tie.InvT-loop
 Inv-loop words at variables count next₀ left₀ next left = Going words at (row variables) (keeping nothing (rows variables)) left next
@@ -21,10 +21,10 @@ loop-holds : tie.Need-loop-holds Inv-loop μ-loop
 loop-holds c = let a = c .before .before .before .before .before .args in rows-start (a .words .now) (a .at) (a .variables) (c .before .before .before .word-between .ensures) (c .before .count .given .1)
 
 returns : tie.Need-returns Inv-loop μ-loop
-returns c = shows-stopped (going-lost (c .before .before .before .before .before .loop .inv) (c .before .before .before .before .loop-test .taken) (passed-lost (c .before .before .before .read-row .ensures) (c .before .n2 .given .1)))
+returns c = shows-stopped (going-lost (c .before .before .before .before .before .loop .inv) (c .before .before .before .before .loop-test .taken) (passed-lost (c .before .before .before .pass-row .ensures) (c .before .n2 .given .1)))
 
 loop-again : tie.Need-loop-again Inv-loop μ-loop
-loop-again c = going-on (c .before .before .before .before .before .loop .inv) (c .before .before .before .before .loop-test .taken) (passed-found (c .before .before .before .read-row .ensures) (c .before .after .given .1))
+loop-again c = going-on (c .before .before .before .before .before .loop .inv) (c .before .before .before .before .loop-test .taken) (passed-found (c .before .before .before .pass-row .ensures) (c .before .after .given .1))
 
 returns-2 : tie.Need-returns-2 Inv-loop μ-loop
 returns-2 c = let a = c .before .before .before .before .before .args in shows-stopped (rows-refused (a .words .now) (a .at) (a .variables) (c .before .before .before .word-between .ensures) (c .before .n .given .1))
@@ -32,12 +32,13 @@ returns-2 c = let a = c .before .before .before .before .before .args in shows-s
 returns-3 : tie.Need-returns-3 Inv-loop μ-loop
 returns-3 c = shows-passed (going-done (c .before .loop .inv) (c .loop-test .left))
 
-pub read-rows-spec : {M : Type 1} → statement M
-read-rows-spec =
+pub pass-rows-spec : {M : Type 1} → statement M
+pass-rows-spec =
     tie.close
     (tie.spec
     Inv-loop
     μ-loop
+    (λ c. search needs)
     (λ c κs. search needs)
     (λ c. search needs)
     (λ c. search needs)
