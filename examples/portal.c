@@ -8,15 +8,15 @@
 #include "txindurbe.h"
 
 #define OBSERVATORY TXB_KEY(1)
-enum { RELEASED = 1, WITHDRAWN = 2, PLUS = 0, MINUS = 1 };
+enum { RELEASED = 1, WITHDRAWN = 2 };
 #define WORDS(area) (sizeof(area) / sizeof((area)[0]))
 
 /* One definition, name 10, +: draw x from what is released; x is absent from what is withdrawn; head x. */
 static const uint32_t policy[] = {
-    1, 1, 10, PLUS, 6, 23,
+    1, 1, 10, TXB_PLUS, 6, 23,
     7, 2,
-    1, 4, 0, OBSERVATORY, RELEASED, PLUS, 1, 2, 0,
-    4, 1, 1, 0, 4, 0, OBSERVATORY, WITHDRAWN, MINUS,
+    1, 4, 0, OBSERVATORY, RELEASED, TXB_PLUS, 1, 2, 0,
+    4, 1, 1, 0, 4, 0, OBSERVATORY, WITHDRAWN, TXB_MINUS,
     1, 1, 0};
 static const uint32_t everything_public[] = {3, 0};
 
@@ -32,14 +32,15 @@ static void arrives(uint32_t name, uint32_t polarity, uint32_t observation) {
 }
 
 static void search(void) {
-    uint64_t reply = txb_query(policy, WORDS(policy), everything_public, WORDS(everything_public), store, WORDS(store), answer, WORDS(answer), definitions,
-                               WORDS(definitions), scratch, WORDS(scratch));
-    if (txb_number(reply) != 0) {
-        printf("the search was refused with %u in part %u\n", (unsigned)txb_number(reply), (unsigned)txb_refused_part(reply));
+    uint32_t part, verdict, draws;
+    uint32_t number = txb_query(policy, WORDS(policy), everything_public, WORDS(everything_public), store, WORDS(store), answer, WORDS(answer), definitions,
+                                WORDS(definitions), scratch, WORDS(scratch), &part, &verdict, &draws);
+    if (number != 0) {
+        printf("the search was refused with %u in part %u\n", (unsigned)number, (unsigned)part);
         return;
     }
     static const char *const marks[] = {"exact", "lower", "upper"};
-    printf("%s, %u draws, %s:", marks[txb_verdict(reply)], (unsigned)txb_draws(reply), answer[0] == 0 ? "rows" : "all rows but");
+    printf("%s, %u draws, %s:", marks[verdict], (unsigned)draws, answer[0] == 0 ? "rows" : "all rows but");
     for (uint32_t row = 0; row < answer[1]; row++) {
         const uint32_t *words = &answer[2 + 5 * row];
         for (uint32_t atom = 1; atom <= words[0]; atom++)
@@ -50,11 +51,11 @@ static void search(void) {
 
 int main(void) {
     search();                       /* lower, 0 draws, rows: */
-    arrives(RELEASED, PLUS, 7);
+    arrives(RELEASED, TXB_PLUS, 7);
     search();                       /* lower, 1 draws, rows: */
-    arrives(WITHDRAWN, MINUS, 7);
+    arrives(WITHDRAWN, TXB_MINUS, 7);
     search();                       /* lower, 1 draws, rows: 7 */
-    arrives(RELEASED, PLUS, 8);
+    arrives(RELEASED, TXB_PLUS, 8);
     search();                       /* lower, 2 draws, rows: 7 */
     return 0;
 }

@@ -1,7 +1,2 @@
-pub mod Digits
-pub mod Decoding
-pub mod Reading
-pub mod Refusals
-pub mod Fields
-pub mod Packing
+pub mod Handing
 pub mod Placing

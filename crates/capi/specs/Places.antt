@@ -1,37 +1,48 @@
--- Where words stand, as one number, and the words that it points to.
-use Prim.Native.Nat.{ℕ, _+_, _-_, _/_, _%_, _^_}
+-- Where the words of a part, or of a name's certificates, stand: what is handed out, and the words that it points to.
+use Prim.Native.Nat.{ℕ}
 use mathlib.Core.Path.{_≡_}
 use mathlib.Core.Bool.{true, false}
 use mathlib.Core.List.{List}
-use lib.Dec.{leb}
+use lib.Dec.{eqb}
 use lib.ListN.{length, take, drop}
 use Rattle.certificates.specs.NamePart.{namePart, nameStart}
 use Rattle.policy.specs.Part.{PartSpan, inPolicy, wholeQuery, partSpan, partWords}
-use Rattle.packing.specs.Words.{spanWord}
 
--- the words that a span's number points to
-unfoldable pub spanWords : List ℕ → ℕ → List ℕ
-spanWords words w = take (w % 2 ^ 32) (drop (w / 2 ^ 32) words)
+-- what a part hands out: how many words, 1 if they are of the query, else 0, and the word where they start
+pub record HandedPart : Type 0 where
+  pub size : ℕ
+  pub ofQuery : ℕ
+  pub start : ℕ
 
--- one name's part of the store: the number, and the words that it points to, which are those that `certificates_of` hands back
-pub record CertificatesAt (store : List ℕ) (key name polarity word : ℕ) : Type 0 where
-  pub number : word ≡ spanWord (nameStart store key name polarity) (length (namePart store key name polarity))
-  pub words : spanWords store word ≡ namePart store key name polarity
+-- "out of the policy (0 to 15) or the query (16). The query comes back whole at any length."
+unfoldable pub handPart : List ℕ → PartSpan → HandedPart
+handPart query (inPolicy start size) = record { size = size; ofQuery = 0; start = start }
+handPart query wholeQuery = record { size = length query; ofQuery = 1; start = 0 }
 
--- bit 63 marks the query, whose length is then all that stands below that bit
-abbrev pub ofQuery : ℕ
-ofQuery = 2 ^ 63
+-- the words that it points to
+unfoldable pub wordsOfPart : List ℕ → List ℕ → HandedPart → List ℕ
+wordsOfPart policy query h = take (h .size) (drop (h .start) (elim (eqb (h .ofQuery) 1) [ true ↦ query | false ↦ policy ]))
 
--- a part's place: some words of the policy, or the query
-unfoldable pub placeWord : List ℕ → PartSpan → ℕ
-placeWord query (inPolicy start size) = spanWord start size
-placeWord query wholeQuery = length query + ofQuery
+-- a part: its place, and the words that it points to, which are those that `part` hands back
+pub record PartAt (policy query : List ℕ) (number : ℕ) (handed : HandedPart) : Type 0 where
+  pub place : handPart query (partSpan policy number) ≡ handed
+  pub words : wordsOfPart policy query handed ≡ partWords policy query number
 
--- the words that it points to: with the mark so many of the query's from its first on, else those of the policy
-unfoldable pub placeWords : List ℕ → List ℕ → ℕ → List ℕ
-placeWords policy query w = elim (leb ofQuery w) [ true ↦ take (w - ofQuery) query | false ↦ spanWords policy w ]
+-- what a name's certificates hand out: how many words, and the word of the store where they start
+pub record HandedCertificates : Type 0 where
+  pub size : ℕ
+  pub start : ℕ
 
--- a part: the number, and the words that it points to, which are those that `part` hands back
-pub record PartAt (policy query : List ℕ) (number word : ℕ) : Type 0 where
-  pub place : word ≡ placeWord query (partSpan policy number)
-  pub words : placeWords policy query word ≡ partWords policy query number
+-- "The certificates of one name form one unbroken part of the store"
+unfoldable pub handCertificates : List ℕ → ℕ → ℕ → ℕ → HandedCertificates
+unfolding namePart nameStart
+handCertificates store key name polarity = record { size = length (namePart store key name polarity); start = nameStart store key name polarity }
+
+-- the words that it points to
+unfoldable pub wordsOfCertificates : List ℕ → HandedCertificates → List ℕ
+wordsOfCertificates store h = take (h .size) (drop (h .start) store)
+
+-- one name's part of the store: its place, and the words that it points to, which are those that `certificates_of` hands back
+pub record CertificatesAt (store : List ℕ) (key name polarity : ℕ) (handed : HandedCertificates) : Type 0 where
+  pub place : handCertificates store key name polarity ≡ handed
+  pub words : wordsOfCertificates store handed ≡ namePart store key name polarity

@@ -1,35 +1,56 @@
--- The replies of filing, judging and asking, each as one number.
+-- What filing, judging and asking hand out: the number returned and each out-parameter, for every reply.
 use Prim.Native.Nat.{ℕ}
 use mathlib.Core.Path.{_≡_}
 use mathlib.Core.List.{List}
+use Rattle.refusals.specs.RefusalTable.{noPart}
 use Rattle.certificates.specs.Filing.{FilingReply, filed, held, refused}
 use Rattle.policy.specs.Polarity.{verdictWord}
 use Rattle.policy.specs.Judgement as Judgement
 use Rattle.demands.specs.Query.{Outcome, answered, Call, queryCall, answerArea}
 use Rattle.demands.specs.Query as Query
-use Rattle.packing.specs.Words.{replyWord}
 
--- 0 Filed, 1 Held, else the refusal's number (8, 9 or 10)
+-- "Filing answers Filed, Held or Refused with a number": 0, 1, and 8, 9 or 10
 unfoldable pub filingWord : FilingReply → ℕ
 filingWord filed = 0
 filingWord held = 1
 filingWord (refused n) = n
 
--- a judgement: the number is 0 where there is a verdict
-unfoldable pub judgementWord : Judgement.JudgementReply → ℕ
-judgementWord (Judgement.verdict v) = replyWord 0 0 (verdictWord v) 0
-judgementWord (Judgement.refused n part) = replyWord n part 0 0
+-- no refusal has this number
+abbrev pub noRefusal : ℕ
+noRefusal = 0
 
--- a query call: the number is 0 where it is answered, verdict and draws where it is refused
-unfoldable pub outcomeWord : Outcome → ℕ
-outcomeWord (answered v draws s) = replyWord 0 0 (verdictWord v) draws
-outcomeWord (Query.refused n part) = replyWord n part 0 0
+-- no verdict has this number, so that what is refused never reads as exact, lower or upper
+abbrev pub noVerdict : ℕ
+noVerdict = 3
+
+-- what a judgement hands out
+pub record HandedJudgement : Type 0 where
+  pub number : ℕ
+  pub part : ℕ
+  pub verdict : ℕ
+
+-- "Both gives verdict 0 exact, + alone 1 lower, − alone 2 upper"; "With the number comes the part"
+unfoldable pub handJudgement : Judgement.JudgementReply → HandedJudgement
+handJudgement (Judgement.verdict v) = record { number = noRefusal; part = noPart; verdict = verdictWord v }
+handJudgement (Judgement.refused n p) = record { number = n; part = p; verdict = noVerdict }
+
+-- what a query call hands out beside the set, which is in the answer area
+pub record HandedOutcome : Type 0 where
+  pub number : ℕ
+  pub part : ℕ
+  pub verdict : ℕ
+  pub draws : ℕ
+
+-- "The answer carries verdict, draws and the set"; "With the number comes the part [..]; draws are 0"
+unfoldable pub handOutcome : Outcome → HandedOutcome
+handOutcome (answered v k s) = record { number = noRefusal; part = noPart; verdict = verdictWord v; draws = k }
+handOutcome (Query.refused n p) = record { number = n; part = p; verdict = noVerdict; draws = 0 }
 
 -- what is lent to a query call besides the store
 abbrev pub lent : List ℕ → List ℕ → List ℕ → List ℕ → List ℕ → Call
 lent policy query answer definitions scratch = record { policy = policy; query = query; answer = answer; definitions = definitions; scratch = scratch }
 
--- the query call on this store came to this number and left these words in the answer area
-pub record Asked (store : List ℕ) (c : Call) (word : ℕ) (answer : List ℕ) : Type 0 where
-  pub reply : word ≡ outcomeWord (queryCall store c)
+-- the query call on this store handed this out and left these words in the answer area
+pub record Asked (store : List ℕ) (c : Call) (handed : HandedOutcome) (answer : List ℕ) : Type 0 where
+  pub reply : handOutcome (queryCall store c) ≡ handed
   pub area : answer ≡ answerArea (queryCall store c) (c .answer)

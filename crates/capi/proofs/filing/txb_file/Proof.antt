@@ -1,8 +1,8 @@
--- Each reply of `file` is packed as `filingWord` does; the store is left as `file` leaves it.
+-- What `file` replies is handed out as `filingWord` says; the store is left as `file` leaves it.
 use borrow.Author.Needs.{needs}
-use Rattle.capi.proofs.Packing.{filed-word, held-word, refused-word}
-use Rattle.capi.proofs.txb_file.Statement.{statement}
-use Rattle.capi.proofs.txb_file.Tie as tie
+use Rattle.capi.proofs.Handing.{filed-word, held-word, refused-word}
+use Rattle.capi.proofs.filing.txb_file.Statement.{statement}
+use Rattle.capi.proofs.filing.txb_file.Tie as tie
 
 file-requires : tie.Need-file-requires
 file-requires c κs = search needs

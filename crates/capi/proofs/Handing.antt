@@ -1,0 +1,66 @@
+-- What filing, judging and asking hand out is what their definitions say, one law for each way that a call returns.
+use Prim.Native.Nat.{ℕ}
+use mathlib.Core.Path.{_≡_, sym, _∙_, ap}
+use mathlib.Core.List.{List}
+use Rattle.refusals.specs.RefusalTable.{noPart}
+use Rattle.certificates.specs.Filing.{FilingReply}
+use Rattle.store.specs.Reply.{filingIs}
+use Rattle.store.specs.declared.Filing.{Filing}
+use Rattle.store.specs.declared.Filing.the-variants as filing
+use Rattle.policy.specs.Judgement as Judged
+use Rattle.policy.proofs.Basics.{impossible}
+use Rattle.judging.specs.Reply.{judgementFor}
+use Rattle.judging.specs.declared.Judgement.{Judgement}
+use Rattle.judging.specs.declared.Judgement.the-variants as judgement
+use Rattle.demands.specs.Query.{Outcome, answered, refused, Call, queryCall}
+use Rattle.engine.specs.Reply.{replyFor, Replied}
+use Rattle.engine.specs.declared.Reply.{Reply}
+use Rattle.engine.specs.declared.Reply.the-variants as reply
+use Rattle.capi.specs.Replies.{filingWord, noRefusal, noVerdict, handJudgement, handOutcome, Asked}
+
+-- filing
+module _ (f : FilingReply) (r : Filing) (is : filingIs r ≡ f) where
+  pub filed-word : r ≡ filing.Filed → 0 ≡ filingWord f
+  unfolding filingIs filingWord
+  filed-word e = ap filingWord (ap filingIs (sym e) ∙ is)
+
+  pub held-word : r ≡ filing.Held → 1 ≡ filingWord f
+  unfolding filingIs filingWord
+  held-word e = ap filingWord (ap filingIs (sym e) ∙ is)
+
+  pub refused-word : (n : ℕ) → r ≡ filing.Refused n → n ≡ filingWord f
+  unfolding filingIs filingWord
+  refused-word n e = ap filingWord (ap filingIs (sym e) ∙ is)
+
+-- judging
+pub hands-verdict : (j : Judged.JudgementReply) (r : Judgement) → r ≡ judgementFor j → (v : ℕ) → r ≡ judgement.Verdict v →
+    handJudgement j ≡ record { number = noRefusal; part = noPart; verdict = v }
+unfolding judgementFor handJudgement
+hands-verdict (Judged.verdict w) r is v e = cc
+hands-verdict (Judged.refused n p) r is v e = impossible cc
+
+pub hands-refused-judgement : (j : Judged.JudgementReply) (r : Judgement) → r ≡ judgementFor j → (n part : ℕ) → r ≡ judgement.Refused n part →
+    handJudgement j ≡ record { number = n; part = part; verdict = noVerdict }
+unfolding judgementFor handJudgement
+hands-refused-judgement (Judged.verdict w) r is n part e = impossible cc
+hands-refused-judgement (Judged.refused m p) r is n part e = cc
+
+-- asking
+answered-outcome : (o : Outcome) (r : Reply) → r ≡ replyFor o → (v k : ℕ) → r ≡ reply.Answered v k →
+    handOutcome o ≡ record { number = noRefusal; part = noPart; verdict = v; draws = k }
+unfolding replyFor handOutcome
+answered-outcome (answered w j s) r is v k e = cc
+answered-outcome (refused n p) r is v k e = impossible cc
+
+refused-outcome : (o : Outcome) (r : Reply) → r ≡ replyFor o → (n part : ℕ) → r ≡ reply.Refused n part →
+    handOutcome o ≡ record { number = n; part = part; verdict = noVerdict; draws = 0 }
+unfolding replyFor handOutcome
+refused-outcome (answered w j s) r is n part e = impossible cc
+refused-outcome (refused m p) r is n part e = cc
+
+module _ (store : List ℕ) (c : Call) (r : Reply) (answer : List ℕ) (said : Replied store c r answer) where
+  pub hands-answer : (v k : ℕ) → r ≡ reply.Answered v k → Asked store c (record { number = noRefusal; part = noPart; verdict = v; draws = k }) answer
+  hands-answer v k e = record { reply = answered-outcome (queryCall store c) r (said .reply) v k e; area = said .area }
+
+  pub hands-refused-query : (n part : ℕ) → r ≡ reply.Refused n part → Asked store c (record { number = n; part = part; verdict = noVerdict; draws = 0 }) answer
+  hands-refused-query n part e = record { reply = refused-outcome (queryCall store c) r (said .reply) n part e; area = said .area }

@@ -1,0 +1,47 @@
+// Queries answered.
+ghost use Rattle.capi.specs.Replies.{lent, Asked};
+use crate::NO_REFUSAL;
+use crate::NO_VERDICT;
+use engine::Reply;
+use engine::query as ask;
+use refusals::NO_PART;
+
+// Answers a query: the refusal's number, 0 for none.
+#[no_mangle]
+pub extern "C" fn txb_query<'a>(
+    policy: &'a [u32],
+    query: &'a [u32],
+    store: &[u32],
+    answer: &mut [u32],
+    definitions: &mut [u32],
+    scratch: &mut [u32],
+    part: &mut u32,
+    verdict: &mut u32,
+    draws: &mut u32,
+) -> u32
+    ensures { λ r. ⌜ Asked (now (store .entry))
+        (lent (now (policy .entry)) (now (query .entry)) (now (answer .entry)) (now (definitions .entry)) (now (scratch .entry)))
+        (record { number = r; part = now (part .exit); verdict = now (verdict .exit); draws = now (draws .exit) })
+        (now (answer .exit)) ⌝ }
+{
+    match ask(policy, query, store, answer, definitions, scratch) {
+        Reply::Answered {
+            verdict: word,
+            draws: made,
+        } => {
+            *part = NO_PART;
+            *verdict = word;
+            *draws = made;
+            NO_REFUSAL
+        }
+        Reply::Refused {
+            number,
+            part: about,
+        } => {
+            *part = about;
+            *verdict = NO_VERDICT;
+            *draws = 0;
+            number
+        }
+    }
+}

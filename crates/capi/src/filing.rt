@@ -1,0 +1,37 @@
+// Certificates filed, and those of one name found.
+ghost use mathlib.Core.Path.{_≡_};
+ghost use Rattle.certificates.specs.Filing.{fileReply, storeAfter};
+ghost use Rattle.capi.specs.Replies.{filingWord};
+ghost use Rattle.capi.specs.Places.{CertificatesAt};
+use store::Filing;
+use store::file;
+use store::span_of;
+
+// Files a certificate: 0 Filed, 1 Held, else the refusal's number.
+#[no_mangle]
+pub extern "C" fn txb_file(store: &mut [u32], certificate: &[u32]) -> u32
+    ensures { λ r. ⌜ r ≡ filingWord (fileReply (now (store .entry)) (now (certificate .entry))) ⌝ }
+    ensures { λ _. ⌜ now (store .exit) ≡ storeAfter (now (store .entry)) (now (certificate .entry)) ⌝ }
+{
+    match file(store, certificate) {
+        Filing::Filed => 0,
+        Filing::Held => 1,
+        Filing::Refused(number) => number,
+    }
+}
+
+// Where the certificates of one name stand in the store: how many words they take, and the word where they start.
+#[no_mangle]
+pub extern "C" fn txb_certificates_of(
+    store: &[u32],
+    key: u32,
+    name: u32,
+    polarity: u32,
+    start: &mut usize,
+) -> usize
+    ensures { λ r. ⌜ CertificatesAt (now (store .entry)) key name polarity (record { size = r; start = now (start .exit) }) ⌝ }
+{
+    let span = span_of(store, key, name, polarity);
+    *start = span.from;
+    span.to - span.from
+}
