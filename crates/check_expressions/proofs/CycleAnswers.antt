@@ -14,8 +14,8 @@ use Rattle.policy.specs.Leaf.{leafOf, lastCode, leafAs}
 use Rattle.policy.specs.Syntax.{Expr, leaf, union, difference, comprehension, Body, draw, same, different}
 use Rattle.policy.specs.Decode.{Read, got, refused, Reader, after, give, wordWhere, countDraw, term, width, row, Pattern, slots, isDraw, isAbsent, guardOf, guardAs, body, codeOf, isCode, exprAs, expr}
 use Rattle.policy.specs.Polarity.{Known, hasPolarity, guardsHave, openExpr, drawsClosed, guardsClosed}
-use Rattle.policy.specs.Held.{termIs}
-use Rattle.check_terms.specs.Answers.{Step, found, Onward, Answers, Follows, kept, keeping, nothing, between, pattern, scope, patternReadIs, Opening, drawOpens, absentOpens, sameOpens, differentOpens, openingFor, opening, guardIs, guardReadIs}
+use Rattle.policy.specs.Held.{termIs, Opening, drawOpens, absentOpens, sameOpens, differentOpens, guardIs}
+use Rattle.check_terms.specs.Answers.{Step, found, Onward, Answers, Follows, kept, keeping, nothing, between, pattern, scope, patternReadIs, openingFor, opening, guardReadIs}
 use Rattle.check_terms.specs.Answers as Steps
 use Rattle.check_polarity.specs.Facts.{factsFor, unionOf, differenceOf, drawOf, absentOf}
 use Rattle.check_polarity.specs.declared.Facts.{Facts}

@@ -11,8 +11,8 @@ use Rattle.refusals.specs.RefusalTable.{badWord, notInScope}
 use Rattle.rows.specs.Row.{isKey}
 use Rattle.policy.specs.Syntax.{Term, atom, var, Slot, old, new}
 use Rattle.policy.specs.Decode.{Read, got, refused, Reader, after, give, need, wordWhere, tagOf, termAs, anyAtom, term, issuer, guardOf}
-use Rattle.policy.specs.Held.{termIs, slotIs}
-use Rattle.check_terms.specs.Answers.{Follows, keeping, nothing, between, next, wordReadIs, termReadIs, passedIs, slotFor, slot, slotReadIs, Opening, sameOpens, differentOpens, openingFor, opening, guardIs, guardReadIs}
+use Rattle.policy.specs.Held.{termIs, slotIs, Opening, sameOpens, differentOpens, guardIs}
+use Rattle.check_terms.specs.Answers.{Follows, keeping, nothing, between, next, wordReadIs, termReadIs, passedIs, slotFor, slot, slotReadIs, openingFor, opening, guardReadIs}
 use Rattle.policy.specs.declared.Term as TermHeld
 use Rattle.policy.specs.declared.Term.the-variants.{Atom, Variable}
 use Rattle.check_terms.specs.declared.TermRead as TermRead

@@ -10,9 +10,7 @@ use Rattle.refusals.specs.RefusalTable.{badWord, notInScope}
 use Rattle.policy.specs.Syntax.{Term, Slot, old, new}
 use Rattle.policy.specs.Decode.{Read, got, Reader, _>>=_, give, refuse, word, wordWhere, Tag, isAtom, isVar, isNew, noTag, tagOf, termAs, anyAtom, term, width, Pattern, slots, Guard, isDraw, isSame, isDifferent, isAbsent, noGuard, guardOf}
 use Rattle.policy.specs.Decode as Decode
-use Rattle.policy.specs.Held.{termIs, slotIs}
-use Rattle.policy.specs.declared.Guard as GuardHeld
-use Rattle.policy.specs.declared.Guard.the-variants.{Draw, Same, Different, Absent}
+use Rattle.policy.specs.Held.{termIs, slotIs, Opening, drawOpens, absentOpens, sameOpens, differentOpens, guardIs}
 use Rattle.check_terms.specs.declared.WordRead as WordRead
 use Rattle.check_terms.specs.declared.WordRead.the-variants as wordRead
 use Rattle.check_terms.specs.declared.TermRead as TermRead
@@ -125,11 +123,7 @@ unfoldable pub patternReadIs : PatternRead.PatternRead → ℕ → Step ℕ
 patternReadIs (patternRead.Found n next) k = found n next k
 patternReadIs (patternRead.Refused n) k = refused n
 
--- a guard as far as its expression: a comparison whole, of the others the code
-pub data Opening : Type 0 where
-  drawOpens absentOpens : Opening
-  sameOpens differentOpens : Term → Term → Opening
-
+-- a guard as far as its expression
 unfoldable pub openingFor : ℕ → Guard → Reader Opening
 unfolding term
 openingFor n isDraw = give drawOpens
@@ -149,13 +143,6 @@ unfolding openingFor guardOf
 opening n = do
   t ← word
   openingFor n (guardOf t)
-
-unfoldable pub guardIs : GuardHeld.Guard → Opening
-unfolding termIs
-guardIs Draw = drawOpens
-guardIs (Same x y) = sameOpens (termIs x) (termIs y)
-guardIs (Different x y) = differentOpens (termIs x) (termIs y)
-guardIs Absent = absentOpens
 
 unfoldable pub guardReadIs : GuardRead.GuardRead → ℕ → Step Opening
 unfolding guardIs

@@ -14,6 +14,7 @@ use Rattle.rows.specs.Layout.{rowsIn, setIn}
 use Rattle.rows.proofs.Case.{never}
 use Rattle.policy.specs.Syntax.{Term, Expr, Body, absent}
 use Rattle.policy.specs.Words.{guardCount}
+use Rattle.policy.specs.Held.{termIs}
 use Rattle.meaning.specs.Values.{Values, value, rowOf}
 use Rattle.meaning.specs.Reading.{Result, done, refused, Reading, after, read}
 use Rattle.meaning.proofs.Steps.{either}
@@ -26,7 +27,7 @@ use Rattle.read_steps.specs.Steps.{rowsReadIs, SayHead}
 use Rattle.read_expressions.specs.Room.{roomOf, bodyRoom}
 use Rattle.read_expressions.specs.Readers.{reading, gathering, Means, MeansBody, AskHas, AskBody, AskDraw, AskAbsent, SayExpr, SayExprHas, SayBody, SayDraw, SayAbsent}
 use Rattle.read_values.proofs.Places.{on-head, on-draw, on-same, on-different, on-absent, in-head, in-draw, in-same, in-different, in-absent, expr-some, inside, row-length}
-use Rattle.read_values.proofs.Held.{held-value, same-passes, different-passes}
+use Rattle.read_values.proofs.Held.{same-passes, different-passes}
 use Rattle.read_values.proofs.Past.{operand-here, over-is, over-here}
 use Rattle.read_values.proofs.Lent.{unchanged-self, unchanged-then, bound-after}
 use Rattle.sets.proofs.Front.{SameFront, rows-same}
@@ -73,25 +74,25 @@ module _ (f : From) {ws : List ℕ} {at left count : ℕ} (vs : Values) (z : lef
   unfolding read roomOf
   compared-same {x} {y} i s =
       on-same (λ c. StandsBody (f .known) count ws at left c → Compared f ws at left count vs (Same x y) c) s z x y i
-      (λ u v c d h t. record {
+      (λ c t. record {
         rest = c;
         here = in-same t;
         room = refl;
         gathers = λ found k.
-            ap (λ (o : Bool). either o (gathering f c vs found) (λ j. done found j) k) (same-passes vs (sym (held-value vs u d)) (sym (held-value vs v h)) refl);
+            ap (λ (o : Bool). either o (gathering f c vs found) (λ j. done found j) k) (same-passes vs refl refl refl);
       }) s
 
   compared-different : {x y : Held-term.Term} → IsGuard ws at (Different x y) → {b : Body} → StandsBody (f .known) count ws at left b → Compared f ws at left count vs (Different x y) b
   unfolding read roomOf
   compared-different {x} {y} i s =
       on-different (λ c. StandsBody (f .known) count ws at left c → Compared f ws at left count vs (Different x y) c) s z x y i
-      (λ u v c d h t. record {
+      (λ c t. record {
         rest = c;
         here = in-different t;
         room = refl;
         gathers = λ found k.
-            turned (eqb (value vs u) (value vs v)) (gathering f c vs found) (λ j. done found j) k
-            ∙ ap (λ (o : Bool). either o (gathering f c vs found) (λ j. done found j) k) (different-passes vs (sym (held-value vs u d)) (sym (held-value vs v h)) refl);
+            turned (eqb (value vs (termIs x)) (value vs (termIs y))) (gathering f c vs found) (λ j. done found j) k
+            ∙ ap (λ (o : Bool). either o (gathering f c vs found) (λ j. done found j) k) (different-passes vs refl refl refl);
       }) s
 
   compared : {g : Held-guard.Guard} → Compares g → IsGuard ws at g → {b : Body} → StandsBody (f .known) count ws at left b → Compared f ws at left count vs g b

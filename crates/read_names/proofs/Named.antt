@@ -47,7 +47,6 @@ use Rattle.read_values.specs.Rows.{SayRow}
 use Rattle.read_values.specs.Answers.{Empty, setReadIs, testedIs, IfDone}
 use Rattle.read_names.specs.Names.{Records, recordRows, SayName, SayListed, SayBelongs, SayNameHas}
 use Rattle.read_values.proofs.Places.{at-word, at-next, at-skip, at-front, at-long, term-length}
-use Rattle.read_values.proofs.Held.{held-value}
 use Rattle.read_values.proofs.Answers.{stands-filled, small-few, small-many}
 use Rattle.read_values.specs.declared.Read.the-variants.{Done, Refused}
 use Rattle.read_values.specs.declared.Tested as Tested
@@ -311,7 +310,7 @@ module _ {ws : List ℕ} {at : ℕ} (some : SomeName ws at) where
 
 module _ {ws : List ℕ} {at : ℕ} (vs : Values) {x : Held-term.Term} {key : ℕ} (issuer : IsTerm ws at x) (is : key ≡ value vs (termIs x)) where
   key-is : {t : Term} {m : ℕ} {p : Polarity} → NameHere ws at t m p → value vs t ≡ key
-  key-is {t} h = sym (held-value vs t (issuer .is t (h .issuer))) ∙ sym is
+  key-is {t} h = sym (ap (value vs) (issuer .is t (h .issuer))) ∙ sym is
 
   -- a number issues nothing
   pub say-number : {store : List ℕ} {k : ℕ} {area : List ℕ} → Empty (getD ws (at + 3) 0) area → key < 2147483648 → SayName store ws at vs k (Done k) area

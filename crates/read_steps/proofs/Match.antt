@@ -15,16 +15,15 @@ use Rattle.rows.specs.Layout.{rowIn, fiveAt}
 use Rattle.row_words.proofs.RowLaws.{row-at-length, row-at-atom}
 use Rattle.policy.specs.Syntax.{Term, Slot, old, new}
 use Rattle.policy.specs.Words.{termWords, slotWords, fresh}
-use Rattle.policy.specs.Held.{termIs}
+use Rattle.policy.specs.Held.{termIs, slotIs}
 use Rattle.policy.specs.declared.Term as Held-term
 use Rattle.policy.specs.declared.Slot.the-variants.{Old, New}
 use Rattle.meaning.specs.Values.{Values, value}
 use Rattle.meaning.specs.Reading.{match}
-use Rattle.read_values.specs.Values.{Bound, Unchanged, termHeld, slotHeld}
+use Rattle.read_values.specs.Values.{Bound, Unchanged}
 use Rattle.read_values.specs.Places.{At, StandsPattern, SomePattern, IsSlot}
 use Rattle.read_steps.specs.Steps.{matchedIs, SayMatch}
 use Rattle.read_values.proofs.Places.{at-word, at-next, at-skip, at-long, term-length, slots-length, slots-scope, pattern-wide}
-use Rattle.read_values.proofs.Held.{held-value}
 use Rattle.read_values.proofs.Lent.{unchanged-self, unchanged-then, unchanged-less, unchanged-bind, take-bind, bound-bind}
 
 -- a pattern and a row of another width
@@ -65,12 +64,12 @@ record OldNext (ws : List ℕ) (at n left : ℕ) (x : Held-term.Term) (q : List 
   t : Term
   p : List Slot
   is : q ≡ old t ∷ p
-  held : x ≡ termHeld t
+  held : termIs x ≡ t
   rest : SlotsLeft ws (at + 2) n (left - 1) p
 
 module _ {ws : List ℕ} {at n left : ℕ} where
   new-next : {q : List Slot} → 0 < left → IsSlot ws at New → SlotsLeft ws at n left q → NewNext ws at n left q
-  unfolding slotWords slotHeld fresh
+  unfolding slotWords slotIs fresh
   new-next {q} z i s = go q s
     where
       go : (q : List Slot) → SlotsLeft ws at n left q → NewNext ws at n left q
@@ -82,14 +81,14 @@ module _ {ws : List ℕ} {at n left : ℕ} where
           record { p = p; is = refl; rest = record { words = at-skip (2 ∷ n ∷ []) (slotWords (n + 1) p) (s .words); many = omega arith; scope = omega arith }; fits = omega arith }
 
   old-next : {q : List Slot} {x : Held-term.Term} → 0 < left → IsSlot ws at (Old x) → SlotsLeft ws at n left q → OldNext ws at n left x q
-  unfolding slotWords slotHeld fresh
+  unfolding slotWords slotIs fresh
   old-next {q} {x} z i s = go q s
     where
       go : (q : List Slot) → SlotsLeft ws at n left q → OldNext ws at n left x q
       go [] s = absurd (omega (arith, s .many))
       go (old t ∷ p) s =
           let e = i .is n (old t) p (s .words) in
-          let h : x ≡ termHeld t = cc in
+          let h : termIs x ≡ t = cc in
           let l = term-length t in
           let f : at + length (termWords t) ≡ at + 2 = omega arith in
           let sm = s .many in
@@ -148,7 +147,7 @@ module _ {ws : List ℕ} {at n : ℕ} {vs : Values} {x : Row} {width scope : ℕ
       old-match q y r b e g =
           ap (λ (u : List Slot). match u us (drop j x)) (y .is) ∙ ap (λ (u : Row). match (old (y .t) ∷ y .p) us u) here
           ∙ ap (λ (c : Bool). elim c as (λ c. Option Values) [ true ↦ match (y .p) us (drop (j + 1) x) | false ↦ none ])
-          (ap (λ (u : ℕ). eqb u a) (sym (held-value us (y .t) (y .held))) ∙ e) ∙ g
+          (ap (λ (u : ℕ). eqb u a) (sym (ap (value us) (y .held))) ∙ e) ∙ g
 
       matching-old : value us (termIs t) ≡ a → Matching ws at n vs x width scope us (j + 1)
       unfolding fresh

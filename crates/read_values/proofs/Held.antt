@@ -10,9 +10,9 @@ use lib.ListN.{length, take, getD, length-take, List·getD-eq-default}
 use lib.Seq.{getD-take}
 use Rattle.policy.specs.Syntax.{Term, atom, var, Slot, old, new, Body, head, draw, same, different, absent}
 use Rattle.policy.specs.Words.{termWords, slotWords, guardCount, exprWords, bodyWords}
-use Rattle.policy.specs.Held.{termIs}
+use Rattle.policy.specs.Held.{termIs, slotIs, guardIs, opens}
 use Rattle.meaning.specs.Values.{Values, value}
-use Rattle.read_values.specs.Values.{termHeld, slotHeld, guardHeld, passing}
+use Rattle.read_values.specs.Values.{passing}
 use Rattle.read_values.specs.Places.{At, SomeGuard, IsTerm, IsSlot, IsGuard}
 use Rattle.read_values.proofs.Places.{at-word, at-next, at-front, at-long, body-some, two-terms}
 use Rattle.policy.specs.declared.Term as Held-term
@@ -40,15 +40,6 @@ module _ {x : Held-term.Term} {v : ℕ} where
     unfolding value termIs
     value-out h = rw (is, ← index) (sym (List·getD-eq-default (take count values) 0 {n = i} (omega (arith, length-take count values))))
 
-term-back : (t : Term) → termIs (termHeld t) ≡ t
-unfolding termIs termHeld
-term-back (atom a) = refl
-term-back (var i) = refl
-
--- the value of a term is that of the term held
-pub held-value : (vs : Values) {x : Held-term.Term} (t : Term) → x ≡ termHeld t → value vs (termIs x) ≡ value vs t
-held-value vs t h = ap (λ (y : Held-term.Term). value vs (termIs y)) h ∙ ap (value vs) (term-back t)
-
 -- whether a comparison passes, from the two atoms
 module _ (vs : Values) {x y : Held-term.Term} {a b : ℕ} (first : a ≡ value vs (termIs x)) (second : b ≡ value vs (termIs y)) {g : Held-guard.Guard} where
   pub same-passes : g ≡ Same x y → eqb a b ≡ passing vs g
@@ -72,20 +63,20 @@ none-passes vs Absent t = refl
 
 module _ {ws : List ℕ} {at : ℕ} where
   pub is-atom : getD ws at 0 ≡ 0 → IsTerm ws at (Atom (getD ws (at + 1) 0))
-  unfolding termWords termHeld
+  unfolding termWords termIs
   is-atom z = record { is = λ t h. go t h }
     where
-      go : (t : Term) → At ws at (termWords t) → Atom (getD ws (at + 1) 0) ≡ termHeld t
-      go (atom a) h = ap Atom (at-word (at-next h))
+      go : (t : Term) → At ws at (termWords t) → termIs (Atom (getD ws (at + 1) 0)) ≡ t
+      go (atom a) h = ap atom (at-word (at-next h))
       go (var i) h = absurd (omega (arith, at-word h))
 
   pub is-variable : (getD ws at 0 ≡ 0 → ⊥) → IsTerm ws at (Variable (getD ws (at + 1) 0))
-  unfolding termWords termHeld
+  unfolding termWords termIs
   is-variable z = record { is = λ t h. go t h }
     where
-      go : (t : Term) → At ws at (termWords t) → Variable (getD ws (at + 1) 0) ≡ termHeld t
+      go : (t : Term) → At ws at (termWords t) → termIs (Variable (getD ws (at + 1) 0)) ≡ t
       go (atom a) h = absurd (z (at-word h))
-      go (var i) h = ap Variable (at-word (at-next h))
+      go (var i) h = ap var (at-word (at-next h))
 
   -- a slot that is a term has its tag
   old-tag : (t : Term) (rest : List ℕ) → At ws at (termWords t ++ rest) → getD ws at 0 ≤ 1
@@ -94,19 +85,19 @@ module _ {ws : List ℕ} {at : ℕ} where
   old-tag (var i) rest h = omega (arith, at-word h)
 
   pub is-new : getD ws at 0 ≡ 2 → IsSlot ws at New
-  unfolding slotWords slotHeld
+  unfolding slotWords slotIs
   is-new z = record { is = λ n s p h. go n s p h }
     where
-      go : (n : ℕ) (s : Slot) (p : List Slot) → At ws at (slotWords n (s ∷ p)) → New ≡ slotHeld s
+      go : (n : ℕ) (s : Slot) (p : List Slot) → At ws at (slotWords n (s ∷ p)) → slotIs New ≡ s
       go n (old t) p h = absurd (omega (arith, old-tag t (slotWords n p) h))
       go n new p h = refl
 
   pub is-old : (getD ws at 0 ≡ 2 → ⊥) → (x : Held-term.Term) → IsTerm ws at x → IsSlot ws at (Old x)
-  unfolding slotWords slotHeld
+  unfolding slotWords slotIs
   is-old z x i = record { is = λ n s p h. go n s p h }
     where
-      go : (n : ℕ) (s : Slot) (p : List Slot) → At ws at (slotWords n (s ∷ p)) → Old x ≡ slotHeld s
-      go n (old t) p h = ap Old (i .is t (at-front (termWords t) (slotWords n p) h))
+      go : (n : ℕ) (s : Slot) (p : List Slot) → At ws at (slotWords n (s ∷ p)) → slotIs (Old x) ≡ s
+      go n (old t) p h = ap old (i .is t (at-front (termWords t) (slotWords n p) h))
       go n new p h = absurd (z (at-word h))
 
   pub slot-told : {s t : Held-slot.Slot} → IsSlot ws at s → s ≡ t → IsSlot ws at t
@@ -131,10 +122,10 @@ module _ {ws : List ℕ} {at : ℕ} where
       go n (absent r e b) z h = absurd (u (at-word h))
 
   pub is-draw : getD ws at 0 ≡ 1 → IsGuard ws at Draw
-  unfolding exprWords guardCount guardHeld
+  unfolding exprWords guardCount guardIs opens
   is-draw t = record { is = λ n b z h. go n b z h }
     where
-      go : (n : ℕ) (b : Body) → 1 ≤ guardCount b → At ws at (bodyWords b n) → Draw ≡ guardHeld b
+      go : (n : ℕ) (b : Body) → 1 ≤ guardCount b → At ws at (bodyWords b n) → guardIs Draw ≡ opens b
       go n (head r) z h = absurd (omega arith)
       go n (draw e p b) z h = refl
       go n (same x y b) z h = absurd (omega (arith, at-word h))
@@ -142,10 +133,10 @@ module _ {ws : List ℕ} {at : ℕ} where
       go n (absent r e b) z h = absurd (omega (arith, at-word h))
 
   pub is-absent : getD ws at 0 ≡ 4 → IsGuard ws at Absent
-  unfolding exprWords guardCount guardHeld
+  unfolding exprWords guardCount guardIs opens
   is-absent t = record { is = λ n b z h. go n b z h }
     where
-      go : (n : ℕ) (b : Body) → 1 ≤ guardCount b → At ws at (bodyWords b n) → Absent ≡ guardHeld b
+      go : (n : ℕ) (b : Body) → 1 ≤ guardCount b → At ws at (bodyWords b n) → guardIs Absent ≡ opens b
       go n (head r) z h = absurd (omega arith)
       go n (draw e p b) z h = absurd (omega (arith, at-word h))
       go n (same x y b) z h = absurd (omega (arith, at-word h))
@@ -154,31 +145,31 @@ module _ {ws : List ℕ} {at : ℕ} where
 
   module _ {x y : Held-term.Term} (first : IsTerm ws (at + 1) x) (second : IsTerm ws (at + 3) y) where
     pub is-same : getD ws at 0 ≡ 2 → IsGuard ws at (Same x y)
-    unfolding exprWords guardCount guardHeld
+    unfolding exprWords guardCount guardIs opens
     is-same t = record { is = λ n b z h. go n b z h }
       where
-        go : (n : ℕ) (b : Body) → 1 ≤ guardCount b → At ws at (bodyWords b n) → Same x y ≡ guardHeld b
+        go : (n : ℕ) (b : Body) → 1 ≤ guardCount b → At ws at (bodyWords b n) → guardIs (Same x y) ≡ opens b
         go n (head r) z h = absurd (omega arith)
         go n (draw e p b) z h = absurd (omega (arith, at-word h))
         go n (same u v b) z h =
             let q = two-terms 2 u v (bodyWords b n) h in
-            let f : x ≡ termHeld u = first .is u (q .first) in
-            let g : y ≡ termHeld v = second .is v (q .second) in
+            let f : termIs x ≡ u = first .is u (q .first) in
+            let g : termIs y ≡ v = second .is v (q .second) in
             cc
         go n (different u v b) z h = absurd (omega (arith, at-word h))
         go n (absent r e b) z h = absurd (omega (arith, at-word h))
 
     pub is-different : (getD ws at 0 ≡ 1 → ⊥) → (getD ws at 0 ≡ 2 → ⊥) → (getD ws at 0 ≡ 4 → ⊥) → IsGuard ws at (Different x y)
-    unfolding exprWords guardCount guardHeld
+    unfolding exprWords guardCount guardIs opens
     is-different t k m = record { is = λ n b z h. go n b z h }
       where
-        go : (n : ℕ) (b : Body) → 1 ≤ guardCount b → At ws at (bodyWords b n) → Different x y ≡ guardHeld b
+        go : (n : ℕ) (b : Body) → 1 ≤ guardCount b → At ws at (bodyWords b n) → guardIs (Different x y) ≡ opens b
         go n (head r) z h = absurd (omega arith)
         go n (draw e p b) z h = absurd (t (at-word h))
         go n (same u v b) z h = absurd (k (at-word h))
         go n (different u v b) z h =
             let q = two-terms 3 u v (bodyWords b n) h in
-            let f : x ≡ termHeld u = first .is u (q .first) in
-            let g : y ≡ termHeld v = second .is v (q .second) in
+            let f : termIs x ≡ u = first .is u (q .first) in
+            let g : termIs y ≡ v = second .is v (q .second) in
             cc
         go n (absent r e b) z h = absurd (m (at-word h))

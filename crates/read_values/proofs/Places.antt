@@ -16,7 +16,7 @@ use Rattle.policy.specs.Words.{termWords, each, termRowWords, slotWords, fresh,
 use Rattle.policy.specs.WellFormed.{FitSlots, Fit}
 use Rattle.policy.specs.Decode.{Code, isLeaf, isUnion, isDifference, isComprehension, codeOf, isNode}
 use Rattle.policy.proofs.LeafDecoding.{leaf-coded, no-node}
-use Rattle.read_values.specs.Values.{termHeld, guardHeld}
+use Rattle.policy.specs.Held.{termIs, Opening, drawOpens, absentOpens, sameOpens, differentOpens, guardIs, opens}
 use Rattle.read_values.specs.Places.{At, patternWords, StandsRow, StandsPattern, StandsLeaf, Stands, StandsBody, StandsTwo, StandsDraw, StandsAbsent, SomeRow, SomePattern, IsGuard}
 use Rattle.policy.specs.declared.Term as Held-term
 use Rattle.policy.specs.declared.Guard as Held-guard
@@ -235,20 +235,20 @@ module _ {m n : ℕ} {ws : List ℕ} {at left : ℕ} where
 
 -- ---- a body by its first guard
 
--- P of a body that begins with the guard held
-unfoldable Begun : (Body → Type 0) → Held-guard.Guard → Type 0
-Begun P Draw = (e : Expr) (p : List Slot) (b : Body) → P (draw e p b)
-Begun P (Same x y) = (u v : Term) (b : Body) → x ≡ termHeld u → y ≡ termHeld v → P (same u v b)
-Begun P (Different x y) = (u v : Term) (b : Body) → x ≡ termHeld u → y ≡ termHeld v → P (different u v b)
-Begun P Absent = (r : List Term) (e : Expr) (b : Body) → P (absent r e b)
+-- P of a body that opens so
+unfoldable Begun : (Body → Type 0) → Opening → Type 0
+Begun P drawOpens = (e : Expr) (p : List Slot) (b : Body) → P (draw e p b)
+Begun P (sameOpens u v) = (b : Body) → P (same u v b)
+Begun P (differentOpens u v) = (b : Body) → P (different u v b)
+Begun P absentOpens = (r : List Term) (e : Expr) (b : Body) → P (absent r e b)
 
-by-guard : (P : Body → Type 0) (b : Body) → 1 ≤ guardCount b → Begun P (guardHeld b) → P b
-unfolding Begun guardHeld guardCount
-by-guard P (head r) z g = absurd (omega arith)
-by-guard P (draw e p b) z g = g e p b
-by-guard P (same x y b) z g = g x y b refl refl
-by-guard P (different x y b) z g = g x y b refl refl
-by-guard P (absent r e b) z g = g r e b
+by-opening : (P : Body → Type 0) (b : Body) → 1 ≤ guardCount b → Begun P (opens b) → P b
+unfolding Begun opens guardCount
+by-opening P (head r) z g = absurd (omega arith)
+by-opening P (draw e p b) z g = g e p b
+by-opening P (same x y b) z g = g b
+by-opening P (different x y b) z g = g b
+by-opening P (absent r e b) z g = g r e b
 
 module _ {m n : ℕ} {ws : List ℕ} {at left : ℕ} {b : Body} (P : Body → Type 0) (s : StandsBody m n ws at left b) where
   pub on-head : left ≡ 0 → ((ts : List Term) → P (head ts)) → P b
@@ -266,23 +266,23 @@ module _ {m n : ℕ} {ws : List ℕ} {at left : ℕ} {b : Body} (P : Body → Ty
     some : 1 ≤ guardCount b
     some = let c = s .count in let h : (guardCount b ≡ 0 → ⊥) = λ e. z (sym c ∙ e) in omega arith
 
-    on-guard : (held : Held-guard.Guard) → IsGuard ws at held → Begun P held → P b
-    on-guard held i g = by-guard P b some (subst (Begun P) (i .is n b some (s .words)) g)
+    on-guard : (held : Held-guard.Guard) → IsGuard ws at held → Begun P (guardIs held) → P b
+    on-guard held i g = by-opening P b some (subst (Begun P) (i .is n b some (s .words)) g)
 
     pub on-draw : IsGuard ws at Draw → ((e : Expr) (p : List Slot) (c : Body) → P (draw e p c)) → P b
-    unfolding Begun
+    unfolding Begun guardIs
     on-draw i g = on-guard Draw i g
 
-    pub on-same : (x y : Held-term.Term) → IsGuard ws at (Same x y) → ((u v : Term) (c : Body) → x ≡ termHeld u → y ≡ termHeld v → P (same u v c)) → P b
-    unfolding Begun
+    pub on-same : (x y : Held-term.Term) → IsGuard ws at (Same x y) → ((c : Body) → P (same (termIs x) (termIs y) c)) → P b
+    unfolding Begun guardIs
     on-same x y i g = on-guard (Same x y) i g
 
-    pub on-different : (x y : Held-term.Term) → IsGuard ws at (Different x y) → ((u v : Term) (c : Body) → x ≡ termHeld u → y ≡ termHeld v → P (different u v c)) → P b
-    unfolding Begun
+    pub on-different : (x y : Held-term.Term) → IsGuard ws at (Different x y) → ((c : Body) → P (different (termIs x) (termIs y) c)) → P b
+    unfolding Begun guardIs
     on-different x y i g = on-guard (Different x y) i g
 
     pub on-absent : IsGuard ws at Absent → ((r : List Term) (e : Expr) (c : Body) → P (absent r e c)) → P b
-    unfolding Begun
+    unfolding Begun guardIs
     on-absent i g = on-guard Absent i g
 
 -- ---- inside the words

@@ -1,6 +1,6 @@
 -- A row of terms: the row that they come to, atom by atom.
 use Prim.Native.Nat.{ℕ, zero, suc, _+_, _*_, _≤_, _<_}
-use mathlib.Core.Path.{_≡_, refl, sym, subst, _∙_}
+use mathlib.Core.Path.{_≡_, refl, sym, ap, subst, _∙_}
 use mathlib.Core.List.{List, [], _∷_}
 use native.Mathlib.Omega.{arith}
 use lib.ListN.{length, take, getD, length-map, List·getD-map, List·getD-eq-default}
@@ -15,7 +15,6 @@ use Rattle.policy.specs.Held.{termIs}
 use Rattle.read_values.specs.Places.{At, StandsRow, SomeRow, IsTerm}
 use Rattle.read_values.specs.Rows.{SayAtom, SayRow}
 use Rattle.read_values.proofs.Places.{at-next, at-skip, at-front, term-length, row-wide, row-width}
-use Rattle.read_values.proofs.Held.{held-value}
 use Rattle.policy.specs.declared.Term as Held-term
 
 nth-term : {ws : List ℕ} (at : ℕ) (ts : List Term) (j : ℕ) → At ws at (each termWords ts) → j < length ts → At ws (at + 2 * j) (termWords (getD ts j (atom 0)))
@@ -45,7 +44,7 @@ module _ {ws : List ℕ} {at : ℕ} {vs : Values} {j : ℕ} where
     means = λ n ts s.
         let w = row-wide s .width in
         let t : Term = getD ts j (atom 0) in
-        nth-value vs ts j (omega arith) ∙ sym (held-value vs t (i .is t (term-here j s (omega arith))));
+        nth-value vs ts j (omega arith) ∙ sym (ap (value vs) (i .is t (term-here j s (omega arith))));
   }
 
   pub no-atom : getD ws at 0 ≤ j → SayAtom ws at vs j 0

@@ -8,7 +8,7 @@ use Rattle.policy.specs.Leaf.{Leaf, leafWords, FitLeaf}
 use Rattle.policy.specs.Syntax.{Term, Slot, Expr, Body}
 use Rattle.policy.specs.Words.{termWords, each, termRowWords, slotWords, fresh, guardCount, exprWords, bodyWords}
 use Rattle.policy.specs.WellFormed.{FitRow, FitRows, FitPattern, Fit, FitBody}
-use Rattle.read_values.specs.Values.{termHeld, slotHeld, guardHeld}
+use Rattle.policy.specs.Held.{termIs, slotIs, guardIs, opens}
 use Rattle.policy.specs.declared.Term as Held-term
 use Rattle.policy.specs.declared.Slot as Held-slot
 use Rattle.policy.specs.declared.Guard as Held-guard
@@ -142,10 +142,10 @@ pub record PastBody (ws : List ℕ) (at left r : ℕ) : Type 0 where
 -- ---- the term, slot or guard that stands there is the one held
 
 pub record IsTerm (ws : List ℕ) (at : ℕ) (held : Held-term.Term) : Type 0 where
-  pub is : (t : Term) → At ws at (termWords t) → held ≡ termHeld t
+  pub is : (t : Term) → At ws at (termWords t) → termIs held ≡ t
 
 pub record IsSlot (ws : List ℕ) (at : ℕ) (held : Held-slot.Slot) : Type 0 where
-  pub is : (n : ℕ) (s : Slot) (p : List Slot) → At ws at (slotWords n (s ∷ p)) → held ≡ slotHeld s
+  pub is : (n : ℕ) (s : Slot) (p : List Slot) → At ws at (slotWords n (s ∷ p)) → slotIs held ≡ s
 
 pub record IsGuard (ws : List ℕ) (at : ℕ) (held : Held-guard.Guard) : Type 0 where
-  pub is : (n : ℕ) (b : Body) → 1 ≤ guardCount b → At ws at (bodyWords b n) → held ≡ guardHeld b
+  pub is : (n : ℕ) (b : Body) → 1 ≤ guardCount b → At ws at (bodyWords b n) → guardIs held ≡ opens b
