@@ -3,11 +3,11 @@
 //! Behind a test of the store they make each draw, as document 01 asks of the engine. The free ones are the quickest way to the same rows: the store is
 //! trusted, and no draw is made that is not needed. Where both are the same program, it stands here once.
 
-use crate::tasks::{Asked, ARCHIVE, LEFT, OBSERVATORY, RELEASED, RIGHT, SMALL, TRUSTED, WITHDRAWN};
-use differential::evaluator::{MOST_CERTIFICATES, MOST_ROWS, STORE_WORDS};
+use crate::tasks::{Asked, Record, ARCHIVE, LEFT, OBSERVATORY, RELEASED, RIGHT, SMALL, TRUSTED, WITHDRAWN};
 use std::hint::black_box;
+use txindurbe::sizes::{CERTIFICATE_WORDS, MOST_CERTIFICATES, MOST_ROWS, ROW_WORDS, STORE_WORDS};
 
-type Words8 = [u32; 8];
+type RowWords = [u32; ROW_WORDS];
 
 /// Writes the answer's words and gives the draws; nothing where the query is refused.
 pub type Program = fn(&Asked, &mut [u32]) -> Option<u32>;
@@ -17,8 +17,8 @@ fn pair(first: u32, second: u32) -> u64 {
     u64::from(first) << 32 | u64::from(second)
 }
 
-/// Eight words as four numbers, likewise.
-fn packed(record: &Words8) -> [u64; 4] {
+/// A certificate as four numbers, likewise.
+fn packed(record: &Record) -> [u64; 4] {
     let [key, name, polarity, width, a, b, c, d] = *record;
     [pair(key, name), pair(polarity, width), pair(a, b), pair(c, d)]
 }
@@ -37,11 +37,11 @@ fn before(a: &[u64; 4], b: &[u64; 4]) -> bool {
     a[3] < b[3]
 }
 
-fn records(store: &[u32]) -> &[Words8] {
-    store[1..1 + 8 * store[0] as usize].as_chunks().0
+fn records(store: &[u32]) -> &[Record] {
+    store[1..1 + CERTIFICATE_WORDS * store[0] as usize].as_chunks().0
 }
 
-fn sound_record(record: &Words8) -> bool {
+fn sound_record(record: &Record) -> bool {
     let [key, name, polarity, width, _, b, c, d] = *record;
     let unused = match width {
         1 => b | c | d,
@@ -74,7 +74,7 @@ pub fn tested(program: Program) -> impl Fn(&Asked, &mut [u32]) -> Option<u32> {
     move |asked, answer| sound(&asked.store).then(|| program(asked, answer)).flatten()
 }
 
-fn rows_of_name(asked: &Asked, issuer: u32, name: u32, polarity: u32) -> Option<&[Words8]> {
+fn rows_of_name(asked: &Asked, issuer: u32, name: u32, polarity: u32) -> Option<&[Record]> {
     let wanted = [issuer, name, polarity];
     let records = records(&asked.store);
     let start = records.partition_point(|record| record[..3] < wanted[..]);
@@ -83,20 +83,20 @@ fn rows_of_name(asked: &Asked, issuer: u32, name: u32, polarity: u32) -> Option<
     (length <= MOST_ROWS).then(|| &near[..length])
 }
 
-/// Lays a table out as it grows.
-struct Answer<'a> {
+/// An answer's words, laid out row by row.
+struct AnswerArea<'a> {
     area: &'a mut [u32],
     count: usize,
 }
 
-impl<'a> Answer<'a> {
-    fn new(area: &'a mut [u32]) -> Answer<'a> {
-        Answer { area, count: 0 }
+impl<'a> AnswerArea<'a> {
+    fn new(area: &'a mut [u32]) -> AnswerArea<'a> {
+        AnswerArea { area, count: 0 }
     }
 
-    fn push(&mut self, row: [u32; 5]) {
-        let start = 2 + 5 * self.count;
-        self.area[start..start + 5].copy_from_slice(&row);
+    fn push(&mut self, row: RowWords) {
+        let start = 2 + ROW_WORDS * self.count;
+        self.area[start..start + ROW_WORDS].copy_from_slice(&row);
         self.count += 1;
     }
 
@@ -106,27 +106,27 @@ impl<'a> Answer<'a> {
     }
 }
 
-fn lay_out(rows: impl IntoIterator<Item = [u32; 5]>, answer: &mut [u32]) {
-    let mut answer = Answer::new(answer);
+fn lay_out(rows: impl IntoIterator<Item = RowWords>, answer: &mut [u32]) {
+    let mut answer = AnswerArea::new(answer);
     rows.into_iter().for_each(|row| answer.push(row));
     answer.close();
 }
 
-fn row(record: &Words8) -> [u32; 5] {
+fn row(record: &Record) -> RowWords {
     [record[3], record[4], record[5], record[6], record[7]]
 }
 
-fn row_of_atom(atom: u32) -> [u32; 5] {
+fn row_of_atom(atom: u32) -> RowWords {
     [1, atom, 0, 0, 0]
 }
 
 /// Those of the rows that have one atom, which come first.
-fn atoms(rows: &[Words8]) -> impl Iterator<Item = u32> + '_ {
+fn atoms(rows: &[Record]) -> impl Iterator<Item = u32> + '_ {
     rows.iter().take_while(|record| record[3] == 1).map(|record| record[4])
 }
 
 /// The atoms drawn that are among the others, or those that are not. All are in order, so that one pass is enough.
-fn compared<'a>(drawn: &'a [Words8], others: impl Iterator<Item = u32> + 'a, among: bool) -> impl Iterator<Item = u32> + 'a {
+fn compared<'a>(drawn: &'a [Record], others: impl Iterator<Item = u32> + 'a, among: bool) -> impl Iterator<Item = u32> + 'a {
     let mut others = others.peekable();
     atoms(drawn).filter(move |atom| {
         while others.next_if(|other| other < atom).is_some() {}
@@ -159,7 +159,7 @@ fn sorted<const WIDTH: usize>(mut rows: Vec<[u32; WIDTH]>, answer: &mut [u32]) {
     rows.sort_unstable();
     rows.dedup();
     let laid_out = |atoms: [u32; WIDTH]| {
-        let mut row = [0; 5];
+        let mut row = [0; ROW_WORDS];
         row[0] = WIDTH as u32;
         row[1..=WIDTH].copy_from_slice(&atoms);
         row
@@ -180,7 +180,7 @@ pub fn delegation(asked: &Asked, answer: &mut [u32]) -> Option<u32> {
     Some(draws)
 }
 
-fn left_and_right(asked: &Asked) -> Option<[&[Words8]; 2]> {
+fn left_and_right(asked: &Asked) -> Option<[&[Record]; 2]> {
     Some([rows_of_name(asked, OBSERVATORY, LEFT, 0)?, rows_of_name(asked, OBSERVATORY, RIGHT, 0)?])
 }
 
@@ -242,7 +242,7 @@ fn constant(asked: &Asked) -> u32 {
 /// that one is new if its place is past those found.
 fn draws(asked: &Asked, answer: &mut [u32], head: impl Fn(usize, u32) -> (usize, u32)) -> Option<u32> {
     let [first, second, third] = literals(&asked.query);
-    let mut answer = Answer::new(answer);
+    let mut answer = AnswerArea::new(answer);
     let mut draws = 0;
     for &x in &first {
         draws += 1;
@@ -288,17 +288,17 @@ pub fn draws_last_free(asked: &Asked, answer: &mut [u32]) -> Option<u32> {
 }
 
 /// Puts the record in its place; false if it was there.
-pub fn file_free(store: &mut [u32], record: &Words8) -> bool {
+pub fn file_free(store: &mut [u32], record: &Record) -> bool {
     let wanted = packed(record);
     let Err(place) = records(store).binary_search_by(|other| packed(other).cmp(&wanted)) else { return false };
-    let (start, end) = (1 + 8 * place, 1 + 8 * store[0] as usize);
-    store.copy_within(start..end, start + 8);
-    store[start..start + 8].copy_from_slice(record);
+    let (start, end) = (1 + CERTIFICATE_WORDS * place, 1 + CERTIFICATE_WORDS * store[0] as usize);
+    store.copy_within(start..end, start + CERTIFICATE_WORDS);
+    store[start..start + CERTIFICATE_WORDS].copy_from_slice(record);
     store[0] += 1;
     true
 }
 
-pub fn file(store: &mut [u32], record: &Words8) -> bool {
+pub fn file(store: &mut [u32], record: &Record) -> bool {
     sound(store) && sound_record(record) && (store[0] as usize) < MOST_CERTIFICATES && file_free(store, record)
 }
 

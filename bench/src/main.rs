@@ -1,8 +1,10 @@
 //! The library beside a straightforward evaluator, hand-tuned programs and SQLite, on eight tasks.
 //!
 //!     cargo run --release --offline [-- ROUNDS]
+//!     cargo run --release --offline -- --check
 //!
-//! Prints a table of medians, with ratios to the hand-tuned program and what each program leaves out, and draws it to docs/benchmark.svg.
+//! Prints a table of medians, with ratios to the hand-tuned program and what each program leaves out, and draws it to docs/benchmark.svg. With `--check`
+//! each program runs once and nothing is measured: the programs of a task must agree.
 
 mod hand;
 mod measure;
@@ -12,44 +14,71 @@ mod sqlite;
 mod tasks;
 
 use differential::engine::{Engine, Lent};
-use differential::evaluator::{Areas, Evaluator, Record, STORE_WORDS};
+use differential::evaluator::Evaluator;
 use hand::Program;
 use measure::{measure, Measured};
 #[cfg(sqlite)]
 use sqlite::{Database, Statement};
 use std::collections::BTreeSet;
+use std::process::ExitCode;
 use std::rc::Rc;
-use tasks::Asked;
+use tasks::{Asked, Record};
+use txindurbe::sizes::{ANSWER_WORDS, DEFINITIONS_WORDS, ROW_WORDS, SCRATCH_WORDS, STORE_WORDS};
 
 /// What a run found: how many rows, and the sum of their atoms.
 #[derive(Clone, Copy, PartialEq, Eq, Debug, Default)]
 pub struct Outcome {
     pub rows: u64,
     pub sum: u64,
+    /// Where the program counts them.
+    pub draws: Option<u32>,
 }
 
 impl Outcome {
     /// Of a finite answer.
-    fn of(answer: &[u32]) -> Outcome {
-        let rows = answer[2..].chunks_exact(5).take(answer[1] as usize);
-        Outcome { rows: answer[1].into(), sum: rows.flat_map(|row| &row[1..]).map(|&atom| u64::from(atom)).sum() }
+    fn of(answer: &[u32], draws: u32) -> Outcome {
+        let rows = answer[2..].chunks_exact(ROW_WORDS).take(answer[1] as usize);
+        let sum = rows.flat_map(|row| &row[1..]).map(|&atom| u64::from(atom)).sum();
+        Outcome { rows: answer[1].into(), sum, draws: Some(draws) }
     }
 }
 
-type Run = Box<dyn FnMut() -> Outcome>;
+/// Nothing where it is refused.
+type Run = Box<dyn FnMut() -> Option<Outcome>>;
 
 pub struct Contestant {
     pub name: &'static str,
     pub run: Run,
 }
 
-fn contestant(name: &'static str, run: impl FnMut() -> Outcome + 'static) -> Contestant {
+fn contestant(name: &'static str, run: impl FnMut() -> Option<Outcome> + 'static) -> Contestant {
     Contestant { name, run: Box::new(run) }
 }
 
 pub struct Task {
     pub name: &'static str,
+    /// What those that count them must find.
+    pub draws: u32,
     pub contestants: Vec<Contestant>,
+}
+
+impl Task {
+    /// Each runs once, and must find the rows that the first one finds, after the task's draws.
+    pub fn agree(&mut self) -> Result<(), String> {
+        let mut rows_found = None;
+        for Contestant { name, run } in &mut self.contestants {
+            let Some(Outcome { rows, sum, draws }) = run() else { return Err(format!("{}: {name} refuses", self.name)) };
+            if let Some(wrong) = draws.filter(|&draws| draws != self.draws) {
+                return Err(format!("{}: {name} makes {wrong} draws and not {}", self.name, self.draws));
+            }
+            let (expected_rows, expected_sum) = *rows_found.get_or_insert((rows, sum));
+            if (rows, sum) != (expected_rows, expected_sum) {
+                let found = format!("{rows} rows with the sum {sum}, others {expected_rows} with {expected_sum}");
+                return Err(format!("{}: {name} finds {found}", self.name));
+            }
+        }
+        Ok(())
+    }
 }
 
 pub const LIBRARY: &str = "library";
@@ -91,25 +120,20 @@ struct Lendable {
 
 impl Lendable {
     fn new() -> Lendable {
-        let Areas { answer, definitions, scratch } = Areas::LEAST;
-        Lendable { answer: vec![0; answer], definitions: vec![0; definitions], scratch: vec![0; scratch] }
+        Lendable { answer: vec![0; ANSWER_WORDS], definitions: vec![0; DEFINITIONS_WORDS], scratch: vec![0; SCRATCH_WORDS] }
     }
 
-    fn ask(&mut self, engine: &dyn Engine, asked: &Asked, draws: u32) -> Outcome {
+    fn ask(&mut self, engine: &dyn Engine, asked: &Asked) -> Option<Outcome> {
         let lent = Lent { answer: &mut self.answer, definitions: &mut self.definitions, scratch: &mut self.scratch };
         let reply = engine.query(&asked.policy, &asked.query, &asked.store, lent);
-        assert_eq!((reply & 0xFF, reply >> 32), (0, draws.into()), "the query is answered, after these draws");
-        Outcome::of(&self.answer)
+        (reply.number == 0).then(|| Outcome::of(&self.answer, reply.draws))
     }
 }
 
 /// A program by hand as a contestant's run.
-fn by_hand(asked: &Rc<Asked>, draws: u32, program: impl Fn(&Asked, &mut [u32]) -> Option<u32>) -> impl FnMut() -> Outcome {
-    let (asked, mut answer) = (Rc::clone(asked), vec![0; Areas::LEAST.answer]);
-    move || {
-        assert_eq!(program(&asked, &mut answer), Some(draws), "the draws of a sound store");
-        Outcome::of(&answer)
-    }
+fn by_hand(asked: &Rc<Asked>, program: impl Fn(&Asked, &mut [u32]) -> Option<u32>) -> impl FnMut() -> Option<Outcome> {
+    let (asked, mut answer) = (Rc::clone(asked), vec![0; ANSWER_WORDS]);
+    move || program(&asked, &mut answer).map(|draws| Outcome::of(&answer, draws))
 }
 
 /// A query task for the engines and two programs by hand, the first of which stands behind a test of the store.
@@ -118,20 +142,20 @@ fn query_task(name: &'static str, asked: Asked, draws: u32, hand: Program, free:
     let mut contestants = Vec::new();
     for (name, engine) in engines() {
         let (asked, mut areas) = (Rc::clone(&asked), Lendable::new());
-        contestants.push(contestant(name, move || areas.ask(engine.as_ref(), &asked, draws)));
+        contestants.push(contestant(name, move || areas.ask(engine.as_ref(), &asked)));
     }
-    contestants.push(contestant(HAND, by_hand(&asked, draws, hand::tested(hand))));
-    contestants.push(contestant(FREE, by_hand(&asked, draws, free)));
-    Task { name, contestants }
+    contestants.push(contestant(HAND, by_hand(&asked, hand::tested(hand))));
+    contestants.push(contestant(FREE, by_hand(&asked, free)));
+    Task { name, draws, contestants }
 }
 
 /// Files them all into an empty store.
-fn filing(records: &[Record], mut file: impl FnMut(&mut [u32], &Record) -> bool) -> impl FnMut() -> Outcome {
+fn filing(records: &[Record], mut file: impl FnMut(&mut [u32], &Record) -> bool) -> impl FnMut() -> Option<Outcome> {
     let (records, mut store) = (records.to_vec(), vec![0; STORE_WORDS]);
     move || {
         store[0] = 0;
         let filed = records.iter().filter(|record| file(&mut store, record)).count();
-        Outcome { rows: filed as u64, sum: 0 }
+        Some(Outcome { rows: filed as u64, ..Outcome::default() })
     }
 }
 
@@ -142,7 +166,7 @@ fn filing_task(records: &[Record]) -> Task {
     }
     contestants.push(contestant(HAND, filing(records, hand::file)));
     contestants.push(contestant(FREE, filing(records, hand::file_free)));
-    Task { name: "d: 2,000 certificates filed in random order", contestants }
+    Task { name: "d: 2,000 certificates filed in random order", draws: 0, contestants }
 }
 
 fn tasks() -> Vec<Task> {
@@ -197,13 +221,13 @@ fn sqlite_runs(certificates: BTreeSet<Record>, delegations: BTreeSet<Record>, fi
     let (held, delegations, empty) = (kept(Database::holding(certificates)), kept(Database::holding(delegations)), kept(Database::holding([])));
     let literals = kept(Database::of_literals());
     held.hold("embargoed", tasks::embargoed());
-    let answered = |mut statement: Statement<'static>, columns| -> Run { Box::new(move || statement.run(&[], columns)) };
+    let answered = |mut statement: Statement<'static>, columns| -> Run { Box::new(move || Some(statement.run(&[], columns))) };
     let (mut insert, mut transaction) = (empty.insert(), empty.transaction());
     [
         answered(held.public(), 1),
         answered(held.join(), 2),
         answered(literals.draws_constant(), 1),
-        Box::new(move || empty.file_all(&mut insert, &mut transaction, &filed)),
+        Box::new(move || Some(empty.file_all(&mut insert, &mut transaction, &filed))),
         answered(held.small(), 4),
         answered(literals.draws_last(), 1),
         answered(delegations.delegation(), 1),
@@ -279,22 +303,58 @@ fn sqlite_version() -> String {
     "no SQLite".into()
 }
 
-fn main() {
-    let rounds = std::env::args().nth(1).map_or(21, |count| count.parse().expect("the argument is a count of rounds"));
+/// Prints and draws what is measured.
+fn measure_all(rounds: usize) -> Result<(), String> {
     println!("{}; {}; medians of {rounds} samples of processor time; in brackets the ratio to the hand-tuned program", processor(), sqlite_version());
-    let measured: Vec<Measured> = tasks().into_iter().map(|task| measure(task, rounds)).collect();
+    let measured: Vec<Measured> = tasks().into_iter().map(|task| measure(task, rounds)).collect::<Result<_, _>>()?;
     print_table(&measured);
     let path = concat!(env!("CARGO_MANIFEST_DIR"), "/../docs/benchmark.svg");
     std::fs::write(path, picture::draw(&measured)).expect("the folder docs is there");
     println!("drawn to docs/benchmark.svg");
+    Ok(())
+}
+
+fn check_all() -> Result<(), String> {
+    for mut task in tasks() {
+        task.agree()?;
+        println!("{}: {} programs agree", task.name, task.contestants.len());
+    }
+    Ok(())
+}
+
+fn main() -> ExitCode {
+    let result = match std::env::args().nth(1).as_deref() {
+        Some("--check") => check_all(),
+        Some(rounds) => measure_all(rounds.parse().expect("the argument is --check or a count of rounds")),
+        None => measure_all(21),
+    };
+    match result {
+        Ok(()) => ExitCode::SUCCESS,
+        Err(report) => {
+            eprintln!("{report}");
+            ExitCode::FAILURE
+        }
+    }
 }
 
 #[cfg(test)]
 mod tests {
+    use super::*;
+
+    fn agree(outcomes: [Option<Outcome>; 2]) -> Result<(), String> {
+        let [first, second] = outcomes.map(|outcome| contestant("one of two", move || outcome));
+        Task { name: "a task", draws: 5, contestants: vec![first, second] }.agree()
+    }
+
     #[test]
-    fn all_contestants_find_the_same() {
-        for mut task in super::tasks() {
-            super::measure::agree(task.name, &mut task.contestants);
+    fn programs_that_do_not_agree_are_noticed() {
+        let found = Outcome { rows: 2, sum: 15, draws: Some(5) };
+        assert_eq!(agree([Some(found), Some(found)]), Ok(()));
+        assert_eq!(agree([Some(found), Some(Outcome { draws: None, ..found })]), Ok(()));
+        let wrong = [None, Some(Outcome { rows: 3, ..found }), Some(Outcome { sum: 16, ..found }), Some(Outcome { draws: Some(4), ..found })];
+        for other in wrong {
+            assert!(agree([Some(found), other]).is_err(), "{other:?}");
+            assert!(agree([other, Some(found)]).is_err(), "{other:?}");
         }
     }
 }

@@ -1,6 +1,6 @@
 //! Medians of repeated runs, the contestants taking turns so that all meet the same machine.
 
-use crate::{Contestant, Outcome, Task};
+use crate::{Outcome, Task};
 use std::hint::black_box;
 use std::time::Duration;
 
@@ -41,7 +41,7 @@ impl Measured {
     }
 }
 
-fn time(run: &mut dyn FnMut() -> Outcome, times: u32) -> f64 {
+fn time(run: &mut dyn FnMut() -> Option<Outcome>, times: u32) -> f64 {
     let start = now();
     for _ in 0..times {
         black_box(run());
@@ -54,16 +54,9 @@ fn median(mut samples: Vec<f64>) -> f64 {
     samples[samples.len() / 2]
 }
 
-/// All contestants must find the same rows before any is measured.
-pub fn agree(task: &str, contestants: &mut [Contestant]) {
-    let expected = (contestants[0].run)();
-    for contestant in &mut contestants[1..] {
-        assert_eq!((contestant.run)(), expected, "{task}: {} finds something else than the first", contestant.name);
-    }
-}
-
-pub fn measure(mut task: Task, rounds: usize) -> Measured {
-    agree(task.name, &mut task.contestants);
+/// All contestants must agree before any is measured.
+pub fn measure(mut task: Task, rounds: usize) -> Result<Measured, String> {
+    task.agree()?;
     let times: Vec<u32> = task
         .contestants
         .iter_mut()
@@ -79,5 +72,5 @@ pub fn measure(mut task: Task, rounds: usize) -> Measured {
         }
     }
     let figures = task.contestants.iter().zip(samples).map(|(contestant, samples)| Figure { contestant: contestant.name, seconds: median(samples) });
-    Measured { task: task.name, figures: figures.collect() }
+    Ok(Measured { task: task.name, figures: figures.collect() })
 }

@@ -1,8 +1,7 @@
 //! As much of SQLite's C interface as the tasks need, and the tasks as SQL: in memory, indexed by the primary key, prepared once.
 
-use crate::tasks::{ARCHIVE, LEFT, OBSERVATORY, RELEASED, RIGHT, SIZES, SMALL, TRUSTED, WITHDRAWN};
+use crate::tasks::{Record, ARCHIVE, LEFT, OBSERVATORY, RELEASED, RIGHT, SIZES, SMALL, TRUSTED, WITHDRAWN};
 use crate::Outcome;
-use differential::evaluator::Record;
 use std::ffi::{c_char, c_int, c_void, CStr, CString};
 use std::fmt::Display;
 use std::ptr::null_mut;
@@ -17,6 +16,7 @@ extern "C" {
     fn sqlite3_bind_int64(statement: Handle, place: c_int, value: i64) -> c_int;
     fn sqlite3_step(statement: Handle) -> c_int;
     fn sqlite3_column_int64(statement: Handle, column: c_int) -> i64;
+    fn sqlite3_changes(connection: Handle) -> c_int;
     fn sqlite3_reset(statement: Handle) -> c_int;
     fn sqlite3_finalize(statement: Handle) -> c_int;
     fn sqlite3_libversion() -> *const c_char;
@@ -80,7 +80,9 @@ impl Database {
              PRIMARY KEY (key, name, polarity, width, a, b, c, d)) WITHOUT ROWID",
         );
         let mut insert = database.insert();
-        certificates.into_iter().for_each(|record| insert.file(&record));
+        for record in certificates {
+            insert.file(&record);
+        }
         drop(insert);
         database.run("ANALYZE");
         database
@@ -112,9 +114,9 @@ impl Database {
     pub fn file_all(&self, insert: &mut Statement, [begin, empty, commit]: &mut [Statement; 3], records: &[Record]) -> Outcome {
         begin.run(&[], 0);
         empty.run(&[], 0);
-        records.iter().for_each(|record| insert.file(record));
+        let filed = records.iter().filter(|record| insert.file(record)).count();
         commit.run(&[], 0);
-        Outcome { rows: records.len() as u64, sum: 0 }
+        Outcome { rows: filed as u64, ..Outcome::default() }
     }
 
     pub fn transaction(&self) -> [Statement<'_>; 3] {
@@ -195,8 +197,11 @@ impl Statement<'_> {
         outcome
     }
 
-    fn file(&mut self, record: &Record) {
+    /// False if it was there.
+    fn file(&mut self, record: &Record) -> bool {
         self.run(record, 0);
+        // SAFETY: the connection is open.
+        unsafe { sqlite3_changes(self.database.0) == 1 }
     }
 }
 

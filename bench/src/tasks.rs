@@ -1,8 +1,10 @@
 //! What is measured: the words of each task, the same for all.
 
-use differential::evaluator::{key, Record, Row, MOST_CERTIFICATES, STORE_WORDS};
+use differential::evaluator::Row;
 use differential::random::Random;
 use std::collections::BTreeSet;
+use txindurbe::key;
+use txindurbe::sizes::{CERTIFICATE_WORDS, MOST_CERTIFICATES, STORE_WORDS};
 
 pub const ARCHIVE: u32 = key(0);
 pub const OBSERVATORY: u32 = key(1);
@@ -15,6 +17,9 @@ pub const RIGHT: u32 = 4;
 pub const SMALL: u32 = 5;
 /// The archive's list of the observatories that it trusts.
 pub const TRUSTED: u32 = 6;
+
+/// A certificate's words.
+pub type Record = [u32; CERTIFICATE_WORDS];
 
 /// What a query is asked of.
 pub struct Asked {

@@ -1,7 +1,9 @@
-//! The five calls of `include/txindurbe.h` over slices of words, replies packed as there. All of this crate's unsafe code is here.
+//! The five calls of `include/txindurbe.h` over slices of words. All of this crate's unsafe code is here.
 //!
 //! Every call takes any words at all and ends: what is malformed gets its refusal number. Most portals use [`Store`](crate::Store) and
 //! [`Engine`](crate::Engine) instead.
+
+use std::ops::Range;
 
 mod c {
     extern "C" {
@@ -19,24 +21,57 @@ mod c {
             definitions_words: usize,
             scratch: *mut u32,
             scratch_words: usize,
-        ) -> u64;
-        pub fn txb_judge(policy: *const u32, policy_words: usize, query: *const u32, query_words: usize) -> u32;
-        pub fn txb_part(policy: *const u32, policy_words: usize, query: *const u32, query_words: usize, number: u32) -> u64;
-        pub fn txb_certificates_of(store: *const u32, store_words: usize, key: u32, name: u32, polarity: u32) -> u64;
+            part: *mut u32,
+            verdict: *mut u32,
+            draws: *mut u32,
+        ) -> u32;
+        pub fn txb_judge(policy: *const u32, policy_words: usize, query: *const u32, query_words: usize, part: *mut u32, verdict: *mut u32) -> u32;
+        pub fn txb_part(
+            policy: *const u32,
+            policy_words: usize,
+            query: *const u32,
+            query_words: usize,
+            number: u32,
+            of_query: *mut u32,
+            start: *mut usize,
+        ) -> usize;
+        pub fn txb_certificates_of(store: *const u32, store_words: usize, key: u32, name: u32, polarity: u32, start: *mut usize) -> usize;
     }
 }
+
+/// What a query hands out beside the answer's words: number 0 and part 17 with an answer; with a refusal its number and part, verdict 3 and 0 draws.
+#[derive(Clone, Copy, PartialEq, Eq, Debug)]
+pub struct Reply {
+    pub number: u32,
+    pub part: u32,
+    pub verdict: u32,
+    pub draws: u32,
+}
+
+/// The same without draws.
+#[derive(Clone, Copy, PartialEq, Eq, Debug)]
+pub struct Judgement {
+    pub number: u32,
+    pub part: u32,
+    pub verdict: u32,
+}
+
+/// What out-parameters hold before a call. No reply has it, so that one left unwritten would be seen.
+const UNWRITTEN: u32 = u32::MAX;
+const NO_START: usize = usize::MAX;
 
 // SAFETY, of each call below: a slice's pointer is good for its length, the library reads and writes within the lengths handed to it, what it writes is
 // lent to it alone, and it keeps no pointer.
 
-/// 0 Filed, 1 Held, else the refusal number.
+/// 0 Filed, 1 Held, else the refusal's number.
 pub fn file(store: &mut [u32], certificate: &[u32]) -> u32 {
     unsafe { c::txb_file(store.as_mut_ptr(), store.len(), certificate.as_ptr(), certificate.len()) }
 }
 
-/// number + part · 2^8 + verdict · 2^16 + draws · 2^32.
-pub fn query(policy: &[u32], query: &[u32], store: &[u32], answer: &mut [u32], definitions: &mut [u32], scratch: &mut [u32]) -> u64 {
-    unsafe {
+/// The answer's set is written to the front of its area.
+pub fn query(policy: &[u32], query: &[u32], store: &[u32], answer: &mut [u32], definitions: &mut [u32], scratch: &mut [u32]) -> Reply {
+    let [mut part, mut verdict, mut draws] = [UNWRITTEN; 3];
+    let number = unsafe {
         c::txb_query(
             policy.as_ptr(),
             policy.len(),
@@ -50,21 +85,30 @@ pub fn query(policy: &[u32], query: &[u32], store: &[u32], answer: &mut [u32], d
             definitions.len(),
             scratch.as_mut_ptr(),
             scratch.len(),
+            &mut part,
+            &mut verdict,
+            &mut draws,
         )
-    }
+    };
+    Reply { number, part, verdict, draws }
 }
 
-/// number + part · 2^8 + verdict · 2^16.
-pub fn judge(policy: &[u32], query: &[u32]) -> u32 {
-    unsafe { c::txb_judge(policy.as_ptr(), policy.len(), query.as_ptr(), query.len()) }
+pub fn judge(policy: &[u32], query: &[u32]) -> Judgement {
+    let [mut part, mut verdict] = [UNWRITTEN; 2];
+    let number = unsafe { c::txb_judge(policy.as_ptr(), policy.len(), query.as_ptr(), query.len(), &mut part, &mut verdict) };
+    Judgement { number, part, verdict }
 }
 
-/// length + start · 2^32, plus 2^63 where it is a part of the query.
-pub fn part(policy: &[u32], query: &[u32], number: u32) -> u64 {
-    unsafe { c::txb_part(policy.as_ptr(), policy.len(), query.as_ptr(), query.len(), number) }
+/// 1 for words of the query, 0 for words of the policy, and where in it they stand.
+pub fn part(policy: &[u32], query: &[u32], number: u32) -> (u32, Range<usize>) {
+    let (mut of_query, mut start) = (UNWRITTEN, NO_START);
+    let length = unsafe { c::txb_part(policy.as_ptr(), policy.len(), query.as_ptr(), query.len(), number, &mut of_query, &mut start) };
+    (of_query, start..start + length)
 }
 
-/// length + start · 2^32, in words of the store.
-pub fn certificates_of(store: &[u32], key: u32, name: u32, polarity: u32) -> u64 {
-    unsafe { c::txb_certificates_of(store.as_ptr(), store.len(), key, name, polarity) }
+/// Where in the store they stand.
+pub fn certificates_of(store: &[u32], key: u32, name: u32, polarity: u32) -> Range<usize> {
+    let mut start = NO_START;
+    let length = unsafe { c::txb_certificates_of(store.as_ptr(), store.len(), key, name, polarity, &mut start) };
+    start..start + length
 }

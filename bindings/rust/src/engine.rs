@@ -1,7 +1,8 @@
-use crate::{calls, Policy, Query, Refusal, Rows, Store};
+use crate::sizes::{ANSWER_WORDS, DEFINITIONS_WORDS, SCRATCH_WORDS};
+use crate::{calls, Part, Policy, Query, Refusal, Rows, Store};
 
-/// How a table is to be read.
-#[derive(Clone, Copy, PartialEq, Eq, Debug)]
+/// How a table is to be read: see [`Table`]. Policy and query alone decide it.
+#[derive(Clone, Copy, PartialEq, Eq, Hash, Debug)]
 pub enum Verdict {
     Exact,
     Lower,
@@ -9,24 +10,32 @@ pub enum Verdict {
 }
 
 impl Verdict {
-    /// The verdict of a reply that is no refusal.
-    pub(crate) fn from_reply(reply: u64) -> Verdict {
-        match reply >> 16 & 0xFF {
-            0 => Verdict::Exact,
-            1 => Verdict::Lower,
-            _ => Verdict::Upper,
+    /// Of the numbers that the library handed out. The first one decides, so that a refusal never reads as a verdict.
+    pub(crate) fn from_numbers(number: u32, part: u32, verdict: u32) -> Result<Verdict, Refusal> {
+        match (number, verdict) {
+            (0, 0) => Ok(Verdict::Exact),
+            (0, 1) => Ok(Verdict::Lower),
+            (0, 2) => Ok(Verdict::Upper),
+            (0, _) => panic!("the library linked has a verdict {verdict}"),
+            _ => Err(Refusal::from_number(number, Part::from_number(part))),
         }
     }
 }
 
-/// A table with its mark.
+/// An answer's set of rows with its verdict.
+///
+/// The archive rarely holds every certificate there is: a + list has the rows certified and perhaps others, a − list lacks the rows certified and perhaps
+/// others. Whether a row belongs to a query can hang on those others, and the verdict says what the table promises about them. The promises are proved, and
+/// hold as long as the certificates are true. They compare answers: with more certificates a query may also come to be refused, as with too many rows.
 #[derive(Clone, PartialEq, Eq, Debug)]
 pub enum Table {
-    /// Exactly the rows that belong to the query whatever is in the lists that the store does not hold.
+    /// Exactly the rows that belong to the query whatever the lists have beside what is certified. Other rows may belong too. When more certificates are
+    /// filed, the same query under the same policy gains rows or keeps them.
     Lower(Rows),
-    /// A row that is missing here belongs to the query under no such lists.
+    /// The rows that are missing here are exactly those that do not belong to the query whatever the lists have beside what is certified. Those here need
+    /// not all belong. When more certificates are filed, the same query under the same policy loses rows or keeps them.
     Upper(Rows),
-    /// The rows that belong to the query, under all such lists the same.
+    /// The rows that belong to the query, and no others, whatever the lists have. The same query under the same policy always gives the same ones.
     Exact(Rows),
 }
 
@@ -54,25 +63,40 @@ pub struct Engine {
 
 impl Engine {
     pub fn new() -> Engine {
-        Engine { answer: vec![0; 642], definitions: vec![0; 10_272], scratch: vec![0; 16_384] }
+        Engine { answer: vec![0; ANSWER_WORDS], definitions: vec![0; DEFINITIONS_WORDS], scratch: vec![0; SCRATCH_WORDS] }
     }
 
     pub fn query(&mut self, policy: &Policy, query: &Query, store: &Store) -> Result<Answer, Refusal> {
         let Engine { answer, definitions, scratch } = self;
         let reply = calls::query(policy.words(), query.words(), store.words(), answer, definitions, scratch);
-        Refusal::from_reply(reply)?;
+        let verdict = Verdict::from_numbers(reply.number, reply.part, reply.verdict)?;
         let rows = Rows::from_words(answer);
-        let table = match Verdict::from_reply(reply) {
+        let table = match verdict {
             Verdict::Exact => Table::Exact(rows),
             Verdict::Lower => Table::Lower(rows),
             Verdict::Upper => Table::Upper(rows),
         };
-        Ok(Answer { table, draws: (reply >> 32) as u32 })
+        Ok(Answer { table, draws: reply.draws })
     }
 }
 
 impl Default for Engine {
     fn default() -> Engine {
         Engine::new()
+    }
+}
+
+#[cfg(test)]
+mod tests {
+    use super::*;
+    use crate::RefusalKind;
+
+    #[test]
+    fn a_refusal_never_reads_as_a_verdict() {
+        assert_eq!(Verdict::from_numbers(0, 17, 1), Ok(Verdict::Lower));
+        for verdict in 0..=3 {
+            let refusal = Refusal { kind: RefusalKind::OpenDraw, part: Some(Part::Query) };
+            assert_eq!(Verdict::from_numbers(7, 16, verdict), Err(refusal));
+        }
     }
 }

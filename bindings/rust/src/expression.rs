@@ -1,4 +1,7 @@
-/// + speaks of rows that are in a list, − of rows that are not.
+/// What certificates say of a list. Of a + list they say which rows are in it, of a − list which rows are not.
+///
+/// One number under + and under − names two lists that have nothing to do with each other. A list of withdrawn observations, of which observatories certify
+/// what is *not* withdrawn, is a − list; to certify a row in the + list of the same number says nothing about it.
 #[derive(Clone, Copy, PartialEq, Eq, PartialOrd, Ord, Hash, Debug)]
 pub enum Polarity {
     Plus = 0,
@@ -49,7 +52,7 @@ impl Expression {
         Expression(vec![3, number])
     }
 
-    /// A key's list.
+    /// A key's list. With certificates for some of its rows alone, + reads as those rows, − as all rows but those.
     pub fn list(key: u32, name: u16, polarity: Polarity) -> Expression {
         Expression::list_of(Term::Atom(key), name, polarity)
     }

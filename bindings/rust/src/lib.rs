@@ -1,6 +1,9 @@
 //! Txindurbe for Rust: file certificates, ask queries, get tables marked lower, upper or exact.
 //!
-//! The engine behind it is proved to do what document 01 says, on every input. This crate gives it types and owns its areas.
+//! The engine behind it is proved to do what document 01 says, on every input. This crate gives it types and owns its areas. Before you show a table, read
+//! - [`Table`]: what lower, upper and exact promise about lists that the archive holds in part;
+//! - [`Polarity`]: the + list and the − list of one number are two lists;
+//! - [`Rows`]: no set lists over 128 rows, and what would is refused.
 //!
 //! ```
 //! use txindurbe::{key, Certificate, Definition, Engine, Expression, Guard, Policy, Polarity, Query, Row, Slot, Store, Table, Term};
@@ -49,11 +52,12 @@ mod expression;
 mod policy;
 mod refusal;
 mod row;
+pub mod sizes;
 mod store;
 
 pub use engine::{Answer, Engine, Table, Verdict};
 pub use expression::{Expression, Guard, Polarity, Slot, Term};
 pub use policy::{Definition, Policy, Query};
-pub use refusal::{Part, Refusal};
+pub use refusal::{Part, Refusal, RefusalKind};
 pub use row::{key, Row, Rows};
 pub use store::{Certificate, Filing, Store};

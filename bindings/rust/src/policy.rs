@@ -36,28 +36,21 @@ impl Policy {
         &self.words
     }
 
-    /// The verdict that an answer to this query would have, without a store.
+    /// The verdict that an answer to this query has, whatever the store; or the refusal that it would get with any.
     pub fn judge(&self, query: &Query) -> Result<Verdict, Refusal> {
-        let reply = calls::judge(&self.words, query.words());
-        Refusal::from_reply(reply.into())?;
-        Ok(Verdict::from_reply(reply.into()))
+        let judgement = calls::judge(&self.words, query.words());
+        Verdict::from_numbers(judgement.number, judgement.part, judgement.verdict)
     }
 
     /// The words of the definition or query that a refusal is about; none if there is no such definition or the policy's table is broken.
     pub fn part<'a>(&'a self, query: &'a Query, part: Part) -> &'a [u32] {
-        let reply = calls::part(&self.words, query.words(), part.number());
-        if reply >> 63 == 1 {
-            query.words()
+        let (of_query, words) = calls::part(&self.words, query.words(), part.number());
+        if of_query == 1 {
+            &query.words[words]
         } else {
-            &self.words[within(reply)]
+            &self.words[words]
         }
     }
-}
-
-/// The range that the library packs as length + start · 2^32.
-pub(crate) fn within(reply: u64) -> std::ops::Range<usize> {
-    let (start, length) = ((reply >> 32) as usize, reply as u32 as usize);
-    start..start + length
 }
 
 /// A query's words: one expression, which may use every definition.

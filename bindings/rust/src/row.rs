@@ -1,14 +1,31 @@
+use crate::sizes::{MOST_WIDTH, ROW_WORDS};
+use std::cmp::Ordering;
+
 /// The key kN. Atoms below 2^31 are numbers, those from there up keys.
 pub const fn key(n: u32) -> u32 {
     (1 << 31) | n
 }
 
-/// One to four atoms, ordered by width, then atom by atom. Made from an array: `Row::from([7, key(1)])`.
-#[derive(Clone, Copy, PartialEq, Eq, PartialOrd, Ord, Hash, Debug)]
+/// One to four atoms. Made from an array: `Row::from([7, key(1)])`.
+#[derive(Clone, Copy, PartialEq, Eq, Hash, Debug)]
 pub struct Row {
     width: u32,
     /// Unused ones are 0.
-    atoms: [u32; 4],
+    atoms: [u32; MOST_WIDTH],
+}
+
+impl Ord for Row {
+    /// Mirrors the engine's order of rows, `rowBefore` in `crates/rows/specs/Row.antt`: by width, then atom by atom. All that compares rows here comes
+    /// to this function, the search in answers too, which the engine lays out in that order.
+    fn cmp(&self, other: &Row) -> Ordering {
+        self.width.cmp(&other.width).then_with(|| self.atoms().cmp(other.atoms()))
+    }
+}
+
+impl PartialOrd for Row {
+    fn partial_cmp(&self, other: &Row) -> Option<Ordering> {
+        Some(self.cmp(other))
+    }
 }
 
 impl Row {
@@ -17,7 +34,7 @@ impl Row {
     }
 
     /// Width and four atoms.
-    pub(crate) fn words(&self) -> [u32; 5] {
+    pub(crate) fn words(&self) -> [u32; ROW_WORDS] {
         let [a, b, c, d] = self.atoms;
         [self.width, a, b, c, d]
     }
@@ -32,7 +49,7 @@ macro_rules! row_from {
     ($($width:literal)*) => {$(
         impl From<[u32; $width]> for Row {
             fn from(atoms: [u32; $width]) -> Row {
-                let mut row = Row { width: $width, atoms: [0; 4] };
+                let mut row = Row { width: $width, atoms: [0; MOST_WIDTH] };
                 row.atoms[..$width].copy_from_slice(&atoms);
                 row
             }
@@ -42,7 +59,8 @@ macro_rules! row_from {
 
 row_from!(1 2 3 4);
 
-/// A set of rows: some, or all but some. What is listed is in ascending order.
+/// A set of rows: some, or all but some. It lists at most 128 rows, in ascending order; a query whose answer would list more, or that comes to such a set
+/// on its way, is refused as [`TooManyRows`](crate::RefusalKind::TooManyRows) and not cut short.
 #[derive(Clone, PartialEq, Eq, Debug)]
 pub enum Rows {
     Only(Vec<Row>),
@@ -65,13 +83,63 @@ impl Rows {
         }
     }
 
-    /// From an answer: form, count, five words a row.
+    /// From an answer: form, count, rows.
     pub(crate) fn from_words(words: &[u32]) -> Rows {
-        let rows = words[2..].chunks_exact(5).take(words[1] as usize).map(Row::from_words).collect();
+        let rows = words[2..].chunks_exact(ROW_WORDS).take(words[1] as usize).map(Row::from_words).collect();
         if words[0] == 0 {
             Rows::Only(rows)
         } else {
             Rows::AllBut(rows)
+        }
+    }
+}
+
+#[cfg(test)]
+mod tests {
+    use super::*;
+
+    /// Each row is before all that follow it.
+    #[test]
+    fn rows_are_ordered_by_width_then_atom_by_atom_unsigned() {
+        let ascending = [
+            Row::from([0]),
+            Row::from([7]),
+            Row::from([key(0)]), // as a signed number it would come first
+            Row::from([u32::MAX]),
+            Row::from([0, 0]),
+            Row::from([0, key(1)]),
+            Row::from([7, 0]),
+            Row::from([7, 1]),
+            Row::from([8, 0]),
+            Row::from([7, 0, 0]),
+            Row::from([7, 0, 9]),
+            Row::from([0, 0, 0, 0]),
+            Row::from([7, 0, 9, 1]),
+            Row::from([7, 0, 9, key(1)]),
+        ];
+        for (place, row) in ascending.iter().enumerate() {
+            for (other_place, other) in ascending.iter().enumerate() {
+                assert_eq!(row.cmp(other), place.cmp(&other_place), "{row:?} and {other:?}");
+                assert_eq!(row.partial_cmp(other), Some(row.cmp(other)));
+            }
+        }
+    }
+
+    #[test]
+    fn answers_are_searched_in_that_order() {
+        // form, count; the rows 9, then 7/0, then 7/0/0
+        let mut answer = vec![0, 3, 1, 9, 0, 0, 0, 2, 7, 0, 0, 0, 3, 7, 0, 0, 0];
+        let listed = [Row::from([9]), Row::from([7, 0]), Row::from([7, 0, 0])];
+        let only = Rows::from_words(&answer);
+        assert_eq!(only, Rows::Only(listed.to_vec()));
+        answer[0] = 1;
+        let all_but = Rows::from_words(&answer);
+        assert_eq!(all_but, Rows::AllBut(listed.to_vec()));
+        for row in listed {
+            assert!(only.contains(row) && !all_but.contains(row), "{row:?}");
+        }
+        for row in [Row::from([7]), Row::from([0]), Row::from([9, 0]), Row::from([7, 0, 0, 0])] {
+            assert!(!only.contains(row) && all_but.contains(row), "{row:?}");
         }
     }
 }

@@ -1,7 +1,7 @@
-use crate::policy::within;
+use crate::sizes::{CERTIFICATE_WORDS, STORE_WORDS};
 use crate::{calls, Polarity, Refusal, Row};
 
-/// What an observatory says of one row and one of its lists.
+/// What an observatory says of one row and one of its lists. Its signature has been checked before: the engine takes what is filed as said by that key.
 #[derive(Clone, Copy, PartialEq, Eq, PartialOrd, Ord, Hash, Debug)]
 pub struct Certificate {
     pub key: u32,
@@ -11,17 +11,17 @@ pub struct Certificate {
 }
 
 impl Certificate {
-    /// The row is in the key's list.
+    /// The row is in the key's + list of this name.
     pub fn listed(key: u32, name: u16, row: impl Into<Row>) -> Certificate {
         Certificate { key, name, polarity: Polarity::Plus, row: row.into() }
     }
 
-    /// The row is not in the key's list.
+    /// The row is not in the key's − list of this name.
     pub fn not_listed(key: u32, name: u16, row: impl Into<Row>) -> Certificate {
         Certificate { key, name, polarity: Polarity::Minus, row: row.into() }
     }
 
-    pub fn words(&self) -> [u32; 8] {
+    pub fn words(&self) -> [u32; CERTIFICATE_WORDS] {
         let [width, a, b, c, d] = self.row.words();
         [self.key, self.name.into(), self.polarity as u32, width, a, b, c, d]
     }
@@ -35,19 +35,16 @@ pub enum Filing {
     Held,
 }
 
-/// The certificates held, up to 2,000.
+/// The certificates held, up to 2,000. None is ever taken back.
 #[derive(Clone, PartialEq, Eq, Debug)]
 pub struct Store {
     words: Vec<u32>,
 }
 
 impl Store {
-    /// The words of a store.
-    pub const WORDS: usize = 16_001;
-
     /// An empty one.
     pub fn new() -> Store {
-        Store { words: vec![0; Store::WORDS] }
+        Store { words: vec![0; STORE_WORDS] }
     }
 
     /// From words kept earlier. Any words at all: an unsound store is refused with 8 when it is used.
@@ -69,14 +66,14 @@ impl Store {
         match calls::file(&mut self.words, certificate) {
             0 => Ok(Filing::Filed),
             1 => Ok(Filing::Held),
-            number => Err(Refusal { number, part: None }),
+            number => Err(Refusal::from_number(number, None)),
         }
     }
 
     /// The rows certified of one name, in ascending order; none if the store is unsound.
     pub fn certificates_of(&self, key: u32, name: u16, polarity: Polarity) -> impl Iterator<Item = Row> + '_ {
-        let part = within(calls::certificates_of(&self.words, key, name.into(), polarity as u32));
-        self.words[part].chunks_exact(8).map(|record| Row::from_words(&record[3..]))
+        let words = calls::certificates_of(&self.words, key, name.into(), polarity as u32);
+        self.words[words].chunks_exact(CERTIFICATE_WORDS).map(|record| Row::from_words(&record[3..]))
     }
 }
 

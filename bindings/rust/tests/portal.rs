@@ -1,8 +1,8 @@
 //! Document 01's portal cases through the safe types. They link the compiled library: `rt staticlib capi` first.
 
 use txindurbe::{
-    key, Certificate, Definition, Engine, Expression, Filing, Guard, Part, Polarity, Policy, Query, Refusal, Row, Rows, Slot, Store, Table, Term,
-    Verdict,
+    key, Certificate, Definition, Engine, Expression, Filing, Guard, Part, Polarity, Policy, Query, Refusal, RefusalKind, Row, Rows, Slot, Store,
+    Table, Term, Verdict,
 };
 
 const RELEASED: u16 = 1;
@@ -76,7 +76,7 @@ fn refusals_say_where_and_why() {
     let policy = Policy::new(&[Definition { name: 1, polarity: Polarity::Minus, expression: from_open.clone() }]);
     let query = Query::new(&Expression::rows(&[]));
     let refusal = Engine::new().query(&policy, &query, &Store::new()).unwrap_err();
-    assert_eq!(refusal, Refusal { number: 7, part: Some(Part::Definition(0)) });
+    assert_eq!(refusal, Refusal { kind: RefusalKind::OpenDraw, part: Some(Part::Definition(0)) });
     assert_eq!(refusal.to_string(), "refusal 7 in definition 0: a draw is made from an open expression");
     assert_eq!(policy.part(&query, Part::Definition(0)), from_open.words());
     assert_eq!(policy.part(&query, Part::Query), query.words());
@@ -84,6 +84,6 @@ fn refusals_say_where_and_why() {
 
     let broken = Store::from_words(vec![3; 5]);
     let refusal = Engine::new().query(&Policy::new(&[]), &query, &broken).unwrap_err();
-    assert_eq!(refusal, Refusal { number: 8, part: None });
-    assert_eq!(Store::new().file_words(&[1, 2, 3]), Err(Refusal { number: 9, part: None }));
+    assert_eq!(refusal, Refusal { kind: RefusalKind::BadStore, part: None });
+    assert_eq!(Store::new().file_words(&[1, 2, 3]), Err(Refusal { kind: RefusalKind::BadCertificate, part: None }));
 }

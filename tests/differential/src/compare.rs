@@ -1,10 +1,12 @@
 //! Puts the same words to two engines and compares replies and areas, word for word.
 
-use crate::engine::{Engine, Lent, OF_QUERY};
+use crate::engine::{Engine, Lent};
 use crate::evaluator::{Evaluator, Set};
 use crate::generate::{Case, Filings, Generator, PORTAL};
 use crate::random::Random;
 use std::collections::BTreeMap;
+use std::ops::Range;
+use txindurbe::calls::Reply;
 
 /// What was seen in a run.
 #[derive(Default)]
@@ -92,10 +94,13 @@ fn same_words(what: &str, tested: &[u32], expected: &[u32]) -> Result<(), String
     }
 }
 
-/// Of an empty place only its emptiness is promised, and whether it is the query.
-fn same_place(what: &str, tested: u64, expected: u64) -> Result<(), String> {
-    let promised = if expected as u32 == 0 { u64::from(u32::MAX) | OF_QUERY } else { u64::MAX };
-    equal(what, tested & promised, expected & promised)
+/// Where no words stand, that is all that is promised.
+fn same_range(what: &str, tested: Range<usize>, expected: Range<usize>) -> Result<(), String> {
+    if tested.is_empty() && expected.is_empty() {
+        Ok(())
+    } else {
+        equal(what, tested, expected)
+    }
 }
 
 pub struct Comparison<'a> {
@@ -158,13 +163,15 @@ impl<'a> Comparison<'a> {
             equal("the same query with other junk", self.query(case, store)?, reply)?;
         }
         equal("judgement", self.tested.judge(policy, query), Engine::judge(&self.expected, policy, query))?;
-        let part = Engine::part(&self.expected, policy, query, case.number);
-        same_place(&format!("part {}", case.number), self.tested.part(policy, query, case.number), part)?;
+        let (of_query, words) = Engine::part(&self.expected, policy, query, case.number);
+        let (tested_of_query, tested_words) = self.tested.part(policy, query, case.number);
+        equal(&format!("whether part {} is the query", case.number), tested_of_query, of_query)?;
+        same_range(&format!("part {}", case.number), tested_words, words)?;
         let certificates = Engine::certificates_of(&self.expected, store, case.name);
-        same_place(&format!("certificates of {:?}", case.name), self.tested.certificates_of(store, case.name), certificates)
+        same_range(&format!("certificates of {:?}", case.name), self.tested.certificates_of(store, case.name), certificates)
     }
 
-    fn query(&mut self, case: &Case, store: &[u32]) -> Result<u64, String> {
+    fn query(&mut self, case: &Case, store: &[u32]) -> Result<Reply, String> {
         let mut area = |length| self.junk.area(length, &mut self.random);
         let [mut expected, mut definitions, mut scratch] = [case.areas.answer, case.areas.definitions, case.areas.scratch].map(&mut area);
         let mut tested = expected.clone();
@@ -176,8 +183,7 @@ impl<'a> Comparison<'a> {
         let store_before = store.to_vec();
         let tested_reply = ask(self.tested, &mut tested);
         self.tally_reply(reply, expected.lent());
-        let show = |reply: u64| [reply & 0xFF, reply >> 8 & 0xFF, reply >> 16 & 0xFFFF, reply >> 32];
-        equal("number, part, verdict and draws", show(tested_reply), show(reply))?;
+        equal("reply", tested_reply, reply)?;
         same_words("answer area", tested.lent(), expected.lent())?;
         same_words("store after a query", store, &store_before)?;
         tested.fences_kept("answer")?;
@@ -186,10 +192,9 @@ impl<'a> Comparison<'a> {
         Ok(reply)
     }
 
-    fn tally_reply(&mut self, reply: u64, answer: &[u32]) {
-        let (number, verdict) = ((reply & 0xFF) as u32, (reply >> 16 & 0xFF) as u32);
-        if number > 0 {
-            *self.tally.refusals.entry(number).or_default() += 1;
+    fn tally_reply(&mut self, reply: Reply, answer: &[u32]) {
+        if reply.number > 0 {
+            *self.tally.refusals.entry(reply.number).or_default() += 1;
             return;
         }
         let table = match Set::from_words(answer) {
@@ -199,7 +204,7 @@ impl<'a> Comparison<'a> {
             Some(Set::Complement(_)) => "all but some",
             None => "an unsound set", // only with a planted fault
         };
-        *self.tally.answers.entry((verdict, table)).or_default() += 1;
+        *self.tally.answers.entry((reply.verdict, table)).or_default() += 1;
     }
 }
 

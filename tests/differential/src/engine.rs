@@ -2,15 +2,19 @@
 
 use crate::evaluator::{certificates_of, Answer, Areas, Evaluator, Filing, Part, Refusal, Verdict};
 use crate::faults::Fault;
+use crate::numbers::NO_PART;
 use std::ops::Range;
+use txindurbe::calls::{Judgement, Reply};
 
-/// The five calls of `include/txindurbe.h`, replies packed as there.
+/// The five calls of `include/txindurbe.h`, with all that they hand out.
 pub trait Engine {
+    /// 0 Filed, 1 Held, else the refusal's number.
     fn file(&self, store: &mut [u32], certificate: &[u32]) -> u32;
-    fn query(&self, policy: &[u32], query: &[u32], store: &[u32], lent: Lent) -> u64;
-    fn judge(&self, policy: &[u32], query: &[u32]) -> u32;
-    fn part(&self, policy: &[u32], query: &[u32], number: u32) -> u64;
-    fn certificates_of(&self, store: &[u32], name: [u32; 3]) -> u64;
+    fn query(&self, policy: &[u32], query: &[u32], store: &[u32], lent: Lent) -> Reply;
+    fn judge(&self, policy: &[u32], query: &[u32]) -> Judgement;
+    /// 1 for words of the query, 0 for words of the policy, and where in it they stand.
+    fn part(&self, policy: &[u32], query: &[u32], number: u32) -> (u32, Range<usize>);
+    fn certificates_of(&self, store: &[u32], name: [u32; 3]) -> Range<usize>;
 }
 
 /// The areas lent to a query.
@@ -26,52 +30,34 @@ impl Lent<'_> {
     }
 }
 
-pub const OF_QUERY: u64 = 1 << 63;
+/// Beside 0 exact, 1 lower and 2 upper: what comes with a refusal.
+const NO_VERDICT: u32 = 3;
 
-pub fn pack_filing(filing: Filing) -> u32 {
-    match filing {
-        Filing::Filed => 0,
-        Filing::Held => 1,
-        Filing::Refused(number) => number,
+fn judgement(judged: Result<Verdict, Refusal>) -> Judgement {
+    match judged {
+        Ok(verdict) => Judgement { number: 0, part: NO_PART, verdict: verdict as u32 },
+        Err(Refusal { number, part }) => Judgement { number, part, verdict: NO_VERDICT },
     }
 }
 
-fn pack_refusal(refusal: Refusal) -> u32 {
-    refusal.number + (refusal.part << 8)
-}
-
-pub fn pack_judgement(verdict: Result<Verdict, Refusal>) -> u32 {
-    verdict.map_or_else(pack_refusal, |verdict| (verdict as u32) << 16)
-}
-
-pub fn pack_answer(answer: &Result<Answer, Refusal>) -> u64 {
-    match answer {
-        Ok(answer) => u64::from(pack_judgement(Ok(answer.verdict))) + (u64::from(answer.draws) << 32),
-        Err(refusal) => u64::from(pack_refusal(*refusal)),
-    }
-}
-
-/// Length and start in words; an empty range starts at 0.
-pub fn pack_range(range: Range<usize>) -> u64 {
-    let start = if range.is_empty() { 0 } else { range.start };
-    range.len() as u64 + ((start as u64) << 32)
-}
-
-pub fn pack_part(part: Part) -> u64 {
-    match part {
-        Part::Policy(range) => pack_range(range),
-        Part::Query(range) => pack_range(range) | OF_QUERY,
-    }
+fn reply(answered: Result<Answer, Refusal>) -> Reply {
+    let draws = answered.as_ref().map_or(0, |answer| answer.draws);
+    let Judgement { number, part, verdict } = judgement(answered.map(|answer| answer.verdict));
+    Reply { number, part, verdict, draws }
 }
 
 impl Engine for Evaluator {
     fn file(&self, store: &mut [u32], certificate: &[u32]) -> u32 {
-        pack_filing(Evaluator::file(self, store, certificate))
+        match Evaluator::file(self, store, certificate) {
+            Filing::Filed => 0,
+            Filing::Held => 1,
+            Filing::Refused(number) => number,
+        }
     }
 
-    fn query(&self, policy: &[u32], query: &[u32], store: &[u32], lent: Lent) -> u64 {
-        let answer = Evaluator::query(self, policy, query, store, lent.lengths());
-        match &answer {
+    fn query(&self, policy: &[u32], query: &[u32], store: &[u32], lent: Lent) -> Reply {
+        let answered = Evaluator::query(self, policy, query, store, lent.lengths());
+        match &answered {
             Ok(answer) => {
                 // Only a planted fault gives more words than there are.
                 for (area, word) in lent.answer.iter_mut().zip(answer.set.words()) {
@@ -81,18 +67,21 @@ impl Engine for Evaluator {
             Err(_) if self.has(Fault::RefusedQueryClearsAnswer) => lent.answer.fill(0), // planted
             Err(_) => {}
         }
-        pack_answer(&answer)
+        reply(answered)
     }
 
-    fn judge(&self, policy: &[u32], query: &[u32]) -> u32 {
-        pack_judgement(Evaluator::judge(self, policy, query).map(|judged| judged.verdict))
+    fn judge(&self, policy: &[u32], query: &[u32]) -> Judgement {
+        judgement(Evaluator::judge(self, policy, query).map(|judged| judged.verdict))
     }
 
-    fn part(&self, policy: &[u32], query: &[u32], number: u32) -> u64 {
-        pack_part(Evaluator::part(self, policy, query, number))
+    fn part(&self, policy: &[u32], query: &[u32], number: u32) -> (u32, Range<usize>) {
+        match Evaluator::part(self, policy, query, number) {
+            Part::Policy(words) => (0, words),
+            Part::Query(words) => (1, words),
+        }
     }
 
-    fn certificates_of(&self, store: &[u32], name: [u32; 3]) -> u64 {
-        pack_range(certificates_of(store, name))
+    fn certificates_of(&self, store: &[u32], name: [u32; 3]) -> Range<usize> {
+        certificates_of(store, name)
     }
 }

@@ -4,13 +4,11 @@
 //! Places marked `planted`, and calls of [`faults`], are mistakes that are made only when asked for; without a [`Fault`] they do nothing.
 
 use crate::faults::{self, Fault};
+use crate::numbers::*;
 use std::collections::{BTreeMap, BTreeSet};
 use std::ops::{Range, RangeInclusive};
 
 // ---- Rows, sets ----
-
-/// Atoms from here up are keys, those below are numbers.
-pub const FIRST_KEY: u32 = 2_147_483_648;
 
 /// kN.
 pub const fn key(n: u32) -> u32 {
@@ -25,12 +23,12 @@ pub fn is_key(atom: u32) -> bool {
 #[derive(Clone, Copy, PartialEq, Eq, PartialOrd, Ord, Debug)]
 pub struct Row {
     pub width: u32,
-    pub atoms: [u32; 4],
+    pub atoms: [u32; MOST_WIDTH as usize],
 }
 
 impl Row {
     pub fn new(atoms: &[u32]) -> Row {
-        let mut row = Row { width: atoms.len() as u32, atoms: [0; 4] };
+        let mut row = Row { width: atoms.len() as u32, atoms: [0; MOST_WIDTH as usize] };
         row.atoms[..atoms.len()].copy_from_slice(atoms);
         row
     }
@@ -39,11 +37,11 @@ impl Row {
     pub fn from_words(words: &[u32]) -> Option<Row> {
         let &[width, a, b, c, d] = words else { return None };
         let row = Row { width, atoms: [a, b, c, d] };
-        let sound = (1..=4).contains(&width) && row.atoms[width as usize..].iter().all(|&atom| atom == 0);
+        let sound = (1..=MOST_WIDTH).contains(&width) && row.atoms[width as usize..].iter().all(|&atom| atom == 0);
         sound.then_some(row)
     }
 
-    pub fn words(&self) -> [u32; 5] {
+    pub fn words(&self) -> [u32; ROW_WORDS] {
         let [a, b, c, d] = self.atoms;
         [self.width, a, b, c, d]
     }
@@ -52,12 +50,6 @@ impl Row {
         &self.atoms[..self.width as usize]
     }
 }
-
-/// No set lists more rows.
-pub const MOST_ROWS: usize = 128;
-
-/// The words that a set may take.
-pub const SET_WORDS: usize = 642;
 
 #[derive(Clone, PartialEq, Eq, Debug)]
 pub enum Set {
@@ -114,8 +106,8 @@ impl Set {
         if form > 1 || count as usize > MOST_ROWS {
             return None;
         }
-        let laid_out = words.get(2..2 + 5 * count as usize)?;
-        let rows = laid_out.chunks(5).map(Row::from_words).collect::<Option<Vec<Row>>>()?;
+        let laid_out = words.get(2..2 + ROW_WORDS * count as usize)?;
+        let rows = laid_out.chunks(ROW_WORDS).map(Row::from_words).collect::<Option<Vec<Row>>>()?;
         if rows.windows(2).any(|pair| pair[0] >= pair[1]) {
             return None;
         }
@@ -126,12 +118,8 @@ impl Set {
 
 // ---- Store and filing ----
 
-pub const STORE_WORDS: usize = 16_001;
-pub const MOST_CERTIFICATES: usize = 2_000;
-pub const LAST_NAME: u32 = 65_535;
-
 /// Key, name, polarity, width, four atoms.
-pub type Record = [u32; 8];
+pub type Record = [u32; RECORD_WORDS];
 
 fn sound_record(record: &[u32]) -> bool {
     is_key(record[0]) && record[1] <= LAST_NAME && record[2] <= 1 && Row::from_words(&record[3..]).is_some()
@@ -142,8 +130,8 @@ pub fn certificates(store: &[u32]) -> Option<Vec<Record>> {
     if store.len() < STORE_WORDS || store[0] as usize > MOST_CERTIFICATES {
         return None;
     }
-    let words = &store[1..1 + 8 * store[0] as usize];
-    let records: Vec<Record> = words.chunks(8).map(|record| record.try_into().unwrap()).collect();
+    let words = &store[1..1 + RECORD_WORDS * store[0] as usize];
+    let records: Vec<Record> = words.chunks(RECORD_WORDS).map(|record| record.try_into().unwrap()).collect();
     let sound = records.iter().all(|record| sound_record(record));
     let ascending = records.windows(2).all(|pair| pair[0] < pair[1]);
     (sound && ascending).then_some(records)
@@ -162,14 +150,10 @@ pub fn certificates_of(store: &[u32], name: [u32; 3]) -> Range<usize> {
     let of_name = |record: &Record| record[..3] == name;
     let Some(first) = records.iter().position(of_name) else { return 0..0 };
     let count = records.iter().filter(|record| of_name(record)).count();
-    1 + 8 * first..1 + 8 * (first + count)
+    1 + RECORD_WORDS * first..1 + RECORD_WORDS * (first + count)
 }
 
 // ---- Policy words ----
-
-pub const MOST_DEFINITIONS: u32 = 16;
-pub const MOST_POLICY_WORDS: usize = 8_192;
-pub const MOST_QUERY_WORDS: usize = 1_024;
 
 /// A definition's table entry, with its words as a part of the policy.
 #[derive(Clone, PartialEq, Eq, Debug)]
@@ -222,10 +206,6 @@ pub enum Guard {
 /// A refusal's number before its part is known, or the value.
 pub type Numbered<T> = Result<T, u32>;
 
-const DEEPEST: u32 = 15;
-const MOST_DRAWS_WRITTEN: u32 = 8;
-pub const MOST_VARIABLES: usize = 16;
-
 /// Reads one whole definition or query, word by word; at each word the rules of 3, then 4, then 5.
 struct Parser<'a> {
     words: &'a [u32],
@@ -240,7 +220,7 @@ struct Parser<'a> {
 
 impl Parser<'_> {
     fn word(&mut self) -> Numbered<u32> {
-        let word = *self.words.get(self.at).ok_or(3u32)?;
+        let word = *self.words.get(self.at).ok_or(BAD_WORD)?;
         self.at += 1;
         Ok(word)
     }
@@ -250,7 +230,7 @@ impl Parser<'_> {
         if rule.contains(&word) {
             Ok(word)
         } else {
-            Err(3)
+            Err(BAD_WORD)
         }
     }
 
@@ -266,7 +246,7 @@ impl Parser<'_> {
         let code = self.within(1..=7)?;
         let deepest = DEEPEST + self.evaluator.has(Fault::Depth16Passes) as u32; // planted
         if depth > deepest {
-            return Err(5);
+            return Err(TOO_DEEP);
         }
         Ok(match code {
             1 => Expression::Rows(self.rows()?),
@@ -284,12 +264,12 @@ impl Parser<'_> {
     }
 
     fn rows(&mut self) -> Numbered<Vec<Vec<Term>>> {
-        let count = self.within(0..=128)?;
+        let count = self.within(0..=MOST_ROWS as u32)?;
         self.times(count, Self::row)
     }
 
     fn row(&mut self) -> Numbered<Vec<Term>> {
-        let width = self.within(1..=4)?;
+        let width = self.within(1..=MOST_WIDTH)?;
         self.times(width, Self::term)
     }
 
@@ -305,7 +285,7 @@ impl Parser<'_> {
         if number < self.variables {
             Ok(Term::Variable(number))
         } else {
-            Err(4)
+            Err(NOT_IN_SCOPE)
         }
     }
 
@@ -314,7 +294,7 @@ impl Parser<'_> {
         if number < self.available {
             Ok(number)
         } else {
-            Err(4)
+            Err(NOT_IN_SCOPE)
         }
     }
 
@@ -330,7 +310,7 @@ impl Parser<'_> {
 
     fn comprehension(&mut self, depth: u32) -> Numbered<Expression> {
         let outside = self.variables;
-        let count = self.within(0..=8)?;
+        let count = self.within(0..=MOST_GUARDS)?;
         let guards = self.times(count, |parser| parser.guard(depth))?;
         let head = self.row()?;
         self.variables = outside;
@@ -350,10 +330,10 @@ impl Parser<'_> {
         let most = MOST_DRAWS_WRITTEN + self.evaluator.has(Fault::NinthDrawPasses) as u32; // planted
         self.draws += 1;
         if self.draws > most {
-            return Err(5);
+            return Err(TOO_DEEP);
         }
         let from = self.expression(depth + 1)?;
-        let width = self.within(1..=4)?;
+        let width = self.within(1..=MOST_WIDTH)?;
         let pattern = self.times(width, Self::slot)?;
         Ok(Guard::Draw { from, pattern })
     }
@@ -369,7 +349,7 @@ impl Parser<'_> {
     fn new_variable(&mut self) -> Numbered<Slot> {
         let most = MOST_VARIABLES + self.evaluator.has(Fault::SeventeenthVariablePasses) as usize; // planted
         if self.word()? as usize != self.variables || self.variables == most {
-            return Err(4);
+            return Err(NOT_IN_SCOPE);
         }
         self.variables += 1;
         Ok(Slot::New)
@@ -442,8 +422,6 @@ pub struct Judged {
 
 // ---- Reading ----
 
-const MOST_DRAWS_MADE: u32 = 1_000_000;
-
 /// Reads in the minimal model of the certificates held.
 struct Reading {
     held: BTreeMap<[u32; 3], BTreeSet<Row>>,
@@ -454,7 +432,7 @@ struct Reading {
 
 pub fn limited(set: Set) -> Numbered<Set> {
     if set.listed().len() > MOST_ROWS {
-        Err(13)
+        Err(TOO_MANY_ROWS)
     } else {
         Ok(set)
     }
@@ -468,7 +446,7 @@ pub fn value(term: Term, values: &[u32]) -> u32 {
 }
 
 pub fn row_of(terms: &[Term], values: &[u32]) -> Row {
-    let mut row = Row { width: terms.len() as u32, atoms: [0; 4] };
+    let mut row = Row { width: terms.len() as u32, atoms: [0; MOST_WIDTH as usize] };
     for (atom, &term) in row.atoms.iter_mut().zip(terms) {
         *atom = value(term, values);
     }
@@ -532,7 +510,7 @@ impl Reading {
     fn pass(&mut self, guards: &[Guard], head: &[Term], values: &mut Vec<u32>, found: &mut BTreeSet<Row>) -> Numbered<()> {
         let Some((guard, later)) = guards.split_first() else {
             found.insert(row_of(head, values));
-            return if found.len() > MOST_ROWS { Err(13) } else { Ok(()) };
+            return if found.len() > MOST_ROWS { Err(TOO_MANY_ROWS) } else { Ok(()) };
         };
         let passed = match guard {
             Guard::Draw { from, pattern } => return self.draw(from, pattern, later, head, values, found),
@@ -566,12 +544,12 @@ impl Reading {
         values: &mut Vec<u32>,
         found: &mut BTreeSet<Row>,
     ) -> Numbered<()> {
-        let Set::Finite(rows) = self.read(from, values)? else { return Err(12) };
+        let Set::Finite(rows) = self.read(from, values)? else { return Err(COMPLEMENT_DRAWN) };
         let most = MOST_DRAWS_MADE - self.evaluator.has(Fault::MillionthDrawRefused) as u32; // planted
         let outside = values.len();
         for row in &rows {
             if self.draws == most {
-                return Err(14);
+                return Err(TOO_MANY_DRAWS);
             }
             let matched = self.matches(row, pattern, values);
             if matched || !self.evaluator.has(Fault::DrawsCountedWhenMatching) {
@@ -614,11 +592,8 @@ pub struct Refusal {
     pub part: u32,
 }
 
-pub const QUERY: u32 = 16;
-pub const NEITHER: u32 = 17;
-
 fn refused<T>(number: u32) -> Result<T, Refusal> {
-    Err(Refusal { number, part: NEITHER })
+    Err(Refusal { number, part: NO_PART })
 }
 
 fn in_part<T>(result: Numbered<T>, part: u32) -> Result<T, Refusal> {
@@ -641,7 +616,7 @@ pub struct Areas {
 }
 
 impl Areas {
-    pub const LEAST: Areas = Areas { answer: SET_WORDS, definitions: 10_272, scratch: 16_384 };
+    pub const LEAST: Areas = Areas { answer: SET_WORDS, definitions: DEFINITIONS_WORDS, scratch: SCRATCH_WORDS };
 
     fn under(self, least: Areas) -> bool {
         self.answer < least.answer || self.definitions < least.definitions || self.scratch < least.scratch
@@ -661,24 +636,25 @@ impl Evaluator {
 
     /// 8, 9, Held, 10.
     pub fn file(&self, store: &mut [u32], certificate: &[u32]) -> Filing {
-        let Some(records) = certificates(store) else { return Filing::Refused(8) };
-        let Ok(record) = Record::try_from(certificate) else { return Filing::Refused(9) };
+        let Some(records) = certificates(store) else { return Filing::Refused(BAD_STORE) };
+        let Ok(record) = Record::try_from(certificate) else { return Filing::Refused(BAD_CERTIFICATE) };
         if !sound_record(&record) {
-            return Filing::Refused(9);
+            return Filing::Refused(BAD_CERTIFICATE);
         }
         if self.has(Fault::FullBeforeHeld) && records.len() == MOST_CERTIFICATES {
-            return Filing::Refused(10); // planted
+            return Filing::Refused(STORE_FULL); // planted
         }
         let Err(place) = records.binary_search(&record) else { return Filing::Held };
         if records.len() == MOST_CERTIFICATES {
-            return Filing::Refused(10);
+            return Filing::Refused(STORE_FULL);
         }
-        let (start, end) = (1 + 8 * place, 1 + 8 * records.len());
-        store.copy_within(start..end, start + 8);
-        store[start..start + 8].copy_from_slice(&record);
+        let (start, end) = (1 + RECORD_WORDS * place, 1 + RECORD_WORDS * records.len());
+        store.copy_within(start..end, start + RECORD_WORDS);
+        store[start..start + RECORD_WORDS].copy_from_slice(&record);
         store[0] += 1;
         if self.has(Fault::FilingClearsPastTheEnd) {
-            store.get_mut(end + 8).map(|word| *word = 0); // planted
+            store[end + RECORD_WORDS..].iter_mut().take(1).for_each(|word| *word = 0);
+            // planted
         }
         Filing::Filed
     }
@@ -686,17 +662,17 @@ impl Evaluator {
     /// 1, 2.
     pub fn table(&self, policy: &[u32]) -> Numbered<Vec<Entry>> {
         if !(2..=MOST_POLICY_WORDS).contains(&policy.len()) || policy[0] != 1 || policy[1] > MOST_DEFINITIONS {
-            return Err(1);
+            return Err(BAD_HEADER);
         }
         let first = 2 + 4 * policy[1] as usize;
-        let table = policy.get(2..first).ok_or(1u32)?;
+        let table = policy.get(2..first).ok_or(BAD_HEADER)?;
         let mut next = first as u64;
         let mut entries: Vec<Entry> = Vec::new();
         for entry in table.chunks(4) {
             let &[name, polarity, offset, length] = entry else { unreachable!() };
             let twice = entries.iter().any(|other| (other.name, other.polarity) == (name, polarity));
             if name > LAST_NAME || polarity > 1 || u64::from(offset) != next || length == 0 || twice {
-                return Err(2);
+                return Err(BAD_TABLE);
             }
             next += u64::from(length);
             if self.has(Fault::TableSumWraps) {
@@ -707,14 +683,14 @@ impl Evaluator {
         if next == policy.len() as u64 {
             Ok(entries)
         } else {
-            Err(2)
+            Err(BAD_TABLE)
         }
     }
 
     pub fn part(&self, policy: &[u32], query: &[u32], number: u32) -> Part {
         let empty = Part::Policy(0..0);
         let Ok(entries) = self.table(policy) else { return empty };
-        if number == QUERY {
+        if number == QUERY_PART {
             return Part::Query(0..query.len());
         }
         entries.get(number as usize).map_or(empty, |entry| Part::Policy(entry.part.clone()))
@@ -724,7 +700,7 @@ impl Evaluator {
     pub fn judge(&self, policy: &[u32], query: &[u32]) -> Result<Judged, Refusal> {
         let entries = self.table(policy).or_else(refused)?;
         if self.has(Fault::QueryLengthFirst) && !(1..=MOST_QUERY_WORDS).contains(&query.len()) {
-            return Err(Refusal { number: 3, part: QUERY }); // planted
+            return Err(Refusal { number: BAD_WORD, part: QUERY_PART }); // planted
         }
         if self.has(Fault::ParsedBeforeJudged) {
             self.parse_all(policy, &entries)?; // planted
@@ -736,7 +712,7 @@ impl Evaluator {
             let definition = self.judge_definition(words, entry.polarity, &definitions);
             definitions.push(in_part(definition, part)?);
         }
-        let (query, verdict) = in_part(self.judge_query(query, &definitions), QUERY)?;
+        let (query, verdict) = in_part(self.judge_query(query, &definitions), QUERY_PART)?;
         Ok(Judged { definitions, query, verdict })
     }
 
@@ -755,7 +731,7 @@ impl Evaluator {
     fn judge_definition(&self, words: &[u32], polarity: u32, earlier: &[Definition]) -> Numbered<Definition> {
         let (expression, polarities) = self.expression(words, earlier)?;
         if !polarities.has(polarity) {
-            return Err(6);
+            return Err(NO_POLARITY);
         }
         self.draws_allowed(&expression, earlier)?;
         let open = self.open(&expression, earlier);
@@ -764,10 +740,10 @@ impl Evaluator {
 
     fn judge_query(&self, words: &[u32], definitions: &[Definition]) -> Numbered<(Expression, Verdict)> {
         if !(1..=MOST_QUERY_WORDS).contains(&words.len()) {
-            return Err(3);
+            return Err(BAD_WORD);
         }
         let (expression, polarities) = self.expression(words, definitions)?;
-        let verdict = polarities.verdict().ok_or(6u32)?;
+        let verdict = polarities.verdict().ok_or(NO_POLARITY)?;
         self.draws_allowed(&expression, definitions)?;
         Ok((expression, verdict))
     }
@@ -778,10 +754,10 @@ impl Evaluator {
         let expression = parser.expression(1)?;
         let polarities = self.polarities(&expression, definitions);
         if self.has(Fault::LeftOverWordsAfterPolarity) && polarities.verdict().is_none() {
-            return Err(6); // planted
+            return Err(NO_POLARITY); // planted
         }
         if parser.left_over() {
-            return Err(3);
+            return Err(BAD_WORD);
         }
         Ok((expression, polarities))
     }
@@ -822,7 +798,7 @@ impl Evaluator {
         match expression {
             Expression::Union(left, right) | Expression::Difference(left, right) => inside(left).and(inside(right)),
             Expression::Comprehension { guards, .. } => guards.iter().try_for_each(|guard| match guard {
-                Guard::Draw { from, .. } if self.open(from, definitions) => Err(7),
+                Guard::Draw { from, .. } if self.open(from, definitions) => Err(OPEN_DRAW),
                 Guard::Draw { from, .. } | Guard::Absent { from, .. } => inside(from),
                 Guard::Same(..) | Guard::Different(..) => Ok(()),
             }),
@@ -834,11 +810,11 @@ impl Evaluator {
     pub fn query(&self, policy: &[u32], query: &[u32], store: &[u32], areas: Areas) -> Result<Answer, Refusal> {
         let judged = self.judge(policy, query)?;
         if self.has(Fault::AreasBeforeStore) && areas.under(Areas::LEAST) {
-            return refused(11); // planted
+            return refused(SHORT_AREA); // planted
         }
-        let Some(records) = certificates(store) else { return refused(8) };
+        let Some(records) = certificates(store) else { return refused(BAD_STORE) };
         if areas.under(Areas::LEAST) {
-            return refused(11);
+            return refused(SHORT_AREA);
         }
         self.read(&judged, &records)
     }
@@ -857,7 +833,7 @@ impl Evaluator {
                 reading.draws = 0; // planted
             }
         }
-        let set = in_part(reading.read(&judged.query, &mut Vec::new()), QUERY)?;
+        let set = in_part(reading.read(&judged.query, &mut Vec::new()), QUERY_PART)?;
         Ok(Answer { verdict: judged.verdict, draws: reading.draws, set })
     }
 }

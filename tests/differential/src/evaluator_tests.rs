@@ -70,7 +70,7 @@ fn alone(query: &[u32]) -> Result<Answer, Refusal> {
 
 #[track_caller]
 fn refuses(query: &[u32], number: u32) {
-    assert_eq!(alone(query), refusal(number, QUERY), "{query:?}");
+    assert_eq!(alone(query), refusal(number, QUERY_PART), "{query:?}");
 }
 
 /// Code 1 with the numbers 0 to count − 1.
@@ -128,7 +128,7 @@ fn certified_rows_up_to_128_are_read() {
         let store = |count| store_of((0..count).map(|n| certificate(K1, 1, polarity, &[n])));
         let query = [4, 0, K1, 1, polarity];
         assert_eq!(ask(NOTHING, &query, &store(128)).unwrap().set.listed().len(), 128);
-        assert_eq!(ask(NOTHING, &query, &store(129)), refusal(13, QUERY));
+        assert_eq!(ask(NOTHING, &query, &store(129)), refusal(13, QUERY_PART));
     }
 }
 
@@ -151,7 +151,7 @@ fn a_million_draws_are_the_limit() {
     refuses(&draws_over([100, 100, 100]), 14);
     assert_eq!(alone(&draws_over([100, 99, 100])), answer(Exact, 1_000_000, seven));
     let twice = policy(&[(1, 0, &draws_over([100, 99, 100])), (2, 0, &numbers(1))]);
-    assert_eq!(ask(&twice, &[7, 1, 1, 3, 1, 1, 2, 0, 1, 0, 7], &empty_store()), refusal(14, QUERY));
+    assert_eq!(ask(&twice, &[7, 1, 1, 3, 1, 1, 2, 0, 1, 0, 7], &empty_store()), refusal(14, QUERY_PART));
 }
 
 #[test]
@@ -200,10 +200,10 @@ fn unsound_stores_get_8_and_empty_parts() {
             store[11] = 0; // the same record twice
         }
         assert_eq!(file(&mut store, certificate(K1, 1, 0, &[7])), Filing::Refused(8));
-        assert_eq!(ask(NOTHING, &[1, 0], &store), refusal(8, NEITHER));
+        assert_eq!(ask(NOTHING, &[1, 0], &store), refusal(8, NO_PART));
         assert_eq!(certificates_of(&store, [K1, 1, 0]), 0..0);
     }
-    assert_eq!(ask(NOTHING, &[1, 0], &sound[..16_000]), refusal(8, NEITHER));
+    assert_eq!(ask(NOTHING, &[1, 0], &sound[..16_000]), refusal(8, NO_PART));
     assert!(ask(NOTHING, &[1, 0], &[sound, vec![9; 5]].concat()).is_ok());
 }
 
@@ -216,7 +216,7 @@ fn policies_refused_with_1() {
         long
     }];
     for words in broken {
-        assert_eq!(ask(&words, &[1, 0], &empty_store()), refusal(1, NEITHER));
+        assert_eq!(ask(&words, &[1, 0], &empty_store()), refusal(1, NO_PART));
         assert_eq!(Evaluator::default().part(&words, &[1, 0], 16), Part::Policy(0..0));
     }
 }
@@ -229,13 +229,13 @@ fn policies_refused_with_2() {
     for (place, word) in damage {
         let mut broken = sound.clone();
         broken[place] = word;
-        assert_eq!(ask(&broken, &[1, 0], &empty_store()), refusal(2, NEITHER), "{broken:?}");
+        assert_eq!(ask(&broken, &[1, 0], &empty_store()), refusal(2, NO_PART), "{broken:?}");
     }
     let twice = policy(&[(10, 0, &[1, 0]), (10, 0, &[2, 0])]);
-    assert_eq!(ask(&twice, &[1, 0], &empty_store()), refusal(2, NEITHER));
+    assert_eq!(ask(&twice, &[1, 0], &empty_store()), refusal(2, NO_PART));
     let both = policy(&[(10, 0, &[1, 0]), (10, 1, &[2, 0])]);
     assert!(ask(&both, &[1, 0], &empty_store()).is_ok());
-    assert_eq!(ask(&[1, 0, 0], &[1, 0], &empty_store()), refusal(2, NEITHER));
+    assert_eq!(ask(&[1, 0, 0], &[1, 0], &empty_store()), refusal(2, NO_PART));
 }
 
 #[test]
@@ -300,7 +300,7 @@ fn expressions_refused_with_4() {
     let own = policy(&[(1, 0, &[3, 0])]);
     assert_eq!(ask(&own, &[3, 0], &empty_store()), refusal(4, 0));
     let two = policy(&[(1, 0, &[1, 0]), (2, 0, &[1, 0])]);
-    assert_eq!(ask(&two, &[5, 3, 2, 9], &empty_store()), refusal(4, QUERY));
+    assert_eq!(ask(&two, &[5, 3, 2, 9], &empty_store()), refusal(4, QUERY_PART));
 }
 
 /// Draws of up to four new variables each, `count` in all.
@@ -372,13 +372,13 @@ fn declared_polarity_alone_counts_and_openness_is_passed_on() {
     assert_eq!(verdict(&[3, 0]), Ok(Lower));
     assert_eq!(verdict(&[3, 1]), Ok(Upper));
     assert_eq!(verdict(&[6, 3, 0, 3, 1]), Ok(Lower));
-    assert_eq!(verdict(&[5, 3, 0, 3, 1]), refusal(6, QUERY));
+    assert_eq!(verdict(&[5, 3, 0, 3, 1]), refusal(6, QUERY_PART));
     let from = |expression: &[u32]| [&[7, 1, 1], expression, &[1, 2, 0, 1, 1, 0]].concat();
-    assert_eq!(verdict(&from(&[3, 1])), refusal(7, QUERY));
+    assert_eq!(verdict(&from(&[3, 1])), refusal(7, QUERY_PART));
     assert_eq!(verdict(&from(&[6, 3, 0, 3, 1])), Ok(Lower));
     // complement minus complement is finite and open all the same
-    assert_eq!(verdict(&from(&[6, 2, 0, 2, 0])), refusal(7, QUERY));
-    assert_eq!(verdict(&from(&[5, 1, 0, 2, 0])), refusal(7, QUERY));
+    assert_eq!(verdict(&from(&[6, 2, 0, 2, 0])), refusal(7, QUERY_PART));
+    assert_eq!(verdict(&from(&[5, 1, 0, 2, 0])), refusal(7, QUERY_PART));
 }
 
 #[test]
@@ -388,8 +388,8 @@ fn short_areas_get_11_after_8() {
     let shorter = [Areas { answer: 641, ..Areas::LEAST }, Areas { definitions: 10_271, ..Areas::LEAST }, Areas { scratch: 16_383, ..Areas::LEAST }];
     for areas in shorter {
         let ask = |store: &[u32]| Evaluator::default().query(NOTHING, &[1, 0], store, areas);
-        assert_eq!(ask(&empty_store()), refusal(11, NEITHER));
-        assert_eq!(ask(&unsound), refusal(8, NEITHER));
+        assert_eq!(ask(&empty_store()), refusal(11, NO_PART));
+        assert_eq!(ask(&unsound), refusal(8, NO_PART));
     }
 }
 
@@ -412,7 +412,7 @@ fn values_over_128_rows_get_13() {
     // a name of 129 rows minus all of them
     let store = store_of((0..129).map(|n| certificate(K1, 1, 0, &[n])));
     let minus = [4, 0, K1, 1, 0];
-    assert_eq!(ask(NOTHING, &[&[6], &minus[..], &[2, 0]].concat(), &store), refusal(13, QUERY));
+    assert_eq!(ask(NOTHING, &[&[6], &minus[..], &[2, 0]].concat(), &store), refusal(13, QUERY_PART));
     // a definition that nobody uses
     let unused = policy(&[(1, 0, &[1, 0]), (2, 0, &minus)]);
     assert_eq!(ask(&unused, &[1, 0], &store), refusal(13, 1));

@@ -1,6 +1,7 @@
 //! Mistakes that can be planted in the evaluator, to see that the comparison notices each of them.
 
-use crate::evaluator::{is_key, limited, value, Numbered, Set, Term, MOST_ROWS};
+use crate::evaluator::{is_key, limited, value, Numbered, Set, Term};
+use crate::numbers::{MOST_ROWS, TOO_MANY_ROWS};
 use std::collections::BTreeSet;
 
 /// One mistake. Document 01's "Curators' errors" come first.
@@ -128,7 +129,7 @@ pub fn wrong_list(fault: Option<Fault>, issuer: Term, values: &[u32], set: &Set)
 
 pub fn wrong_union(fault: Option<Fault>, left: &Set, right: &Set) -> Option<Numbered<Set>> {
     match (fault?, left, right) {
-        (Fault::LimitBeforeRepeats, Set::Finite(a), Set::Finite(b)) => (a.len() + b.len() > MOST_ROWS).then_some(Err(13)),
+        (Fault::LimitBeforeRepeats, Set::Finite(a), Set::Finite(b)) => (a.len() + b.len() > MOST_ROWS).then_some(Err(TOO_MANY_ROWS)),
         (Fault::ComplementAndFiniteJoined, Set::Complement(a), Set::Finite(b)) => Some(limited(Set::Complement(a | b))),
         (Fault::ComplementAndFiniteJoined, Set::Finite(a), Set::Complement(b)) => Some(limited(Set::Complement(a | b))),
         _ => None,

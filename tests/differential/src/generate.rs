@@ -3,7 +3,8 @@
 //! Expressions are written by the grammar, with a polarity and openness in mind, so that most are answered and many answers are not empty: keys, names and
 //! atoms come from a small universe. Then single words are changed, words cut off or added, and each limit of document 01 is approached from both sides.
 
-use crate::evaluator::{key, Areas, Record, Row, LAST_NAME, MOST_CERTIFICATES, MOST_VARIABLES, STORE_WORDS};
+use crate::evaluator::{key, Areas, Record, Row};
+use crate::numbers::{LAST_NAME, MOST_CERTIFICATES, MOST_VARIABLES, RECORD_WORDS, STORE_WORDS};
 use crate::random::Random;
 use std::collections::BTreeSet;
 
@@ -240,7 +241,7 @@ fn literal_of(length: usize) -> Vec<u32> {
     let mut words = vec![1, 0];
     while left > 0 {
         // Rows take 3, 5, 7 or 9 words, so that 1, 2 and 4 must not be left.
-        let width = (1..=4).rev().find(|width| left >= 1 + 2 * width && ![1, 2, 4].contains(&(left - 1 - 2 * width)));
+        let width = (1..=4).rev().find(|width| left > 2 * width && ![1, 2, 4].contains(&(left - 1 - 2 * width)));
         let width = width.expect("a literal has 2, 5, 7 or more words");
         words.push(width as u32);
         words.extend([0, left as u32].repeat(width));
@@ -262,8 +263,11 @@ fn draws_from(sources: &[Vec<u32>], head: &[u32]) -> Vec<u32> {
     words
 }
 
-/// The policy's table and parts, from name, polarity and words.
-fn assemble(definitions: &[(u32, u32, Vec<u32>)]) -> Vec<u32> {
+/// Name, polarity and words.
+type Definition = (u32, u32, Vec<u32>);
+
+/// The policy's table and parts.
+fn assemble(definitions: &[Definition]) -> Vec<u32> {
     let mut words = vec![1, definitions.len() as u32];
     let mut offset = 2 + 4 * definitions.len() as u32;
     for (name, polarity, part) in definitions {
@@ -358,13 +362,13 @@ impl Generator {
 
     fn damage(&mut self, store: &mut Vec<u32>) {
         let count = store[0] as usize;
-        let word = if count > 0 { 1 + self.random.below(8 * count) } else { 0 };
-        let record = if count > 1 { 1 + 8 * self.random.below(count - 1) } else { 1 };
+        let word = if count > 0 { 1 + self.random.below(RECORD_WORDS * count) } else { 0 };
+        let record = if count > 1 { 1 + RECORD_WORDS * self.random.below(count - 1) } else { 1 };
         match self.random.below(6) {
             0 => store.truncate(self.random.pick(&[STORE_WORDS - 1, 0, 1, 9, 8_000])),
             1 => store[0] = self.random.pick(&[MOST_CERTIFICATES as u32 + 1, u32::MAX, count as u32 + 1]),
-            2 => store.copy_within(record..record + 8, record + 8), // the same twice
-            3 => (0..8).for_each(|place| store.swap(record + place, record + 8 + place)),
+            2 => store.copy_within(record..record + RECORD_WORDS, record + RECORD_WORDS), // the same twice
+            3 => (0..RECORD_WORDS).for_each(|place| store.swap(record + place, record + RECORD_WORDS + place)),
             4 => store[word] = self.random.pick(&[0, 1, 2, 5, 65_536, u32::MAX]),
             _ => store[word] ^= 1 << self.random.below(32),
         }
@@ -393,10 +397,10 @@ impl Generator {
     /// Words to file: mostly sound, often there already, sometimes any at all.
     fn filed(&mut self, store: &[u32]) -> Vec<u32> {
         let mut words = self.record().to_vec();
-        let records = store.len().saturating_sub(1) / 8;
+        let records = store.len().saturating_sub(1) / RECORD_WORDS;
         if records > 0 && self.random.chance(150) {
-            let start = 1 + 8 * self.random.below(records.min(store[0] as usize).max(1));
-            words = store[start..start + 8].to_vec();
+            let start = 1 + RECORD_WORDS * self.random.below(records.min(store[0] as usize).max(1));
+            words = store[start..start + RECORD_WORDS].to_vec();
         }
         if self.random.chance(200) {
             self.mutate(&mut words);
@@ -453,7 +457,7 @@ impl Generator {
     }
 
     /// Definitions that use earlier ones; each is damaged in so many of a thousand cases.
-    fn definitions(&mut self, count: u32, damaged: u32) -> (Vec<(u32, u32, Vec<u32>)>, Vec<Declared>) {
+    fn definitions(&mut self, count: u32, damaged: u32) -> (Vec<Definition>, Vec<Declared>) {
         let mut definitions = Vec::new();
         let mut declared = Vec::new();
         for d in 0..count {

@@ -6,5 +6,6 @@ pub mod evaluator;
 pub mod faults;
 pub mod generate;
 pub mod library;
+pub mod numbers;
 pub mod random;
 pub mod worlds;

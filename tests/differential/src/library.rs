@@ -1,7 +1,8 @@
 //! The compiled library.
 
 use crate::engine::{Engine, Lent};
-use txindurbe::calls;
+use std::ops::Range;
+use txindurbe::calls::{self, Judgement, Reply};
 
 pub struct Library;
 
@@ -10,19 +11,19 @@ impl Engine for Library {
         calls::file(store, certificate)
     }
 
-    fn query(&self, policy: &[u32], query: &[u32], store: &[u32], lent: Lent) -> u64 {
+    fn query(&self, policy: &[u32], query: &[u32], store: &[u32], lent: Lent) -> Reply {
         calls::query(policy, query, store, lent.answer, lent.definitions, lent.scratch)
     }
 
-    fn judge(&self, policy: &[u32], query: &[u32]) -> u32 {
+    fn judge(&self, policy: &[u32], query: &[u32]) -> Judgement {
         calls::judge(policy, query)
     }
 
-    fn part(&self, policy: &[u32], query: &[u32], number: u32) -> u64 {
+    fn part(&self, policy: &[u32], query: &[u32], number: u32) -> (u32, Range<usize>) {
         calls::part(policy, query, number)
     }
 
-    fn certificates_of(&self, store: &[u32], [key, name, polarity]: [u32; 3]) -> u64 {
+    fn certificates_of(&self, store: &[u32], [key, name, polarity]: [u32; 3]) -> Range<usize> {
         calls::certificates_of(store, key, name, polarity)
     }
 }

@@ -9,8 +9,9 @@
 //!   an expression that is not open, and such an expression has only rows made of those atoms. Rows past the universe (`rest`) are in − names alone.
 
 use crate::engine::{Engine, Lent};
-use crate::evaluator::{key, row_of, value, Areas, Evaluator, Expression, Guard, Judged, Record, Row, Set, Slot, Term, Verdict, STORE_WORDS};
+use crate::evaluator::{key, row_of, value, Areas, Evaluator, Expression, Guard, Judged, Record, Row, Set, Slot, Term, Verdict};
 use crate::generate::{lay_out, Generator, Universe};
+use crate::numbers::{FIRST_KEY, STORE_WORDS};
 use crate::random::Random;
 use std::collections::{BTreeMap, BTreeSet};
 
@@ -69,7 +70,7 @@ fn consistent_worlds<'a>(names: &BTreeSet<Name>, universe: &'a BTreeSet<Row>, ac
     let mut worlds = vec![turned(&|_| false), turned(&|_| true)];
     worlds.extend((0..count).map(|one| turned(&|place| place == one)));
     while worlds.len() < SAMPLE {
-        let chosen = random.next() & random.next();
+        let chosen = random.number() & random.number();
         worlds.push(turned(&|place| chosen >> (place % 64) & 1 == 1));
     }
     worlds
@@ -126,7 +127,7 @@ impl Belonging<'_> {
             Expression::AllBut(rows) => !written(rows),
             Expression::Definition(number) => self.belongs(row, &self.judged.definitions[*number].expression, &[]),
             Expression::List { issuer, name, polarity } => match value(*issuer, values) {
-                number if number < key(0) => *polarity == 1,
+                number if number < FIRST_KEY => *polarity == 1,
                 issuer => self.world.gives([issuer, *name, *polarity], row),
             },
             Expression::Union(left, right) => self.belongs(row, left, values) || self.belongs(row, right, values),
@@ -296,11 +297,11 @@ fn point(engine: &dyn Engine, policy: &[u32], query: &[u32], store: &[u32], acce
     let (mut answer, mut definitions, mut scratch) = (vec![9; answer], vec![9; definitions], vec![9; scratch]);
     let lent = Lent { answer: &mut answer, definitions: &mut definitions, scratch: &mut scratch };
     let reply = engine.query(policy, query, store, lent);
-    let verdict = match (reply & 0xFF, reply >> 16 & 0xFF) {
+    let verdict = match (reply.number, reply.verdict) {
         (0, 0) => Verdict::Exact,
         (0, 1) => Verdict::Lower,
         (0, 2) => Verdict::Upper,
-        _ => return Err(format!("no answer where no refusal applies: {reply:#x}\n  policy {policy:?}\n  query {query:?}")),
+        _ => return Err(format!("no answer where no refusal applies: {reply:?}\n  policy {policy:?}\n  query {query:?}")),
     };
     let answer = Set::from_words(&answer).ok_or("the answer is no sound set")?;
     Ok(Point { accepted: accepted.clone(), verdict, answer })

@@ -1,0 +1,46 @@
+//! Document 01's sizes. Whoever needs one takes it from here.
+
+/// The most atoms of a row.
+pub const MOST_WIDTH: usize = 4;
+/// A row in words: its width, then four atoms, unused ones 0.
+pub const ROW_WORDS: usize = 1 + MOST_WIDTH;
+/// The most rows that a set lists.
+pub const MOST_ROWS: usize = 128;
+/// A set in words: its form, its count, then the rows that it lists.
+pub const SET_WORDS: usize = 2 + ROW_WORDS * MOST_ROWS;
+
+/// A certificate in words: key, name, polarity, then the row.
+pub const CERTIFICATE_WORDS: usize = 3 + ROW_WORDS;
+/// The most certificates that a store holds.
+pub const MOST_CERTIFICATES: usize = 2_000;
+/// A store in words: its count, then the certificates.
+pub const STORE_WORDS: usize = 1 + CERTIFICATE_WORDS * MOST_CERTIFICATES;
+
+/// The most definitions of a policy.
+pub const MOST_DEFINITIONS: usize = 16;
+
+/// The areas that a query is lent.
+pub const ANSWER_WORDS: usize = SET_WORDS;
+pub const DEFINITIONS_WORDS: usize = SET_WORDS * MOST_DEFINITIONS;
+pub const SCRATCH_WORDS: usize = 16_384;
+
+#[cfg(test)]
+mod tests {
+    use super::*;
+
+    #[test]
+    fn the_header_has_the_same() {
+        let header = include_str!("../../../include/txindurbe.h");
+        let sizes = [
+            ("STORE", STORE_WORDS),
+            ("CERTIFICATE", CERTIFICATE_WORDS),
+            ("ANSWER", ANSWER_WORDS),
+            ("DEFINITIONS", DEFINITIONS_WORDS),
+            ("SCRATCH", SCRATCH_WORDS),
+        ];
+        for (name, size) in sizes {
+            let written = format!("TXB_{name}_WORDS = {size}");
+            assert!(header.split([',', '\n']).any(|entry| entry.trim() == written), "{written}");
+        }
+    }
+}

@@ -1,0 +1,159 @@
+//! A portal in Rust: a curator's policies are judged, certificates arrive, and the tables that an astronomer gets follow them.
+//!
+//!     bash run
+//!
+//! What it prints is in `portal.expected`, which was worked out from document 01 by hand.
+
+use txindurbe::{
+    key, Certificate, Definition, Engine, Expression, Filing, Guard, Polarity, Policy, Query, Refusal, Row, Rows, Slot, Store, Table, Term, Verdict,
+};
+
+const OBSERVATORY: u32 = key(1);
+const RELEASED: u16 = 1;
+const WITHDRAWN: u16 = 2;
+/// The name that the policy gives its definition.
+const PUBLIC: u16 = 10;
+const X: Term = Term::Variable(0);
+
+fn released() -> Expression {
+    Expression::list(OBSERVATORY, RELEASED, Polarity::Plus)
+}
+
+/// Certificates say what is not in it.
+fn withdrawn() -> Expression {
+    Expression::list(OBSERVATORY, WITHDRAWN, Polarity::Minus)
+}
+
+fn observations<const COUNT: usize>(numbers: [u32; COUNT]) -> Expression {
+    let rows = numbers.map(|number| [Term::Atom(number)]);
+    Expression::rows(&rows.each_ref().map(|row| row.as_slice()))
+}
+
+/// Each x that is released and absent from what is withdrawn.
+fn policy() -> Policy {
+    let expression = Expression::each(&[Guard::Draw(released(), vec![Slot::New(0)]), Guard::Absent(vec![X], withdrawn())], &[X]);
+    Policy::new(&[Definition { name: PUBLIC, polarity: Polarity::Plus, expression }])
+}
+
+/// Each x that is withdrawn.
+fn refused_policy() -> Policy {
+    let expression = Expression::each(&[Guard::Draw(withdrawn(), vec![Slot::New(0)])], &[X]);
+    Policy::new(&[Definition { name: PUBLIC, polarity: Polarity::Minus, expression }])
+}
+
+struct Portal {
+    policy: Policy,
+    public: Query,
+    not_public: Query,
+    not_under_embargo: Query,
+    store: Store,
+    engine: Engine,
+}
+
+impl Portal {
+    fn new() -> Portal {
+        let (public, catalogue, embargo) = (Expression::definition(0), observations([7, 8, 9]), observations([9]));
+        Portal {
+            policy: policy(),
+            public: Query::new(&public),
+            not_public: Query::new(&catalogue.clone().minus(public)),
+            not_under_embargo: Query::new(&catalogue.minus(embargo)),
+            store: Store::new(),
+            engine: Engine::new(),
+        }
+    }
+
+    fn judge(&self, question: &str, query: &Query) -> Result<(), Refusal> {
+        let verdict = match self.policy.judge(query)? {
+            Verdict::Lower => "lower, at least the rows listed belong, whatever is in the lists that we do not hold",
+            Verdict::Upper => "upper, at most the rows listed belong, whatever is in those lists",
+            Verdict::Exact => "exact, just the rows listed belong",
+        };
+        println!("  what {question}: {verdict}");
+        Ok(())
+    }
+
+    /// The certificate's signature has been checked before.
+    fn arrives(&mut self, certificate: Certificate) -> Result<(), Refusal> {
+        let list = if certificate.name == RELEASED { "released" } else { "withdrawn" };
+        let is = if certificate.polarity == Polarity::Plus { "is" } else { "is not" };
+        print!("{} certifies that {} {is} {list}: ", atom(certificate.key), row(&certificate.row));
+        match self.store.file(&certificate) {
+            Ok(Filing::Filed) => {
+                println!("filed");
+                self.show_tables()?;
+            }
+            Ok(Filing::Held) => println!("held already"),
+            Err(refusal) => println!("{refusal}"),
+        }
+        Ok(())
+    }
+
+    fn show_tables(&mut self) -> Result<(), Refusal> {
+        for (about, query) in [("public", &self.public), ("not public", &self.not_public), ("not under embargo", &self.not_under_embargo)] {
+            let answer = self.engine.query(&self.policy, query, &self.store)?;
+            println!("  {about}, {}", table(&answer.table));
+        }
+        Ok(())
+    }
+}
+
+fn table(table: &Table) -> String {
+    match table {
+        Table::Lower(rows) => format!("at least: {}", listed(rows)),
+        Table::Upper(rows) => format!("at most: {}", listed(rows)),
+        Table::Exact(rows) => format!("exactly: {}", listed(rows)),
+    }
+}
+
+fn listed(rows: &Rows) -> String {
+    let listed = rows.listed().iter().map(row).collect::<Vec<_>>().join(", ");
+    match rows {
+        Rows::Only(rows) if rows.is_empty() => "none".into(),
+        Rows::Only(_) => listed,
+        Rows::AllBut(rows) if rows.is_empty() => "all rows".into(),
+        Rows::AllBut(_) => format!("all rows but {listed}"),
+    }
+}
+
+fn row(row: &Row) -> String {
+    row.atoms().iter().map(|&word| atom(word)).collect::<Vec<_>>().join("/")
+}
+
+fn atom(word: u32) -> String {
+    if word < key(0) {
+        word.to_string()
+    } else {
+        format!("k{}", word - key(0))
+    }
+}
+
+fn main() -> Result<(), Refusal> {
+    let mut portal = Portal::new();
+    println!("The policy: an observation is public if observatory k1 released it and did not withdraw it.");
+    portal.judge("is public", &portal.public)?;
+    portal.judge("of 7, 8 and 9 is not public", &portal.not_public)?;
+    portal.judge("of 7, 8 and 9 is not under embargo", &portal.not_under_embargo)?;
+
+    println!("Another policy goes through k1's withdrawn list, of which certificates say only what is not in it:");
+    let other = refused_policy();
+    if let Err(refusal) = other.judge(&portal.public) {
+        println!("  {refusal}");
+        if let Some(part) = refusal.part {
+            let words = other.part(&portal.public, part).iter().map(|&word| atom(word)).collect::<Vec<_>>();
+            println!("  its words: {}", words.join(" "));
+        }
+    }
+
+    println!("No certificate yet:");
+    portal.show_tables()?;
+    portal.arrives(Certificate::listed(OBSERVATORY, RELEASED, [7]))?;
+    portal.arrives(Certificate::not_listed(OBSERVATORY, WITHDRAWN, [7]))?;
+    portal.arrives(Certificate::listed(OBSERVATORY, RELEASED, [7]))?;
+    portal.arrives(Certificate::listed(5, RELEASED, [8]))?;
+    portal.arrives(Certificate::listed(OBSERVATORY, RELEASED, [8]))?;
+    portal.arrives(Certificate::not_listed(OBSERVATORY, WITHDRAWN, [8]))?;
+    let answer = portal.engine.query(&portal.policy, &Query::new(&withdrawn()), &portal.store)?;
+    println!("Now k1's withdrawn list has, {}", table(&answer.table));
+    Ok(())
+}
