@@ -18,7 +18,9 @@ use Rattle.policy.proofs.Judging.{AcceptedPair, check-accepted}
 use Rattle.meaning.specs.Evidence.{namesHeld}
 use Rattle.meaning.specs.World.{World, AllTrue, Minimal, AboutRows}
 use Rattle.meaning.specs.Belonging.{meanings, BelongsTo}
-use Rattle.meaning.proofs.Claims.{Tidy, Below, Along, along-same}
+use Rattle.meaning.specs.Faithful.{Tidy}
+use Rattle.meaning.specs.Monotone.{Below, Along}
+use Rattle.meaning.proofs.Claims.{along-same}
 use Rattle.meaning.proofs.Proper.{read-tidy}
 use Rattle.meaning.proofs.Faithful.{read-rows}
 use Rattle.meaning.proofs.Monotone.{monotone}

@@ -5,6 +5,6 @@ use Rattle.rows.specs.Word.{All}
 use Rattle.certificates.specs.Filing.{storeAt}
 use Rattle.demands.specs.Query.{queryCall}
 
-pub table : AllHold
+pub all-hold : AllHold
 unfolding Holds cases All storeAt queryCall
-table = (refl, (refl, (refl, (refl, (refl, (refl, (refl, (refl, (refl, (refl, (refl, (refl, tt))))))))))))
+all-hold = (refl, (refl, (refl, (refl, (refl, (refl, (refl, (refl, (refl, (refl, (refl, (refl, tt))))))))))))

@@ -1,12 +1,14 @@
--- Checked definitions, one after the other: the sets read for them are proper and have what the definitions mean, and their meanings follow their
--- declared polarities from world to world.
+-- Checked definitions, one after the other: the sets read for them are tidy and have what the definitions mean, their meanings follow their declared
+-- polarities from world to world, and 12 is not met.
 use Prim.Native.Nat.{ℕ, zero, suc}
 use mathlib.Core.Path.{_≡_, refl, sym, _∙_, ap, subst}
 use mathlib.Core.Logic.{_↔_}
+use mathlib.Core.Bool.{not}
 use mathlib.Core.List.{List, [], _∷_, _++_}
 use native.Mathlib.Omega.{arith}
 use lib.Dec.{T}
 use lib.ListN.{length}
+use Rattle.refusals.specs.RefusalTable.{complementDrawn}
 use Rattle.rows.specs.Word.{All, Words}
 use Rattle.rows.specs.Row.{Row, IsRow}
 use Rattle.rows.specs.Name.{plus}
@@ -18,7 +20,7 @@ use Rattle.policy.specs.Syntax.{Expr}
 use Rattle.policy.specs.Words.{exprWords}
 use Rattle.policy.specs.WellFormed.{Fit}
 use Rattle.policy.specs.Parse.{parse, parsed}
-use Rattle.policy.specs.Polarity.{Known, Verdict}
+use Rattle.policy.specs.Polarity.{Known, drawsClosed, Verdict}
 use Rattle.policy.specs.Table.{Entry, entryWords}
 use Rattle.policy.specs.Checking.{knownOf}
 use Rattle.policy.proofs.Decoding.{parse-words, parse-fits}
@@ -27,10 +29,14 @@ use Rattle.meaning.specs.Evidence.{Evidence}
 use Rattle.meaning.specs.Reading.{Result, done, refused, read}
 use Rattle.meaning.specs.World.{World}
 use Rattle.meaning.specs.Belonging.{Meanings, Belongs, meanings}
-use Rattle.meaning.proofs.Claims.{Tidy, ProperNames, TidySets, Shows, Agree, Below, Along, along-same, Ways}
+use Rattle.meaning.specs.Faithful.{Tidy, ProperNames, TidySets, Shows, Agree}
+use Rattle.meaning.specs.Monotone.{Below, Along, Ways}
+use Rattle.meaning.specs.Closed.{IsFinite, FiniteNames, FiniteSets}
+use Rattle.meaning.proofs.Claims.{along-same}
 use Rattle.meaning.proofs.Proper.{read-tidy}
 use Rattle.meaning.proofs.Faithful.{read-rows}
 use Rattle.meaning.proofs.Monotone.{monotone}
+use Rattle.meaning.proofs.Closed.{closed-finite, never-12}
 use Rattle.demands.specs.Query.{Outcome, answered, readFrom}
 use Rattle.demands.specs.Query as Query
 
@@ -119,6 +125,35 @@ module _ (names : Evidence) (W : World) (shows : Shows names W) (proper : Proper
           let g : Query.refused n (length sets) ≡ answered w j S = rw (f, readFrom) at h in
           let z : _≡_ {A = ℕ} 0 1 = cc in absurd (omega arith)
 
+finite-snoc : (ks : List Known) (sets : List RowSet) → length ks ≡ length sets → FiniteSets ks sets → (k : Known) (s : RowSet) → (T (not (k .isOpen)) → IsFinite s) →
+    FiniteSets (ks ++ (k ∷ [])) (sets ++ (s ∷ []))
+finite-snoc [] [] m f k s h zero t = h t
+finite-snoc [] [] m f k s h (suc d) t = f d t
+finite-snoc [] (y ∷ sets) m f k s h d t = absurd (omega arith)
+finite-snoc (x ∷ ks) [] m f k s h d t = absurd (omega arith)
+finite-snoc (x ∷ ks) (y ∷ sets) m f k s h zero t = f zero t
+finite-snoc (x ∷ ks) (y ∷ sets) m f k s h (suc d) t = finite-snoc ks sets (omega arith) (λ c u. f (suc c) u) k s h d t
+
+-- the definitions, then the query, draw from nothing open: 12 is not met in any of them
+module _ (names : Evidence) (finite : FiniteNames names) (policy : List ℕ) (q : Expr) (v : Verdict) (part : ℕ) where
+  pub reads-not-12 : {xs : List Entry} {ks ls : List Known} {es : List Expr} → Accepted policy xs ks es ls → T (drawsClosed q ls) → (sets : List RowSet) (k : ℕ) →
+      length ks ≡ length sets → FiniteSets ks sets → ¬ (readFrom names es q v sets k ≡ Query.refused complementDrawn part)
+  unfolding readFrom knownOf
+  reads-not-12 (none {ks = ks}) closed sets k m f h = go (read names sets q [] k) refl h
+    where
+      go : (a : Result RowSet) → read names sets q [] k ≡ a →
+          (elim a as (λ c. Outcome) [ done s j ↦ answered v j s | refused n ↦ Query.refused n 16 ]) ≡ Query.refused complementDrawn part → ⊥
+      go (done s j) e g = let z : _≡_ {A = ℕ} 0 1 = cc in absurd (omega arith)
+      go (refused n) e g = let z : n ≡ complementDrawn = cc in never-12 names finite sets ks f q closed [] k (e ∙ ap refused z)
+  reads-not-12 (one {x = x} {ks = ks} {e = e} {es = es} a rest) closed sets k m f h =
+      go (λ s i g l. reads-not-12 rest closed (sets ++ (s ∷ [])) i (length-snoc ks (knownOf x e ks) ∙ ap suc m ∙ sym (length-snoc sets s)) g l) (read names sets e [] k) refl h
+    where
+      go : ((s : RowSet) (i : ℕ) → FiniteSets (ks ++ (knownOf x e ks ∷ [])) (sets ++ (s ∷ [])) → ¬ (readFrom names es q v (sets ++ (s ∷ [])) i ≡ Query.refused complementDrawn part)) →
+          (b : Result RowSet) → read names sets e [] k ≡ b →
+          (elim b as (λ c. Outcome) [ done s i ↦ readFrom names es q v (sets ++ (s ∷ [])) i | refused n ↦ Query.refused n (length sets) ]) ≡ Query.refused complementDrawn part → ⊥
+      go ih (done s i) d l = ih s i (finite-snoc ks sets m f (knownOf x e ks) s (λ t. closed-finite names finite sets ks f e t [] k s i d)) l
+      go ih (refused n) d l = let z : n ≡ complementDrawn = cc in never-12 names finite sets ks f e (a .closed) [] k (d ∙ ap refused z)
+
 -- before the first definition
 pub none-agree : Agree [] []
 unfolding has
@@ -127,3 +162,7 @@ none-agree d r i = iff-refl
 pub none-tidy : TidySets []
 unfolding listing
 none-tidy d = record { proper = none-proper; few = omega arith }
+
+pub none-finite : FiniteSets [] []
+unfolding IsFinite
+none-finite d t = tt

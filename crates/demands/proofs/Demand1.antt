@@ -1,8 +1,8 @@
 -- Demand 1 holds.
 use Prim.Native.Nat.{ℕ}
-use mathlib.Core.Path.{_≡_, ap, subst}
+use mathlib.Core.Path.{_≡_, refl, _∙_, ap, subst}
 use mathlib.Core.Bool.{true, false}
-use mathlib.Core.List.{List}
+use mathlib.Core.List.{List, []}
 use native.Mathlib.Omega.{arith}
 use lib.ListN.{length}
 use borrow.Author.Tests.{lt-ltb, le-ltb}
@@ -13,10 +13,14 @@ use Rattle.certificates.specs.Store.{capacity, records, soundStore}
 use Rattle.certificates.specs.Filing.{FilingReply, refused, replyGiven, fileReply, storeBy, storeAfter}
 use Rattle.certificates.proofs.Sound.{records-length, sound-store}
 use Rattle.certificates.proofs.Filings.{listed, not-listed, Replied, unsound, known, full, new, replied}
-use Rattle.demands.specs.Query.{Call, queryCall, answerArea}
+use Rattle.policy.proofs.Judging.{check-accepted}
+use Rattle.meaning.specs.Evidence.{namesHeld}
+use Rattle.meaning.proofs.Closed.{held-finite}
+use Rattle.demands.specs.Query.{Outcome, Call, queryCall, answerArea, drawsOf}
 use Rattle.demands.specs.Query as Query
 use Rattle.demands.specs.Demand1.{Filing, eight, nine, isHeld, ten, isNew, Theorem}
-use Rattle.demands.proofs.Outcome.{call-declined}
+use Rattle.demands.proofs.Definitions.{reads-not-12, none-finite}
+use Rattle.demands.proofs.Outcome.{call-declined, call-alike}
 
 module _ (store w : List ℕ) where
   given : soundStore store ≡ true → {r : FilingReply} → Replied (records store) w r → Filing store w r
@@ -67,9 +71,17 @@ unfolding answerArea
 answer-stays store c n part e = ap (λ o. answerArea o (c .answer)) e
 
 pub demand-1 : Theorem
+unfolding drawsOf
 demand-1 = record {
   filing = λ store w r. (λ e. subst (Filing store w) e (why store w), λ f. so store w f);
   storeStays = store-stays;
   query = call-declined;
   answerStays = answer-stays;
+  noDraws = λ store c n part e. ap drawsOf e;
+  never12 = λ policy query es q v passes cs part.
+      let a = check-accepted policy query es q v passes in
+      reads-not-12 (namesHeld cs) (held-finite cs) policy q v part (a .definitions) (a .asked .closed) [] 0 refl none-finite;
+  earlierWords = λ store c d a.
+      let e = call-alike store c d (a .policy) (a .query) (a .room) in
+      (e, ap (λ (o : Outcome). answerArea o (c .answer)) e ∙ ap (answerArea (queryCall store d)) (a .answer));
 }

@@ -14,9 +14,9 @@ use Rattle.certificates.specs.Store.{records, certificates}
 use Rattle.certificates.proofs.Sound.{AllSound, about-row, records-words, sound-store}
 use Rattle.policy.specs.Polarity.{Verdict}
 use Rattle.policy.proofs.Judging.{judge-checked}
-use Rattle.meaning.specs.Evidence.{namesHeld}
+use Rattle.meaning.specs.Evidence.{Evidence, namesHeld}
 use Rattle.meaning.specs.World.{AboutRows}
-use Rattle.meaning.proofs.Claims.{Tidy}
+use Rattle.meaning.specs.Faithful.{Tidy}
 use Rattle.meaning.proofs.Minimal.{minimal, minimal-is}
 use Rattle.demands.specs.Query.{answered, Call, answerArea}
 use Rattle.demands.specs.Demand2.{CallWords, LaidOut, Answer, Theorem}
@@ -29,8 +29,11 @@ records-about rs sound words c i =
     let t = map-∈ certificateOf rs c .0 i in
     subst (λ (d : Certificate). IsRow (d .row)) (sym (t .2)) (about-row (t .0) (all-in _ rs sound (t .0) (t .1)) (all-in Words rs words (t .0) (t .1)))
 
+pub answer-is : (names : Evidence) (c : Call) (v : Verdict) (k : ℕ) (S : RowSet) → AnsweredBy names c v k S → Answer names c v k S
+answer-is names c v k S a = record { verdictIs = judge-checked (c .policy) (c .query) v .1 (a .es, a .q, a .passes); isRead = (a .es, a .q, a .passes, a .reads) }
+
 module _ (cs : List Certificate) (about : AboutRows cs) (c : Call) (w : CallWords c) (v : Verdict) (k : ℕ) (S : RowSet) (a : AnsweredBy (namesHeld cs) c v k S) where
-  laid-out : LaidOut (c .answer) (answerArea (answered v k S) (c .answer)) S
+  pub laid-out : LaidOut (c .answer) (answerArea (answered v k S) (c .answer)) S
   unfolding answerArea written
   laid-out =
       let t : Tidy S = answer-tidy c w (a .es) (a .q) v (a .passes) cs about v k S (a .reads) in
@@ -40,13 +43,6 @@ module _ (cs : List Certificate) (about : AboutRows cs) (c : Call) (w : CallWord
         reads = written-reads S (c .answer) (t .proper .rows);
       }
 
-  pub answer-is : Answer (namesHeld cs) c v k S
-  answer-is = record {
-    verdictIs = judge-checked (c .policy) (c .query) v .1 (a .es, a .q, a .passes);
-    isRead = (a .es, a .q, a .passes, a .reads);
-    laidOut = laid-out;
-  }
-
 pub demand-2 : Theorem
 unfolding certificates
 demand-2 store words c w v k S h =
@@ -55,7 +51,8 @@ demand-2 store words c w v k S h =
     let about : AboutRows cs = records-about (records store) (sound-store store sound .each) (records-words store words) in
     let a = answered-by (namesHeld cs) c v k S (sym (call-reads store (namesHeld cs) sound refl c) ∙ h) in
     record {
-      answer = answer-is cs about c w v k S a;
+      answer = answer-is (namesHeld cs) c v k S a;
+      laidOut = laid-out cs about c w v k S a;
       rows = λ W least r i. rw (in-query c (a .es) (a .q) v (a .passes) W r) (in-minimal c w (a .es) (a .q) v (a .passes) cs about W least v k S (a .reads) r i);
       model = (minimal cs about, minimal-is cs about);
     }

@@ -65,6 +65,17 @@ call-reads store names sound same c = go (check (c .policy) (c .query)) refl
     go (Checking.refused n part) f = rw (f, queryCall, outcomeFrom)
     go (checked es q v) f = rw (f, sound, queryCall) (ap (λ (held : Evidence). outcomeFrom held c) same)
 
+-- of the areas a call depends on whether they are long enough
+pub call-alike : (store : List ℕ) (c d : Call) → c .policy ≡ d .policy → c .query ≡ d .query → roomy c ≡ roomy d → queryCall store c ≡ queryCall store d
+unfolding queryCall outcomeFrom
+call-alike store c d p q r = go (check (d .policy) (d .query)) refl
+  where
+    go : (k : Checked) → check (d .policy) (d .query) ≡ k → queryCall store c ≡ queryCall store d
+    go (Checking.refused n part) f = let g : check (c .policy) (c .query) ≡ Checking.refused n part = rw (p, q) f in rw (f, g, queryCall)
+    go (checked es e v) f =
+        let g : check (c .policy) (c .query) ≡ checked es e v = rw (p, q) f in
+        rw (f, g, queryCall) (ap (λ (o : Outcome). elim (soundStore store) as (λ x. Outcome) [ false ↦ Query.refused badStore noPart | true ↦ o ]) (rw (f, g, r, outcomeFrom)))
+
 -- an answered call: the policy and the query passed, the areas are long enough, and the reading was done
 pub record AnsweredBy (names : Evidence) (c : Call) (w : Verdict) (k : ℕ) (S : RowSet) : Type 0 where
   pub es : List Expr

@@ -5,14 +5,17 @@ use Prim.Native.Nat.{ℕ, _<_}
 use mathlib.Core.Path.{_≡_}
 use mathlib.Core.Logic.{_↔_}
 use mathlib.Core.Bool.{true, false}
-use mathlib.Core.List.{List}
-use Rattle.refusals.specs.RefusalTable.{badStore, badCertificate, storeFull}
+use mathlib.Core.List.{List, []}
+use Rattle.refusals.specs.RefusalTable.{badStore, badCertificate, storeFull, complementDrawn}
 use Rattle.rows.specs.Ordered.{_∈_}
-use Rattle.certificates.specs.Certificate.{soundRecord}
+use Rattle.certificates.specs.Certificate.{Certificate, soundRecord}
 use Rattle.certificates.specs.Store.{capacity, countOf, records, soundStore, certificates}
 use Rattle.certificates.specs.Filing.{FilingReply, filed, held, refused, fileReply, storeAfter}
+use Rattle.policy.specs.Syntax.{Expr}
+use Rattle.policy.specs.Polarity.{Verdict}
+use Rattle.policy.specs.Checking.{checked, check}
 use Rattle.meaning.specs.Evidence.{namesHeld}
-use Rattle.demands.specs.Query.{Call, queryCall, answerArea}
+use Rattle.demands.specs.Query.{readFrom, roomy, Call, queryCall, answerArea, drawsOf}
 use Rattle.demands.specs.Query as Query
 use Rattle.demands.specs.Refusal.{Refusal}
 
@@ -24,6 +27,13 @@ pub data Filing (store w : List ℕ) : FilingReply → Type 0 where
   ten : soundStore store ≡ true → soundRecord w ≡ true → (¬ (w ∈ records store)) → countOf store ≡ capacity → Filing store w (refused storeFull)
   isNew : soundStore store ≡ true → soundRecord w ≡ true → (¬ (w ∈ records store)) → countOf store < capacity → Filing store w filed
 
+-- two calls alike but for what the definition and scratch areas hold; and both have areas long enough, or neither has
+pub record Alike (c d : Call) : Type 0 where
+  pub policy : c .policy ≡ d .policy
+  pub query : c .query ≡ d .query
+  pub answer : c .answer ≡ d .answer
+  pub room : roomy c ≡ roomy d
+
 pub record Theorem : Type 0 where
   -- each reply to a filing is given exactly where it applies, and a refused filing leaves the store unchanged
   pub filing : (store w : List ℕ) (r : FilingReply) → (fileReply store w ≡ r) ↔ Filing store w r
@@ -31,3 +41,11 @@ pub record Theorem : Type 0 where
   -- each refusal of a query is met exactly where it applies, and a refused query leaves the answer area unchanged
   pub query : (store : List ℕ) (c : Call) (n part : ℕ) → (queryCall store c ≡ Query.refused n part) ↔ Refusal (soundStore store) (namesHeld (certificates store)) c n part
   pub answerStays : (store : List ℕ) (c : Call) (n part : ℕ) → queryCall store c ≡ Query.refused n part → answerArea (queryCall store c) (c .answer) ≡ c .answer
+  -- "draws are 0"
+  pub noDraws : (store : List ℕ) (c : Call) (n part : ℕ) → queryCall store c ≡ Query.refused n part → drawsOf (queryCall store c) ≡ 0
+  -- 12 is never met: what passed the checks draws only from what is not open, and that is read as a finite set, whatever is held
+  pub never12 : (policy query : List ℕ) (es : List Expr) (q : Expr) (v : Verdict) → check policy query ≡ checked es q v → (cs : List Certificate) (part : ℕ) →
+      ¬ (readFrom (namesHeld cs) es q v [] 0 ≡ Query.refused complementDrawn part)
+  -- "no result depends on their earlier words": those of the definition area and of the scratch area
+  pub earlierWords : (store : List ℕ) (c d : Call) → Alike c d →
+      (queryCall store c ≡ queryCall store d) × (answerArea (queryCall store c) (c .answer) ≡ answerArea (queryCall store d) (d .answer))

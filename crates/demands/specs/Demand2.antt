@@ -31,21 +31,21 @@ unfoldable pub InQuery : Call → World → Row → Type 0
 unfolding check BelongsTo
 InQuery c W r = elim (check (c .policy) (c .query)) [ checked es q v ↦ BelongsTo W es q r | refused n part ↦ ⊥ ]
 
--- the answer's layout: its words are a sound set, that of the answer, and past them the area is as it was
+-- an answer: the verdict is the judgement's, the set (its form too) and the draws are those of reading from these names
+pub record Answer (names : Evidence) (c : Call) (v : Verdict) (k : ℕ) (S : RowSet) : Type 0 where
+  pub verdictIs : judge (c .policy) (c .query) ≡ verdict v
+  pub isRead : (es : List Expr) × (q : Expr) × (check (c .policy) (c .query) ≡ checked es q v) × (readFrom names es q v [] 0 ≡ answered v k S)
+
+-- its layout: the words are a sound set, that of the answer, and past them the area is as it was
 pub record LaidOut (area now : List ℕ) (S : RowSet) : Type 0 where
   pub words : now ≡ setWords S ++ drop (2 + 5 * length (listing S)) area
   pub sound : soundSet now ≡ true
   pub reads : setIn now ≡ S
 
--- an answer: the verdict is the judgement's, the set (its form too) and the draws are those of reading from these names
-pub record Answer (names : Evidence) (c : Call) (v : Verdict) (k : ℕ) (S : RowSet) : Type 0 where
-  pub verdictIs : judge (c .policy) (c .query) ≡ verdict v
-  pub isRead : (es : List Expr) × (q : Expr) × (check (c .policy) (c .query) ≡ checked es q v) × (readFrom names es q v [] 0 ≡ answered v k S)
-  pub laidOut : LaidOut (c .answer) (answerArea (answered v k S) (c .answer)) S
-
 -- and its rows are those that belong to the query in the minimal model, which there is
 pub record Demand2 (store : List ℕ) (c : Call) (v : Verdict) (k : ℕ) (S : RowSet) : Type 1 where
   pub answer : Answer (namesHeld (certificates store)) c v k S
+  pub laidOut : LaidOut (c .answer) (answerArea (answered v k S) (c .answer)) S
   pub rows : (W : World) → Minimal (certificates store) W → (r : Row) → IsRow r → T (has S r) ↔ InQuery c W r
   pub model : (W : World) × Minimal (certificates store) W
 

@@ -10,7 +10,7 @@ use Prim.Native.Nat.{ℕ, _+_, _*_}
 use mathlib.Core.Path.{_≡_}
 use mathlib.Core.Logic.{_↔_}
 use mathlib.Core.Bool.{true}
-use mathlib.Core.List.{List, _∷_, _++_, map}
+use mathlib.Core.List.{List, [], _∷_, _++_, map}
 use lib.Dec.{T}
 use lib.ListN.{length, drop}
 use Rattle.rows.specs.Word.{All, Words}
@@ -19,17 +19,16 @@ use Rattle.rows.specs.Row.{Row, IsRow}
 use Rattle.rows.specs.Sets.{RowSet, has}
 use Rattle.certificates.specs.Certificate.{Certificate, recordWords, certificateOf}
 use Rattle.certificates.specs.Store.{countOf, records, soundStore}
-use Rattle.certificates.specs.Filing.{replyGiven, fileReply, storeAt, accepted}
+use Rattle.certificates.specs.Filing.{replyGiven, fileReply, storeAfter, storeAt, accepted}
 use Rattle.policy.specs.Polarity.{Verdict, exact, lower, upper}
 use Rattle.meaning.specs.Evidence.{namesHeld}
 use Rattle.meaning.specs.World.{World, AllTrue}
-use Rattle.demands.specs.Query.{answered, refused, Call, queryCall}
+use Rattle.demands.specs.Query.{answered, refused, Call, queryCall, answerArea}
 use Rattle.demands.specs.Refusal.{Refusal}
-use Rattle.demands.specs.Demand2.{CallWords, InQuery, Answer}
+use Rattle.demands.specs.Demand2.{CallWords, InQuery, Answer, LaidOut}
 
 -- "An empty store is a sound one with the count 0, whatever words follow."
 pub record EmptyStore (store : List ℕ) : Type 0 where
-  pub words : Words store
   pub sound : soundStore store ≡ true
   pub none : countOf store ≡ 0
 
@@ -42,6 +41,27 @@ pub record Point (filings : List (List ℕ)) : Type 0 where
 pub record Earlier {filings : List (List ℕ)} (p q : Point filings) : Type 0 where
   pub between : List (List ℕ)
   pub reached : q .passed ≡ p .passed ++ between
+
+-- what a portal does with the store: it files words, or asks a query
+pub data Event : Type 0 where
+  files : List ℕ → Event
+  asks : Call → Event
+
+-- the store that a call leaves, as the contracts of `file` and of `query` say
+unfoldable pub storeLeft : Event → List ℕ → List ℕ
+unfolding storeAfter
+storeLeft (files w) store = storeAfter store w
+storeLeft (asks c) store = store
+
+unfoldable pub storeThrough : List ℕ → List Event → List ℕ
+unfolding storeLeft
+storeThrough store [] = store
+storeThrough store (e ∷ events) = storeThrough (storeLeft e store) events
+
+unfoldable pub filingsIn : List Event → List (List ℕ)
+filingsIn [] = []
+filingsIn (files w ∷ events) = w ∷ filingsIn events
+filingsIn (asks c ∷ events) = filingsIn events
 
 -- what the certificates accepted by these filings say
 unfoldable pub heldAfter : List (List ℕ) → List Certificate
@@ -64,7 +84,7 @@ pub record Bounds (cs : List Certificate) (c : Call) (v : Verdict) (S : RowSet) 
 
 -- two answers to one query under one policy, the second at a later point
 pub record Grows (v v′ : Verdict) (S S′ : RowSet) : Type 0 where
-  pub same : v ≡ v′
+  pub sameVerdict : v ≡ v′
   pub lowerGrows : v ≡ lower → (r : Row) → IsRow r → T (has S r) → T (has S′ r)
   pub upperShrinks : v ≡ upper → (r : Row) → IsRow r → T (has S′ r) → T (has S r)
   pub exactStays : v ≡ exact → S ≡ S′
@@ -75,6 +95,8 @@ pub record Demand3 (store : List ℕ) (filings : List (List ℕ)) : Type 1 where
       fileReply (storeAt store (p .passed)) w ≡ replyGiven (accepted (p .passed)) w
   -- the store is sound and holds just what was accepted
   pub holds : (p : Point filings) → StoreHolds store (storeAt store (p .passed)) (p .passed)
+  -- "A query call there reads the store as it then is, and changes nothing in it": whatever is asked between the filings, the store is as they alone leave it
+  pub asked : (p : Point filings) (events : List Event) → filingsIn events ≡ p .passed → storeThrough store events ≡ storeAt store (p .passed)
   -- a call is refused with just the refusals that apply where the store is sound (8 never does) and says what was accepted
   pub refuses : (p : Point filings) (c : Call) (n part : ℕ) →
       (queryCall (storeAt store (p .passed)) c ≡ refused n part) ↔ Refusal true (namesHeld (heldAfter (p .passed))) c n part
@@ -82,17 +104,20 @@ pub record Demand3 (store : List ℕ) (filings : List (List ℕ)) : Type 1 where
   pub answers : (p : Point filings) (c : Call) →
       ((v : Verdict) × (k : ℕ) × (S : RowSet) × (queryCall (storeAt store (p .passed)) c ≡ answered v k S)) ↔
       (¬ ((n : ℕ) × (part : ℕ) × Refusal true (namesHeld (heldAfter (p .passed))) c n part))
-  -- an answer has document 01's verdict and layout, with the set and the draws that reading gives,
-  pub answer : (p : Point filings) (c : Call) → CallWords c → (v : Verdict) (k : ℕ) (S : RowSet) →
+  -- an answer has document 01's verdict, with the set and the draws that reading gives;
+  pub answer : (p : Point filings) (c : Call) (v : Verdict) (k : ℕ) (S : RowSet) →
       queryCall (storeAt store (p .passed)) c ≡ answered v k S → Answer (namesHeld (heldAfter (p .passed))) c v k S
+  -- all that was filed and asked being words, it has document 01's layout
+  pub laidOut : All Words filings → (p : Point filings) (c : Call) → CallWords c → (v : Verdict) (k : ℕ) (S : RowSet) →
+      queryCall (storeAt store (p .passed)) c ≡ answered v k S → LaidOut (c .answer) (answerArea (answered v k S) (c .answer)) S
   -- and the rows that its verdict promises;
-  pub bounds : (p : Point filings) (c : Call) → CallWords c → (v : Verdict) (k : ℕ) (S : RowSet) →
+  pub bounds : All Words filings → (p : Point filings) (c : Call) → CallWords c → (v : Verdict) (k : ℕ) (S : RowSet) →
       queryCall (storeAt store (p .passed)) c ≡ answered v k S → Bounds (heldAfter (p .passed)) c v S
   -- over two points lower answers grow, upper answers shrink, exact answers stay; the areas lent may differ
-  pub later : (p q : Point filings) → Earlier p q → (c d : Call) → CallWords c → c .policy ≡ d .policy → c .query ≡ d .query →
+  pub later : All Words filings → (p q : Point filings) → Earlier p q → (c d : Call) → CallWords c → c .policy ≡ d .policy → c .query ≡ d .query →
       (v v′ : Verdict) (k k′ : ℕ) (S S′ : RowSet) →
       queryCall (storeAt store (p .passed)) c ≡ answered v k S → queryCall (storeAt store (q .passed)) d ≡ answered v′ k′ S′ → Grows v v′ S S′
 
 -- the theorem
 abbrev pub Theorem : Type 1
-Theorem = (store : List ℕ) → EmptyStore store → (filings : List (List ℕ)) → All Words filings → Demand3 store filings
+Theorem = (store : List ℕ) → EmptyStore store → (filings : List (List ℕ)) → Demand3 store filings

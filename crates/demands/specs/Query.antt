@@ -74,3 +74,8 @@ unfoldable pub answerArea : Outcome → List ℕ → List ℕ
 unfolding written
 answerArea (answered v k s) area = written s area
 answerArea (refused n part) area = area
+
+-- "With the number comes the part ..; draws are 0."
+unfoldable pub drawsOf : Outcome → ℕ
+drawsOf (answered v k s) = k
+drawsOf (refused n part) = 0

@@ -28,19 +28,19 @@ use Rattle.engine.specs.Reply.{Replied}
 use Rattle.demands.proofs.Outcome.{call-declined, call-reads}
 
 -- a call that was declined
-declines : (store : List ℕ) (c : Call) (n part : ℕ) → queryCall store c ≡ Query.refused n part → Replied store c (Refused n part) (c .answer)
+declines : (store : List ℕ) (c : Call) (n part : ℕ) → queryCall store c ≡ Query.refused n part → Replied store c (Refused n part) (c .answer) store
 unfolding replyFor answerArea
-declines store c n part e = record { reply = ap replyFor (sym e); area = ap (λ (o : Outcome). answerArea o (c .answer)) (sym e) }
+declines store c n part e = record { reply = ap replyFor (sym e); area = ap (λ (o : Outcome). answerArea o (c .answer)) (sym e); unchanged = refl }
 
-pub refuses-judged : (store : List ℕ) (c : Call) (n part : ℕ) → judge (c .policy) (c .query) ≡ refused n part → Replied store c (Refused n part) (c .answer)
+pub refuses-judged : (store : List ℕ) (c : Call) (n part : ℕ) → judge (c .policy) (c .query) ≡ refused n part → Replied store c (Refused n part) (c .answer) store
 refuses-judged store c n part e = declines store c n part (call-declined store c n part .1 (judged e))
 
 module _ (store : List ℕ) (c : Call) (v : Verdict) (passes : judge (c .policy) (c .query) ≡ verdict v) where
-  pub refuses-store : soundStore store ≡ false → Replied store c (Refused badStore noPart) (c .answer)
+  pub refuses-store : soundStore store ≡ false → Replied store c (Refused badStore noPart) (c .answer) store
   refuses-store s = declines store c badStore noPart (call-declined store c badStore noPart .1 (unsound (judge-checked (c .policy) (c .query) v .0 passes .2) s))
 
   module _ (sound : soundStore store ≡ true) where
-    pub refuses-areas : roomy c ≡ false → Replied store c (Refused shortArea noPart) (c .answer)
+    pub refuses-areas : roomy c ≡ false → Replied store c (Refused shortArea noPart) (c .answer) store
     refuses-areas r = declines store c shortArea noPart (call-declined store c shortArea noPart .1 (short (judge-checked (c .policy) (c .query) v .0 passes .2) sound r))
 
     module _ (room : roomy c ≡ true) where
@@ -59,13 +59,13 @@ module _ (store : List ℕ) (c : Call) (v : Verdict) (passes : judge (c .policy)
           let t = judge-checked (c .policy) (c .query) v .0 passes in
           record { es = t .0; q = t .1; v = v; passes = t .2; sound = sound; room = enough .1; space = enough .2 }
 
-      pub replies : (word : ℕ) → verdictWord v ≡ word → (r : Reply) (answer : List ℕ) → ReadAll store (c .policy) (c .query) word (c .answer) r answer → Replied store c r answer
+      pub replies : (word : ℕ) → verdictWord v ≡ word → (r : Reply) (answer : List ℕ) → ReadAll store (c .policy) (c .query) word (c .answer) r answer → Replied store c r answer store
       unfolding outcomeFrom
       replies word w r answer said =
           let t = judge-checked (c .policy) (c .query) v .0 passes in
           let o : queryCall store c ≡ readFrom (heldIn store) (t .0) (t .1) v [] 0 = call-reads store (heldIn store) sound refl c ∙ rw (t .2, room, outcomeFrom) in
           let s = said .means (t .0) (t .1) v (t .2) w in
-          record { reply = s .0 ∙ ap replyFor (sym o); area = s .1 ∙ ap (λ (x : Outcome). answerArea x (c .answer)) (sym o) }
+          record { reply = s .0 ∙ ap replyFor (sym o); area = s .1 ∙ ap (λ (x : Outcome). answerArea x (c .answer)) (sym o); unchanged = refl }
 
 -- what a judgement in hand says
 pub verdict-in : (j : JudgementReply) (word : ℕ) → judgement.Verdict word ≡ judgementFor j → (v : Verdict) × (j ≡ verdict v) × (verdictWord v ≡ word)

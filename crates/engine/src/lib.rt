@@ -47,7 +47,7 @@ pub fn query<'a>(
     definitions: &mut [u32],
     scratch: &mut [u32],
 ) -> Reply
-    ensures { λ r. ⌜ Replied (now (store .entry)) (record { policy = now (policy .entry); query = now (query .entry); answer = now (answer .entry); definitions = now (definitions .entry); scratch = now (scratch .entry) }) r (now (answer .exit)) ⌝ }
+    ensures { λ r. ⌜ Replied (now (store .entry)) (record { policy = now (policy .entry); query = now (query .entry); answer = now (answer .entry); definitions = now (definitions .entry); scratch = now (scratch .entry) }) r (now (answer .exit)) (now (store .exit)) ⌝ }
 {
     match judge(policy, query) {
         Judgement::Refused { number, part } => Reply::Refused { number, part },

@@ -20,8 +20,9 @@ use Rattle.policy.specs.Polarity.{Known, openExpr, drawsClosed, guardsClosed}
 use Rattle.meaning.specs.Values.{Values, value, rowOf}
 use Rattle.meaning.specs.Evidence.{Evidence, certified, namesHeld}
 use Rattle.meaning.specs.Reading.{Result, done, refused, Reading, after, within, drawable, tick, match, onMatch, drawEach, read, gather}
+use Rattle.meaning.specs.Closed.{IsFinite, FiniteNames, FiniteSets, Not12, ReadFinite, Never12, Theorem}
 use Rattle.meaning.proofs.Steps.{done-value, refused-number, not-refused, after-done, after-refused, small-done}
-use Rattle.meaning.proofs.Claims.{IsFinite, FiniteNames, FiniteSets, Not12, give-not, refuse-not, either-not, small-not}
+use Rattle.meaning.proofs.Claims.{give-not, refuse-not, either-not, small-not}
 use Rattle.meaning.proofs.Leaf.{leaf-finite, leaf-not-12}
 
 pub held-finite : (cs : List Certificate) → FiniteNames (namesHeld cs)
@@ -87,7 +88,7 @@ module _ (rest : Values → List Row → Reading (List Row)) (fine : (vs : Value
 
 module _ (names : Evidence) (finiteNames : FiniteNames names) (sets : List RowSet) (ks : List Known)
     (finiteSets : FiniteSets ks sets) where
-  pub closed-finite : (e : Expr) → T (not (openExpr e ks)) → (vs : Values) (k : ℕ) (s : RowSet) (j : ℕ) → read names sets e vs k ≡ done s j → IsFinite s
+  pub closed-finite : (e : Expr) → ReadFinite names sets ks e
   unfolding openExpr read IsFinite
   closed-finite (leaf x) t vs k s j q = leaf-finite names finiteNames sets ks finiteSets x t vs k s j q
   closed-finite (union a b) t vs k s j q =
@@ -108,7 +109,7 @@ module _ (names : Evidence) (finiteNames : FiniteNames names) (sets : List RowSe
   mutual
     unfolding drawsClosed read
 
-    pub never-12 : (e : Expr) → T (drawsClosed e ks) → (vs : Values) → Not12 (read names sets e vs)
+    pub never-12 : (e : Expr) → Never12 names sets ks e
     never-12 (leaf x) t vs = leaf-not-12 names sets x vs
     never-12 (union a b) t vs =
         after-not (read names sets a vs) _ (never-12 a (T-left (drawsClosed a ks) (drawsClosed b ks) t) vs) (λ k x j q.
@@ -131,3 +132,6 @@ module _ (names : Evidence) (finiteNames : FiniteNames names) (sets : List RowSe
     guards-never-12 (absent h e rest) t vs acc =
         after-not (read names sets e vs) _ (never-12 e (T-left (drawsClosed e ks) (guardsClosed rest ks) t) vs) (λ k s j q.
         either-not (has s (rowOf vs h)) _ _ (give-not acc) (guards-never-12 rest (T-right (drawsClosed e ks) (guardsClosed rest ks) t) vs acc))
+
+pub theorem : Theorem
+theorem = record { finite = closed-finite; never12 = never-12; held = held-finite }

@@ -16,8 +16,9 @@ use Rattle.policy.specs.Polarity.{Known, hasPolarity, guardsHave}
 use Rattle.meaning.specs.Values.{Values, value, rowOf}
 use Rattle.meaning.specs.Evidence.{Evidence}
 use Rattle.meaning.specs.Reading.{done, Reading, after, within, drawable, tick, match, onMatch, drawEach, read, gather}
+use Rattle.meaning.specs.Exact.{Steady, ReadAlike, Theorem}
 use Rattle.meaning.proofs.Steps.{after-done, after-same, either, within-done, drawable-done}
-use Rattle.meaning.proofs.Claims.{Steady, give-steady, small-steady}
+use Rattle.meaning.proofs.Claims.{give-steady, small-steady}
 use Rattle.meaning.proofs.Leaf.{leaf-same, leaf-steady}
 
 -- two ways to read the guards that follow, the same on every row
@@ -42,7 +43,7 @@ module _ (names names′ : Evidence) (sets sets′ : List RowSet) (ks : List Kno
   mutual
     unfolding hasPolarity read
 
-    pub read-same : (e : Expr) → T (hasPolarity e ks plus) → T (hasPolarity e ks minus) → (vs : Values) (k : ℕ) → read names sets e vs k ≡ read names′ sets′ e vs k
+    pub read-same : (e : Expr) → ReadAlike names names′ sets sets′ ks e
     read-same (leaf x) t u vs k = leaf-same names names′ sets sets′ ks x t u vs k
     read-same (union a b) t u vs k =
         after-same (read names sets a vs k) (read names′ sets′ a vs k) _ _
@@ -128,3 +129,6 @@ module _ (names : Evidence) (sets : List RowSet) where
     gather-steady (different x y rest) vs acc = either-steady (eqb (value vs x) (value vs y)) _ _ (give-steady acc) (gather-steady rest vs acc)
     gather-steady (absent r e rest) vs acc =
         after-steady (read names sets e vs) _ (read-steady e vs) (λ s. either-steady (has s (rowOf vs r)) _ _ (give-steady acc) (gather-steady rest vs acc))
+
+pub theorem : Theorem
+theorem = record { alike = read-same; steady = read-steady }

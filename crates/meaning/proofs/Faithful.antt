@@ -1,5 +1,4 @@
--- What is read is what belongs: where the evidence shows a world's lists, a set that is read has just the rows that belong to the expression in
--- that world.
+-- What is read is what belongs.
 use Prim.Native.Nat.{ℕ, suc, _+_}
 use mathlib.Core.Path.{_≡_, refl, sym, _∙_, ap, subst}
 use mathlib.Core.Logic.{_⊎_, inl, inr, _↔_}
@@ -27,11 +26,13 @@ use Rattle.meaning.specs.Evidence.{Evidence}
 use Rattle.meaning.specs.Reading.{done, Reading, drawable, tick, match, onMatch, drawEach, read, gather}
 use Rattle.meaning.specs.World.{World}
 use Rattle.meaning.specs.Belonging.{fill, Matches, Meanings, Belongs, Passes}
+use Rattle.meaning.specs.Faithful.{Tidy, ProperNames, TidySets, Shows, Agree, WheneverRead, JustThose, Theorem}
 use Rattle.meaning.proofs.Steps.{done-value, after-done, either, small-done, within-done, drawable-done}
 use Rattle.meaning.proofs.Rows.{row-of-terms, match-words}
-use Rattle.meaning.proofs.Claims.{Tidy, ProperNames, TidySets, Shows, Agree, has-by}
+use Rattle.meaning.proofs.Claims.{has-by}
 use Rattle.meaning.proofs.Leaf.{leaf-rows}
 use Rattle.meaning.proofs.Proper.{read-tidy}
+use Rattle.meaning.proofs.Minimal.{held-names-proper, held-shows}
 
 -- a pattern matches a row by `match` just where it does by `Matches`
 record Bound (p : List Slot) (vs : Values) (x : Row) (ws : Values) : Type 0 where
@@ -144,11 +145,8 @@ none-first xs r A h = h then (λ t. elim t [ inl a ↦ absurd a | inr b ↦ b ],
 
 module _ (names : Evidence) (W : World) (shows : Shows names W) (properNames : ProperNames names)
     (sets : List RowSet) (D : Meanings) (agree : Agree sets D) (tidySets : TidySets sets) where
-  abbrev Rows : RowSet → Expr → Values → Type 0
-  Rows s e vs = (r : Row) → IsRow r → T (has s r) ↔ Belongs W D e vs r
-
   -- what a draw finds is what passes
-  drawn-iff : (e : Expr) (p : List Slot) (rest : Body) (vs : Values) (xs : List Row) → All IsRow xs → Rows (only xs) e vs → (r : Row) →
+  drawn-iff : (e : Expr) (p : List Slot) (rest : Body) (vs : Values) (xs : List Row) → All IsRow xs → JustThose W D e vs (only xs) → (r : Row) →
       Drawn (Passes W D rest) p vs xs r ↔ Passes W D (draw e p rest) vs r
   unfolding Passes
   drawn-iff e p rest vs xs rows h r = (to, from)
@@ -166,7 +164,7 @@ module _ (names : Evidence) (W : World) (shows : Shows names W) (properNames : P
   mutual
     unfolding read Belongs Fit exprWords bodyWords All
 
-    pub read-rows : (e : Expr) (m n : ℕ) → Fit m n e → Words (exprWords e n) → (vs : Values) → Words vs → (k : ℕ) (s : RowSet) (j : ℕ) → read names sets e vs k ≡ done s j → Rows s e vs
+    pub read-rows : (e : Expr) → WheneverRead names sets e (JustThose W D e)
     read-rows (leaf x) m n f t vs w k s j q r i = leaf-rows names W shows sets D agree x vs k s j q r i
     read-rows (union a b) m n f t vs w k s j q r i =
         let x = after-done (read names sets a vs k) _ s j q in
@@ -196,7 +194,7 @@ module _ (names : Evidence) (W : World) (shows : Shows names W) (properNames : P
         let g : x .value ≡ only (y .value) = drawable-done (x .value) (y .value) (x .draws) (y .draws) (y .first) in
         let v = all-left IsWord (exprWords e n) _ (t .1) in
         let u = all-right IsWord (exprWords e n) _ (t .1) in
-        let h : Rows (only (y .value)) e vs = subst (λ (z : RowSet). Rows z e vs) g (λ z l. read-rows e m n (f .0) v vs w k (x .value) (x .draws) (x .first) z l) in
+        let h : JustThose W D e vs (only (y .value)) = subst (JustThose W D e vs) g (λ z l. read-rows e m n (f .0) v vs w k (x .value) (x .draws) (x .first) z l) in
         let o : Tidy (only (y .value)) = subst Tidy g (read-tidy names sets properNames tidySets e m n (f .0) v vs w k (x .value) (x .draws) (x .first)) in
         draws-add (λ ws more. gather names sets rest ws more) (Passes W D rest)
         (λ ws v′ acc′ k′ found′ j′ q′ r′ i′. gather-rows rest m (n + fresh p) (f .2) (all-right IsWord (slotWords n p) _ (u .1)) ws v′ acc′ k′ found′ j′ q′ r′ i′)
@@ -215,3 +213,6 @@ module _ (names : Evidence) (W : World) (shows : Shows names W) (properNames : P
         (read-rows e m n (f .1) (all-left IsWord (exprWords e n) _ u) vs w k (x .value) (x .draws) (x .first) (rowOf vs h)
         (row-of-terms n vs w h (f .0) (all-left IsWord (termRowWords h) _ (t .1))))
         (λ g. gather-rows rest m n (f .2) (all-right IsWord (exprWords e n) _ u) vs w acc (x .draws) found j g r i) (x .rest)
+
+pub theorem : Theorem
+theorem = record { tidy = read-tidy; rows = read-rows; proper = held-names-proper; shows = held-shows }

@@ -10,12 +10,12 @@ use Rattle.rows.specs.Word.{All, IsWord, Words}
 use Rattle.rows.specs.Ordered.{_∈_}
 use Rattle.rows.specs.Row.{Row, IsRow, rowBefore}
 use Rattle.rows.specs.Name.{Polarity, plus, minus, samePolarity}
-use Rattle.rows.specs.Sets.{RowSet, only, allBut, listing, has}
+use Rattle.rows.specs.Sets.{RowSet, only, allBut, listing, Proper, has}
 use Rattle.rows.proofs.Case.{_then_, iff-refl, both-or, both-not}
 use Rattle.rows.proofs.Order.{row-order}
 use Rattle.rows.proofs.Lists.{all-left, all-right}
 use Rattle.rows.proofs.Ordered.{insert-∈}
-use Rattle.rows.proofs.Sets.{Proper, none-proper, insert-proper, only-iff, allBut-iff}
+use Rattle.rows.proofs.Sets.{none-proper, insert-proper, only-iff, allBut-iff}
 use Rattle.policy.specs.Terms.{Term, each, termRowWords, FitRow}
 use Rattle.policy.specs.Leaf.{Leaf, finite, cofinite, definition, listed, leafWords, FitLeaf, Known, unknown, leafHas, leafOpen}
 use Rattle.meaning.specs.Values.{Values, value, rowOf}
@@ -23,9 +23,13 @@ use Rattle.meaning.specs.Evidence.{Evidence}
 use Rattle.meaning.specs.Reading.{done, rowsOf, readLeaf}
 use Rattle.meaning.specs.World.{World}
 use Rattle.meaning.specs.Belonging.{InList, Meanings, BelongsLeaf}
+use Rattle.meaning.specs.Faithful.{Tidy, ProperNames, TidySets, Shows, Agree}
+use Rattle.meaning.specs.Monotone.{Below, Along, Ways}
+use Rattle.meaning.specs.Exact.{Steady}
+use Rattle.meaning.specs.Closed.{IsFinite, FiniteNames, FiniteSets, Not12}
 use Rattle.meaning.proofs.Steps.{done-value, small-done}
 use Rattle.meaning.proofs.Rows.{row-of-terms}
-use Rattle.meaning.proofs.Claims.{Tidy, ProperNames, TidySets, small-tidy, Shows, Agree, has-by, Along, along-same, same-polarity, Below, Ways, Steady, give-steady, small-steady, IsFinite, FiniteNames, FiniteSets, Not12, give-not, small-not}
+use Rattle.meaning.proofs.Claims.{small-tidy, has-by, along-same, same-polarity, give-steady, small-steady, give-not, small-not}
 
 rowsOf-proper : (n : ℕ) (vs : Values) → Words vs → (rs : List (List Term)) → All (FitRow n) rs → Words (each termRowWords rs) → Proper (rowsOf vs rs)
 unfolding rowsOf All each

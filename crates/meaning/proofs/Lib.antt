@@ -2,10 +2,10 @@ pub mod Steps
 pub mod Rows
 pub mod Claims
 pub mod Leaf
+pub mod Minimal
 pub mod Proper
 pub mod Faithful
 pub mod Monotone
-pub mod Minimal
 pub mod Exact
 pub mod Closed
 pub mod Readings

@@ -9,16 +9,19 @@ use lib.Dec.{T, eqb}
 use Rattle.rows.specs.Ordered.{_∈_, insert}
 use Rattle.rows.specs.Row.{Row, IsRow, isKey, rowBefore}
 use Rattle.rows.specs.Name.{Polarity, plus, minus, samePolarity}
-use Rattle.rows.specs.Sets.{RowSet, only, allBut, listing, has}
+use Rattle.rows.specs.Sets.{RowSet, only, allBut, listing, Proper, has}
 use Rattle.rows.proofs.Case.{T-left, T-right, T-eqb, _then_, iff-refl, iff-sym, both-or, both-not}
 use Rattle.rows.proofs.Order.{row-order}
-use Rattle.rows.proofs.Ordered.{insert-∈, ascending-unique}
-use Rattle.rows.proofs.Sets.{Proper, none-proper, insert-proper, only-iff, allBut-iff}
+use Rattle.rows.proofs.Lists.{all-of}
+use Rattle.rows.proofs.Ordered.{Ascending, true-ascending, insert-∈, insert-ascending, ascending-unique}
+use Rattle.rows.proofs.Sets.{none-proper, only-iff, allBut-iff}
 use Rattle.certificates.specs.Certificate.{Certificate}
 use Rattle.meaning.specs.Evidence.{isOf, certified, namesHeld}
 use Rattle.meaning.specs.World.{World, Says, AllTrue, Certified, Minimal, AboutRows}
 use Rattle.meaning.specs.Belonging.{InList}
-use Rattle.meaning.proofs.Claims.{ProperNames, Shows, same-polarity, Below}
+use Rattle.meaning.specs.Faithful.{ProperNames, Shows}
+use Rattle.meaning.specs.Monotone.{Below}
+use Rattle.meaning.proofs.Claims.{same-polarity}
 
 -- a certificate that is of a name, and about a row, is the one that says so
 is-of : (c : Certificate) (k n : ℕ) (p : Polarity) (r : Row) → (T (isOf c k n p) × (r ≡ c .row)) ↔ (record { key = k; name = n; polarity = p; row = r } ≡ c)
@@ -55,14 +58,21 @@ certified-∈ (c ∷ cs) k n p r = go (certified-∈ cs k n p r) (isOf c k n p) 
     go ih true h = insert-∈ rowBefore row-order (c .row) (certified cs k n p) r then both-or ((λ e. (tt, e), λ t. t .1) then h) ih
     go ih false h = ih then (λ t. inr t, λ t. elim t [ inl a ↦ absurd (h .1 a .0) | inr b ↦ b ])
 
-pub certified-proper : (cs : List Certificate) → AboutRows cs → (k n : ℕ) (p : Polarity) → Proper (certified cs k n p)
-unfolding certified _∈_
-certified-proper [] about k n p = none-proper
-certified-proper (c ∷ cs) about k n p = go (certified-proper cs (λ d i. about d (inr i)) k n p) (isOf c k n p)
+certified-ascending : (cs : List Certificate) (k n : ℕ) (p : Polarity) → Ascending rowBefore row-order (certified cs k n p)
+unfolding certified Ascending
+certified-ascending [] k n p = tt
+certified-ascending (c ∷ cs) k n p = go (certified-ascending cs k n p) (isOf c k n p)
   where
-    go : Proper (certified cs k n p) → (b : Bool) → Proper (elim b as (λ x. List Row) [ true ↦ insert rowBefore (c .row) (certified cs k n p) | false ↦ certified cs k n p ])
-    go ih true = insert-proper (c .row) (certified cs k n p) (about c (inl refl)) ih
+    go : Ascending rowBefore row-order (certified cs k n p) → (b : Bool) →
+        Ascending rowBefore row-order (elim b as (λ x. List Row) [ true ↦ insert rowBefore (c .row) (certified cs k n p) | false ↦ certified cs k n p ])
+    go ih true = insert-ascending rowBefore row-order (c .row) (certified cs k n p) ih
     go ih false = ih
+
+certified-proper : (cs : List Certificate) → AboutRows cs → (k n : ℕ) (p : Polarity) → Proper (certified cs k n p)
+certified-proper cs about k n p = record {
+  order = true-ascending rowBefore row-order (certified cs k n p) (certified-ascending cs k n p);
+  rows = all-of IsRow (certified cs k n p) (λ r i. about _ (certified-∈ cs k n p r .0 i));
+}
 
 -- a test whether the issuer is a key, and its two sets
 held-proper : (xs : List Row) (f : List Row → RowSet) → ((ys : List Row) → listing (f ys) ≡ ys) → Proper xs → (b : Bool) →
@@ -76,12 +86,12 @@ held-names-proper cs about k n plus = held-proper (certified cs k n plus) only (
 held-names-proper cs about k n minus = held-proper (certified cs k n minus) allBut (λ ys. refl) (certified-proper cs about k n minus) (isKey k)
 
 -- the same certificates, in whatever order: the same names
-pub same-names : (cs ds : List Certificate) → AboutRows cs → AboutRows ds → ((c : Certificate) → (c ∈ cs) ↔ (c ∈ ds)) → namesHeld cs ≡ namesHeld ds
+pub same-names : (cs ds : List Certificate) → ((c : Certificate) → (c ∈ cs) ↔ (c ∈ ds)) → namesHeld cs ≡ namesHeld ds
 unfolding namesHeld
-same-names cs ds a b h = fun-ext (λ k. fun-ext (λ n. fun-ext (λ p. each k n p)))
+same-names cs ds h = fun-ext (λ k. fun-ext (λ n. fun-ext (λ p. each k n p)))
   where
     lists-same : (k n : ℕ) (p : Polarity) → certified cs k n p ≡ certified ds k n p
-    lists-same k n p = ascending-unique rowBefore row-order _ _ (certified-proper cs a k n p .order) (certified-proper ds b k n p .order)
+    lists-same k n p = ascending-unique rowBefore row-order _ _ (certified-ascending cs k n p) (certified-ascending ds k n p)
         (λ r. certified-∈ cs k n p r then h _ then iff-sym (certified-∈ ds k n p r))
 
     each : (k n : ℕ) (p : Polarity) → namesHeld cs k n p ≡ namesHeld ds k n p

@@ -1,5 +1,4 @@
--- Monotonicity (the source's Theorem 1): where one world lies below another, what belongs to an expression that has + grows, and what belongs to one
--- that has − shrinks. One statement, indexed by the polarity.
+-- What belongs to an expression follows each polarity that it has, from world to world.
 use mathlib.Core.Logic.{_⊎_, inl, inr}
 use mathlib.Core.List.{List, _++_}
 use lib.Dec.{T}
@@ -11,7 +10,8 @@ use Rattle.policy.specs.Polarity.{Known, hasPolarity, guardsHave}
 use Rattle.meaning.specs.Values.{Values, rowOf}
 use Rattle.meaning.specs.World.{World}
 use Rattle.meaning.specs.Belonging.{Meanings, Belongs, Passes}
-use Rattle.meaning.proofs.Claims.{Along, along-same, Below, Ways}
+use Rattle.meaning.specs.Monotone.{Below, Along, Ways, Follows, Theorem}
+use Rattle.meaning.proofs.Claims.{along-same}
 use Rattle.meaning.proofs.Leaf.{leaf-along}
 
 along-or : (p : Polarity) {A B C D : Type 0} → Along p A B → Along p C D → Along p (A ⊎ C) (B ⊎ D)
@@ -37,7 +37,7 @@ module _ (W U : World) (below : Below W U) (ks : List Known) (D E : Meanings) (k
   mutual
     unfolding hasPolarity Belongs
 
-    pub monotone : (e : Expr) (p : Polarity) → T (hasPolarity e ks p) → (vs : Values) (r : Row) → Along p (Belongs W D e vs r) (Belongs U E e vs r)
+    pub monotone : (e : Expr) → Follows W U ks D E e
     monotone (leaf x) p t vs r = leaf-along W U below ks D E known x p t vs r
     monotone (union a b) p t vs r =
         along-or p (monotone a p (T-left (hasPolarity a ks p) (hasPolarity b ks p) t) vs r) (monotone b p (T-right (hasPolarity a ks p) (hasPolarity b ks p) t) vs r)
@@ -56,3 +56,6 @@ module _ (W U : World) (below : Below W U) (ks : List Known) (D E : Meanings) (k
     guards (absent h e rest) p t vs r =
         along-and p (along-not p (monotone e (opposite p) (T-left (hasPolarity e ks (opposite p)) (guardsHave rest ks p) t) vs (rowOf vs h)))
         (guards rest p (T-right (hasPolarity e ks (opposite p)) (guardsHave rest ks p) t) vs r)
+
+pub theorem : Theorem
+theorem = monotone

@@ -10,18 +10,19 @@ use lib.ListN.{length}
 use Rattle.rows.specs.Word.{All, IsWord, Words}
 use Rattle.rows.specs.Ordered.{insert}
 use Rattle.rows.specs.Row.{Row, IsRow, rowBefore}
-use Rattle.rows.specs.Sets.{RowSet, only, listing, mostRows, has, unite, subtract}
+use Rattle.rows.specs.Sets.{RowSet, only, listing, Proper, mostRows, has, unite, subtract}
 use Rattle.rows.proofs.Lists.{all-left, all-right}
-use Rattle.rows.proofs.Sets.{Proper, none-proper, insert-proper, unite-proper, subtract-proper}
+use Rattle.rows.proofs.Sets.{none-proper, insert-proper, unite-proper, subtract-proper}
 use Rattle.policy.specs.Syntax.{Slot, Expr, leaf, union, difference, comprehension, Body, head, draw, same, different, absent}
 use Rattle.policy.specs.Words.{termWords, termRowWords, slotWords, fresh, exprWords, bodyWords}
 use Rattle.policy.specs.WellFormed.{Fit, FitBody}
 use Rattle.meaning.specs.Values.{Values, value, rowOf}
 use Rattle.meaning.specs.Evidence.{Evidence}
 use Rattle.meaning.specs.Reading.{done, Reading, drawable, tick, match, onMatch, drawEach, read, gather}
+use Rattle.meaning.specs.Faithful.{Tidy, ProperNames, TidySets, WheneverRead}
 use Rattle.meaning.proofs.Steps.{done-value, after-done, either, within-done, drawable-done}
 use Rattle.meaning.proofs.Rows.{row-of-terms, match-words}
-use Rattle.meaning.proofs.Claims.{Tidy, ProperNames, TidySets, small-tidy}
+use Rattle.meaning.proofs.Claims.{small-tidy}
 use Rattle.meaning.proofs.Leaf.{leaf-tidy}
 
 pub record TidyRows (xs : List Row) : Type 0 where
@@ -59,7 +60,7 @@ module _ (names : Evidence) (sets : List RowSet) (properNames : ProperNames name
   mutual
     unfolding read Fit exprWords bodyWords listing All
 
-    pub read-tidy : (e : Expr) (m n : ℕ) → Fit m n e → Words (exprWords e n) → (vs : Values) → Words vs → (k : ℕ) (s : RowSet) (j : ℕ) → read names sets e vs k ≡ done s j → Tidy s
+    pub read-tidy : (e : Expr) → WheneverRead names sets e (λ vs s. Tidy s)
     read-tidy (leaf x) m n f t vs w k s j q = leaf-tidy names sets properNames tidySets x m n f t vs w k s j q
     read-tidy (union a b) m n f t vs w k s j q =
         let x = after-done (read names sets a vs k) _ s j q in

@@ -3,3 +3,7 @@ pub mod Evidence
 pub mod Reading
 pub mod World
 pub mod Belonging
+pub mod Faithful
+pub mod Monotone
+pub mod Exact
+pub mod Closed

@@ -1,7 +1,6 @@
--- The decoder reads just the words of the well-formed expressions: what parses is the words of its syntax, and back.
+-- The decoder reads just the words of the well-formed expressions.
 use Prim.Native.Nat.{ℕ, zero, suc, _+_, _≤_}
 use mathlib.Core.Path.{_≡_, refl, sym, _∙_, ap}
-use mathlib.Core.Logic.{_↔_}
 use mathlib.Core.Bool.{Bool, true, false}
 use mathlib.Core.List.{List, [], _∷_, _++_, append-nil}
 use native.Mathlib.Omega.{arith}
@@ -16,6 +15,7 @@ use Rattle.policy.specs.Words.{termWords, fresh, guardCount, exprWords, 
 use Rattle.policy.specs.WellFormed.{FitTerm, Fit, FitBody, depth, bodyDepth, drawCount, bodyDraws, WellFormed}
 use Rattle.policy.specs.Parse.{parsed, noneLeft, parse}
 use Rattle.policy.specs.Decode.{Read, got, refused, Reader, after, give, word, wordWhere, countDraw, term, slots, guardOf, guardAs, body, codeOf, isCode, exprAs, expr}
+use Rattle.policy.specs.Parsing.{Theorem}
 use Rattle.policy.proofs.Basics.{impossible}
 use Rattle.policy.proofs.Format.{Format, oneWord, Made, made, Taken, Takes, Returns, Reads, refuse-takes, then-takes, last-takes, then-returns, last-returns, word-takes, word-returns, returns-as}
 use Rattle.policy.proofs.Leaves.{where-reads, term-reads, width-reads, row-reads, slots-reads}
@@ -216,8 +216,7 @@ none-left (got d [] k) e h = (k, cc)
 none-left (got d (w ∷ ws) k) e h = impossible cc
 none-left (refused n) e h = impossible cc
 
--- what parses is the words of its syntax, and back
-pub parse-iff : (known : ℕ) (ws : List ℕ) (e : Expr) → (parse known ws ≡ parsed e) ↔ ((ws ≡ exprWords e 0) × WellFormed known e)
+pub parse-iff : Theorem
 unfolding parse noneLeft
 parse-iff known ws e = (there, back)
   where

@@ -6,6 +6,7 @@ pub mod Words
 pub mod WellFormed
 pub mod Decode
 pub mod Parse
+pub mod Parsing
 pub mod Decoded
 pub mod Polarity
 pub mod Table

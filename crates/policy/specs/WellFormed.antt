@@ -1,4 +1,4 @@
--- Document 01, "Expressions, in prefix order": the rules that an expression keeps. The decoder reads just the words of those that keep them.
+-- Document 01, "Expressions, in prefix order": the rules that an expression keeps. The decoder reads just the words of those that keep them (`Parsing`).
 use Prim.Native.Nat.{ℕ, suc, _+_, _≤_, max}
 use mathlib.Core.List.{List, [], _∷_}
 use lib.ListN.{length}

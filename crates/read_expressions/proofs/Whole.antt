@@ -11,7 +11,7 @@ use Rattle.policy.specs.Parse.{parse, parsed}
 use Rattle.policy.proofs.Decoding.{parse-words, parse-fits}
 use Rattle.read_values.specs.Places.{Stands}
 use Rattle.read_values.specs.From.{From}
-use Rattle.read_expressions.specs.Room.{roomOf, bodyRoom}
+use Rattle.read_expressions.specs.Room.{roomOf, bodyRoom, Theorem}
 use Rattle.read_expressions.specs.Readers.{AskExpr, SayExpr, AskWhole, SayWhole}
 use Rattle.read_values.specs.declared.Read.{Read}
 
@@ -32,22 +32,26 @@ mutual
   body-needed (different x y b) = body-needed b
   body-needed (absent r e b) = omega (arith, room-needed e, body-needed b)
 
+-- 15 levels and eight draws: 23 sets at most
+pub room-enough : Theorem
+room-enough known e w =
+    let shallow = w .shallow in
+    let draws = w .draws in
+    omega (arith, room-needed e)
+
 whole-here : (m : ℕ) (ws : List ℕ) (e : Expr) → parse m ws ≡ parsed e → Stands m 0 ws 0 e
 whole-here m ws e h = record { words = record { rest = []; spelled = parse-words m ws e h ∙ sym (append-nil (exprWords e 0)) }; fit = parse-fits m ws e h .fit }
 
 module _ {f : From} {ws : List ℕ} {values area : List ℕ} where
   pub ask-whole : 16 ≤ length values → AskWhole f ws area → AskExpr f ws 0 values 0 area
   ask-whole long q =
-      let w = parse-fits (f .known) ws (q .e) (q .parses) in
-      let shallow = w .shallow in
-      let draws = w .draws in
       let room = q .long in
       record {
         sound = q .sound;
         bound = record { scope = omega arith; long = long };
         e = q .e;
         here = whole-here (f .known) ws (q .e) (q .parses);
-        room = omega (arith, room-needed (q .e));
+        room = omega (arith, room-enough (f .known) (q .e) (parse-fits (f .known) ws (q .e) (q .parses)));
       }
 
   pub say-whole : {k : ℕ} {r : Read} {later : List ℕ} → SayExpr f ws 0 values 0 k r later area → SayWhole f ws k r area

@@ -1,6 +1,8 @@
 -- How many sets of the lent area a reading takes.
-use Prim.Native.Nat.{ℕ, suc, max}
+use Prim.Native.Nat.{ℕ, suc, _*_, _≤_, max}
+use Rattle.rows.specs.Layout.{setRoom}
 use Rattle.policy.specs.Syntax.{Expr, leaf, union, difference, comprehension, Body, head, draw, same, different, absent}
+use Rattle.policy.specs.WellFormed.{WellFormed}
 
 -- so many sets lie in the area while an expression is read, its own among them: a right operand lies behind the left one's set,
 -- a draw's operand behind those of the draws before it
@@ -18,3 +20,7 @@ unfoldable mutual
   bodyRoom (same x y b) = bodyRoom b
   bodyRoom (different x y b) = bodyRoom b
   bodyRoom (absent r e b) = max (roomOf e) (bodyRoom b)
+
+-- 11, "scratch area under 16,384": every well-formed definition and query is read within it, and nothing is tested while reading
+abbrev pub Theorem : Type 0
+Theorem = (known : ℕ) (e : Expr) → WellFormed known e → setRoom * roomOf e ≤ 16384

@@ -12,14 +12,14 @@ use borrow.Author.Tests.{leb-true, le-leb, eqb-true}
 use Rattle.rows.specs.Word.{All, IsWord, Words}
 use Rattle.rows.specs.Ordered.{ascending}
 use Rattle.rows.specs.Row.{Row, IsRow, rowBefore}
-use Rattle.rows.specs.Sets.{RowSet, only, allBut, listing, mostRows}
+use Rattle.rows.specs.Sets.{RowSet, only, allBut, listing, Proper, mostRows}
 use Rattle.rows.specs.Layout.{rowWords, rowIn, fiveAt, zeros, soundRow, flat, pieces, every, formWord, setWords, written, rowsIn, formed, setIn, soundSet}
 use Rattle.rows.proofs.Case.{Case, isTrue, isFalse, split, never, and-true, true-and}
 use Rattle.rows.proofs.Scan.{every-at}
 use Rattle.rows.proofs.Order.{row-order}
 use Rattle.rows.proofs.Lists.{all-take, all-drop}
 use Rattle.rows.proofs.Ordered.{Ascending, true-ascending}
-use Rattle.rows.proofs.Sets.{Proper}
+use Rattle.rows.proofs.Sets.{proper-ascending}
 
 -- ---- pieces of any size
 
@@ -279,7 +279,7 @@ written-fits S area o a n h =
     })
 
 pub written-sound : (S : RowSet) (area : List ℕ) → Proper (listing S) → length (listing S) ≤ mostRows → 642 ≤ length area → soundSet (written S area) ≡ true
-written-sound S area p n h = written-fits S area (p .order) (widths (listing S) (p .rows)) n h
+written-sound S area p n h = written-fits S area (proper-ascending p) (widths (listing S) (p .rows)) n h
 
 -- ---- the converse
 

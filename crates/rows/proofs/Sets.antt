@@ -5,13 +5,13 @@ use mathlib.Core.Bool.{Bool, true, false, not, _&&_, _||_}
 use mathlib.Core.List.{List, []}
 use lib.Dec.{T, T-not, not-T}
 use Rattle.rows.specs.Word.{All}
-use Rattle.rows.specs.Ordered.{_∈_, lists, insert, join, keep, common, without}
+use Rattle.rows.specs.Ordered.{_∈_, lists, insert, join, keep, common, without, ascending}
 use Rattle.rows.specs.Row.{Row, IsRow, rowBefore}
-use Rattle.rows.specs.Sets.{RowSet, only, allBut, listing, has, unite, subtract}
+use Rattle.rows.specs.Sets.{RowSet, only, allBut, listing, Proper, has, unite, subtract}
 use Rattle.rows.proofs.Case.{T-and, T-or, T-and-not, same-test, _then_, iff-sym, both-or, both-not}
 use Rattle.rows.proofs.Order.{row-order}
 use Rattle.rows.proofs.Lists.{all-in, all-of}
-use Rattle.rows.proofs.Ordered.{Ascending, lists-iff, insert-∈, join-∈, keep-∈, insert-ascending, join-ascending, keep-ascending}
+use Rattle.rows.proofs.Ordered.{Ascending, ascending-true, true-ascending, lists-iff, insert-∈, join-∈, keep-∈, insert-ascending, join-ascending, keep-ascending}
 
 pub listed-iff : (xs : List Row) (r : Row) → T (lists rowBefore xs r) ↔ (r ∈ xs)
 listed-iff xs r = lists-iff rowBefore row-order xs r
@@ -109,20 +109,18 @@ subtract-ascending (only xs) (allBut ys) p q = keep-ascending rowBefore row-orde
 subtract-ascending (allBut xs) (only ys) p q = join-ascending rowBefore row-order ys xs p
 subtract-ascending (allBut xs) (allBut ys) p q = keep-ascending rowBefore row-order _ ys q
 
--- in order, and rows alone
-pub record Proper (xs : List Row) : Type 0 where
-  pub order : Ascending rowBefore row-order xs
-  pub rows : All IsRow xs
+pub proper-ascending : {xs : List Row} → Proper xs → Ascending rowBefore row-order xs
+proper-ascending {xs} p = ascending-true rowBefore row-order xs (p .order)
 
 pub none-proper : Proper []
-unfolding Ascending All
-none-proper = record { order = tt; rows = tt }
+unfolding ascending All
+none-proper = record { order = refl; rows = tt }
 
 pub insert-proper : (r : Row) (xs : List Row) → IsRow r → Proper xs → Proper (insert rowBefore r xs)
-insert-proper r xs i p = record { order = insert-ascending rowBefore row-order r xs (p .order); rows = insert-all IsRow r xs i (p .rows) }
+insert-proper r xs i p = record { order = true-ascending rowBefore row-order _ (insert-ascending rowBefore row-order r xs (proper-ascending p)); rows = insert-all IsRow r xs i (p .rows) }
 
 pub unite-proper : (s t : RowSet) → Proper (listing s) → Proper (listing t) → Proper (listing (unite s t))
-unite-proper s t p q = record { order = unite-ascending s t (p .order) (q .order); rows = unite-all IsRow s t (p .rows) (q .rows) }
+unite-proper s t p q = record { order = true-ascending rowBefore row-order _ (unite-ascending s t (proper-ascending p) (proper-ascending q)); rows = unite-all IsRow s t (p .rows) (q .rows) }
 
 pub subtract-proper : (s t : RowSet) → Proper (listing s) → Proper (listing t) → Proper (listing (subtract s t))
-subtract-proper s t p q = record { order = subtract-ascending s t (p .order) (q .order); rows = subtract-all IsRow s t (p .rows) (q .rows) }
+subtract-proper s t p q = record { order = true-ascending rowBefore row-order _ (subtract-ascending s t (proper-ascending p) (proper-ascending q)); rows = subtract-all IsRow s t (p .rows) (q .rows) }

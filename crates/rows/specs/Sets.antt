@@ -1,9 +1,11 @@
 -- Document 01, "Rows, sets, worlds": "A set is finite, or the complement of a finite set among all rows."
 use Prim.Native.Nat.{ℕ}
-use mathlib.Core.Bool.{Bool, not}
+use mathlib.Core.Path.{_≡_}
+use mathlib.Core.Bool.{Bool, true, not}
 use mathlib.Core.List.{List}
-use Rattle.rows.specs.Ordered.{tied, lists, join, common, without}
-use Rattle.rows.specs.Row.{Row, rowBefore}
+use Rattle.rows.specs.Word.{All}
+use Rattle.rows.specs.Ordered.{tied, lists, join, common, without, ascending}
+use Rattle.rows.specs.Row.{Row, IsRow, rowBefore}
 
 pub data RowSet : Type 0 where
   only : List Row → RowSet
@@ -13,6 +15,11 @@ pub data RowSet : Type 0 where
 unfoldable pub listing : RowSet → List Row
 listing (only xs) = xs
 listing (allBut xs) = xs
+
+-- what a set may list: rows alone, "strictly ascending"
+pub record Proper (xs : List Row) : Type 0 where
+  pub order : ascending rowBefore xs ≡ true
+  pub rows : All IsRow xs
 
 -- "No set lists over 128 rows."
 abbrev pub mostRows : ℕ
