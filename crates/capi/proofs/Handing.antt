@@ -12,7 +12,7 @@ use Rattle.policy.proofs.Basics.{impossible}
 use Rattle.judging.specs.Reply.{judgementFor}
 use Rattle.judging.specs.declared.Judgement.{Judgement}
 use Rattle.judging.specs.declared.Judgement.the-variants as judgement
-use Rattle.demands.specs.Query.{Outcome, answered, refused, Call, queryCall}
+use Rattle.demands.specs.Query.{Outcome, answered, refused, Call, queryCall, drawsOf}
 use Rattle.engine.specs.Reply.{replyFor, Replied}
 use Rattle.engine.specs.declared.Reply.{Reply}
 use Rattle.engine.specs.declared.Reply.the-variants as reply
@@ -48,19 +48,19 @@ hands-refused-judgement (Judged.refused m p) r is n part e = cc
 -- asking
 answered-outcome : (o : Outcome) (r : Reply) → r ≡ replyFor o → (v k : ℕ) → r ≡ reply.Answered v k →
     handOutcome o ≡ record { number = noRefusal; part = noPart; verdict = v; draws = k }
-unfolding replyFor handOutcome
+unfolding replyFor handOutcome drawsOf
 answered-outcome (answered w j s) r is v k e = cc
 answered-outcome (refused n p) r is v k e = impossible cc
 
 refused-outcome : (o : Outcome) (r : Reply) → r ≡ replyFor o → (n part : ℕ) → r ≡ reply.Refused n part →
     handOutcome o ≡ record { number = n; part = part; verdict = noVerdict; draws = 0 }
-unfolding replyFor handOutcome
+unfolding replyFor handOutcome drawsOf
 refused-outcome (answered w j s) r is n part e = impossible cc
 refused-outcome (refused m p) r is n part e = cc
 
-module _ (store : List ℕ) (c : Call) (r : Reply) (answer : List ℕ) (said : Replied store c r answer) where
-  pub hands-answer : (v k : ℕ) → r ≡ reply.Answered v k → Asked store c (record { number = noRefusal; part = noPart; verdict = v; draws = k }) answer
-  hands-answer v k e = record { reply = answered-outcome (queryCall store c) r (said .reply) v k e; area = said .area }
+module _ (store : List ℕ) (c : Call) (r : Reply) (answer left : List ℕ) (said : Replied store c r answer left) where
+  pub hands-answer : (v k : ℕ) → r ≡ reply.Answered v k → Asked store c (record { number = noRefusal; part = noPart; verdict = v; draws = k }) answer left
+  hands-answer v k e = record { reply = answered-outcome (queryCall store c) r (said .reply) v k e; area = said .area; unchanged = said .unchanged }
 
-  pub hands-refused-query : (n part : ℕ) → r ≡ reply.Refused n part → Asked store c (record { number = n; part = part; verdict = noVerdict; draws = 0 }) answer
-  hands-refused-query n part e = record { reply = refused-outcome (queryCall store c) r (said .reply) n part e; area = said .area }
+  pub hands-refused-query : (n part : ℕ) → r ≡ reply.Refused n part → Asked store c (record { number = n; part = part; verdict = noVerdict; draws = 0 }) answer left
+  hands-refused-query n part e = record { reply = refused-outcome (queryCall store c) r (said .reply) n part e; area = said .area; unchanged = said .unchanged }

@@ -15,7 +15,7 @@ use Rattle.policy_table.proofs.PartAnswers.{place-held, query-held, query-part,
 use Rattle.capi.specs.Places.{handPart, wordsOfPart, PartAt, handCertificates, wordsOfCertificates, CertificatesAt}
 
 -- a part, from the place that the code found
-module _ (policy : List ℕ) (number : ℕ) (r : Place) (is : partSpanIs r ≡ partSpan policy number) (query : List ℕ) where
+module _ (policy : List ℕ) (number : ℕ) (r : PartSpan) (is : partSpanIs r ≡ partSpan policy number) (query : List ℕ) where
   pub hands-query : r ≡ place.WholeQuery → PartAt policy query number (record { size = length query; ofQuery = 1; start = 0 })
   unfolding handPart wordsOfPart
   hands-query e =

@@ -6,7 +6,7 @@ use Rattle.refusals.specs.RefusalTable.{noPart}
 use Rattle.certificates.specs.Filing.{FilingReply, filed, held, refused}
 use Rattle.policy.specs.Polarity.{verdictWord}
 use Rattle.policy.specs.Judgement as Judgement
-use Rattle.demands.specs.Query.{Outcome, answered, Call, queryCall, answerArea}
+use Rattle.demands.specs.Query.{Outcome, answered, Call, queryCall, answerArea, drawsOf}
 use Rattle.demands.specs.Query as Query
 
 -- "Filing answers Filed, Held or Refused with a number": 0, 1, and 8, 9 or 10
@@ -43,14 +43,16 @@ pub record HandedOutcome : Type 0 where
 
 -- "The answer carries verdict, draws and the set"; "With the number comes the part [..]; draws are 0"
 unfoldable pub handOutcome : Outcome → HandedOutcome
-handOutcome (answered v k s) = record { number = noRefusal; part = noPart; verdict = verdictWord v; draws = k }
-handOutcome (Query.refused n p) = record { number = n; part = p; verdict = noVerdict; draws = 0 }
+unfolding drawsOf
+handOutcome (answered v k s) = record { number = noRefusal; part = noPart; verdict = verdictWord v; draws = drawsOf (answered v k s) }
+handOutcome (Query.refused n p) = record { number = n; part = p; verdict = noVerdict; draws = drawsOf (Query.refused n p) }
 
 -- what is lent to a query call besides the store
 abbrev pub lent : List ℕ → List ℕ → List ℕ → List ℕ → List ℕ → Call
 lent policy query answer definitions scratch = record { policy = policy; query = query; answer = answer; definitions = definitions; scratch = scratch }
 
--- the query call on this store handed this out and left these words in the answer area
-pub record Asked (store : List ℕ) (c : Call) (handed : HandedOutcome) (answer : List ℕ) : Type 0 where
+-- the query call on this store handed this out, left these words in the answer area, and these in the store
+pub record Asked (store : List ℕ) (c : Call) (handed : HandedOutcome) (answer left : List ℕ) : Type 0 where
   pub reply : handOutcome (queryCall store c) ≡ handed
   pub area : answer ≡ answerArea (queryCall store c) (c .answer)
+  pub unchanged : left ≡ store

@@ -22,7 +22,7 @@ pub extern "C" fn txb_query<'a>(
     ensures { λ r. ⌜ Asked (now (store .entry))
         (lent (now (policy .entry)) (now (query .entry)) (now (answer .entry)) (now (definitions .entry)) (now (scratch .entry)))
         (record { number = r; part = now (part .exit); verdict = now (verdict .exit); draws = now (draws .exit) })
-        (now (answer .exit)) ⌝ }
+        (now (answer .exit)) (now (store .exit)) ⌝ }
 {
     match ask(policy, query, store, answer, definitions, scratch) {
         Reply::Answered {

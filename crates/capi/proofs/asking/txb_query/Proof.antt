@@ -25,7 +25,7 @@ same-length-3 c = search needs
 returns : tie.Need-returns
 returns c =
     let said = c .before .before .before .before .before .before .before .before .before .query .ensures in
-    hands-answer _ _ _ _ said _ _ (c .before .word .given .1)
+    hands-answer _ _ _ _ _ said _ _ (c .before .word .given .1)
 
 same-length-4 : tie.Need-same-length-4
 same-length-4 c = search needs
@@ -39,7 +39,7 @@ same-length-6 c = search needs
 returns-2 : tie.Need-returns-2
 returns-2 c =
     let said = c .before .before .before .before .before .before .before .before .before .query .ensures in
-    hands-refused-query _ _ _ _ said _ _ (c .before .number .given .1)
+    hands-refused-query _ _ _ _ _ said _ _ (c .before .number .given .1)
 
 pub txb-query-spec : {M : Type 1} → statement M
 txb-query-spec =
