@@ -36,9 +36,9 @@ pub shows-passed : {ws : List ℕ} {at next : ℕ} {m : Reader (Unit {0})} → G
 unfolding passedIs
 shows-passed g = shows-got g
 
-pub shows-stopped : {ws : List ℕ} {at n : ℕ} {m : Reader (Unit {0})} → Lost ws at m n → Follows ws at (passedIs (passed.Refused n)) m
+pub shows-refused : {ws : List ℕ} {at n : ℕ} {m : Reader (Unit {0})} → Lost ws at m n → Follows ws at (passedIs (passed.Refused n)) m
 unfolding passedIs
-shows-stopped l = shows-lost l
+shows-refused l = shows-lost l
 
 -- after one thing, the rest of them
 times-got : {A : Type 0} (m : Reader A) (l : ℕ) (us vs : List ℕ) (k j : ℕ) → kept nothing (m us k) ≡ got tt vs j → kept nothing (times (suc l) m us k) ≡ kept nothing (times l m vs j)

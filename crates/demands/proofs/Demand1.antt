@@ -20,7 +20,7 @@ use Rattle.demands.specs.Query.{Outcome, Call, queryCall, answerArea, dr
 use Rattle.demands.specs.Query as Query
 use Rattle.demands.specs.Demand1.{Filing, eight, nine, isHeld, ten, isNew, Theorem}
 use Rattle.demands.proofs.Definitions.{reads-not-12, none-finite}
-use Rattle.demands.proofs.Outcome.{call-declined, call-alike}
+use Rattle.demands.proofs.Outcome.{call-refused, call-alike}
 
 module _ (store w : List ℕ) where
   given : soundStore store ≡ true → {r : FilingReply} → Replied (records store) w r → Filing store w r
@@ -75,7 +75,7 @@ unfolding drawsOf
 demand-1 = record {
   filing = λ store w r. (λ e. subst (Filing store w) e (why store w), λ f. so store w f);
   storeStays = store-stays;
-  query = call-declined;
+  query = call-refused;
   answerStays = answer-stays;
   noDraws = λ store c n part e. ap drawsOf e;
   never12 = λ policy query es q v passes cs part.

@@ -22,7 +22,7 @@ use Rattle.demands.specs.Query.{answered, readFrom, Call, outcomeFrom, q
 use Rattle.demands.specs.Demand2.{CallWords}
 use Rattle.demands.specs.Demand3.{EmptyStore, Point, Earlier, Event, files, asks, storeThrough, filingsIn, heldAfter, Grows, Theorem}
 use Rattle.demands.proofs.Bounds.{bounds, lower-grows, upper-shrinks, exact-stays}
-use Rattle.demands.proofs.Outcome.{call-reads, AnsweredBy, answered-by, outcome-declined, outcome-answered}
+use Rattle.demands.proofs.Outcome.{call-reads, AnsweredBy, answered-by, outcome-refused, outcome-answered}
 use Rattle.demands.proofs.Demand2.{records-about, answer-is, laid-out}
 
 -- what was accepted is about rows
@@ -98,7 +98,7 @@ demand-3 store empty filings = record {
   replies = λ p w rest e. reply-keeps (keeps store empty filings p) w;
   holds = λ p. let k = keeps store empty filings p in record { sound = k .sound; just = k .just; count = k .count; size = k .size; untouched = k .untouched };
   asked = λ p events e. through store events ∙ ap (storeAt store) e;
-  refuses = λ p c n part. rw (reads store empty filings p c) (outcome-declined (namesHeld (heldAfter (p .passed))) c n part);
+  refuses = λ p c n part. rw (reads store empty filings p c) (outcome-refused (namesHeld (heldAfter (p .passed))) c n part);
   answers = λ p c. rw (reads store empty filings p c) (outcome-answered (namesHeld (heldAfter (p .passed))) c);
   answer = λ p c v k S h. answer-is (namesHeld (heldAfter (p .passed))) c v k S (answer-at store empty filings p c v k S h);
   laidOut = λ words p c w v k S h. laid-out (heldAfter (p .passed)) (about store empty filings words p) c w v k S (answer-at store empty filings p c v k S h);

@@ -1,4 +1,4 @@
--- A query call taken apart: answered, or declined by a refusal that applies.
+-- A query call taken apart: answered, or refused by what applies.
 use Prim.Native.Nat.{ℕ, _≤_}
 use mathlib.Core.Path.{_≡_, refl, sym, _∙_, ap, subst}
 use mathlib.Core.Logic.{_↔_}
@@ -26,9 +26,6 @@ use Rattle.demands.specs.Refusal.{Refusal, judged, unsound, short, readi
 
 pub not-both : {A : Type 0} {v : Verdict} {k : ℕ} {S : RowSet} {n part : ℕ} → answered v k S ≡ Query.refused n part → A
 not-both {v} {k} {S} {n} {part} e = let z : _≡_ {A = ℕ} 0 1 = cc in absurd (omega arith)
-
-not-checked : {A : Type 0} {es : List Expr} {q : Expr} {v : Verdict} {n part : ℕ} → checked es q v ≡ Checking.refused n part → A
-not-checked {es} {q} {v} {n} {part} e = let z : _≡_ {A = ℕ} 0 1 = cc in absurd (omega arith)
 
 pub end-verdict : (v w : Verdict) (j : ℕ) (S : RowSet) (a : Result RowSet) →
     (elim a as (λ c. Outcome) [ done s k ↦ answered v k s | refused n ↦ Query.refused n 16 ]) ≡ answered w j S → v ≡ w
@@ -119,21 +116,21 @@ pub roomy-answer : (c : Call) → roomy c ≡ true → setRoom ≤ length (c .an
 unfolding roomy
 roomy-answer c e = leb-true setRoom (length (c .answer)) (and-true (leb setRoom (length (c .answer))) _ e .0)
 
--- declined, just where a refusal applies
-on-declined : (sound : Bool) (names : Evidence) (c : Call) (n part : ℕ) → (callOn sound names c ≡ Query.refused n part) ↔ Refusal sound names c n part
+-- refused, just where a refusal applies
+on-refused : (sound : Bool) (names : Evidence) (c : Call) (n part : ℕ) → (callOn sound names c ≡ Query.refused n part) ↔ Refusal sound names c n part
 unfolding callOn outcomeFrom
-on-declined sound names c n part = (λ h. to h (check (c .policy) (c .query)) refl (split sound) (split (roomy c)), from)
+on-refused sound names c n part = (λ h. to h (check (c .policy) (c .query)) refl (split sound) (split (roomy c)), from)
   where
-    as-declined : {m p : ℕ} → Refusal sound names c m p → Query.refused m p ≡ Query.refused n part → Refusal sound names c n part
-    as-declined {m} {p} r e =
+    as-refused : {m p : ℕ} → Refusal sound names c m p → Query.refused m p ≡ Query.refused n part → Refusal sound names c n part
+    as-refused {m} {p} r e =
         let x : m ≡ n = cc in
         let y : p ≡ part = cc in
         subst (λ (l : ℕ). Refusal sound names c l part) x (subst (λ (l : ℕ). Refusal sound names c m l) y r)
 
     to : callOn sound names c ≡ Query.refused n part → (d : Checked) → check (c .policy) (c .query) ≡ d → Case sound → Case (roomy c) → Refusal sound names c n part
-    to h (Checking.refused m p) f a b = as-declined (judged (judge-refused (c .policy) (c .query) m p .1 f)) (rw (f, callOn) at h)
-    to h (checked es q v) f (isFalse a) b = as-declined (unsound f a) (rw (f, a, callOn) at h)
-    to h (checked es q v) f (isTrue a) (isFalse b) = as-declined (short f a b) (rw (f, b, outcomeFrom) at (rw (f, a, callOn) at h))
+    to h (Checking.refused m p) f a b = as-refused (judged (judge-refused (c .policy) (c .query) m p .1 f)) (rw (f, callOn) at h)
+    to h (checked es q v) f (isFalse a) b = as-refused (unsound f a) (rw (f, a, callOn) at h)
+    to h (checked es q v) f (isTrue a) (isFalse b) = as-refused (short f a b) (rw (f, b, outcomeFrom) at (rw (f, a, callOn) at h))
     to h (checked es q v) f (isTrue a) (isTrue b) = reading f a b (rw (f, b, outcomeFrom) at (rw (f, a, callOn) at h))
 
     from : {m p : ℕ} → Refusal sound names c m p → callOn sound names c ≡ Query.refused m p
@@ -142,13 +139,13 @@ on-declined sound names c n part = (λ h. to h (check (c .policy) (c .query)) re
     from (short f a b) = rw (f, a, callOn) (rw (f, b, outcomeFrom))
     from (reading f a b e) = rw (f, a, callOn) (rw (f, b, outcomeFrom) e)
 
-pub call-declined : (store : List ℕ) (c : Call) (n part : ℕ) →
+pub call-refused : (store : List ℕ) (c : Call) (n part : ℕ) →
     (queryCall store c ≡ Query.refused n part) ↔ Refusal (soundStore store) (namesHeld (certificates store)) c n part
-call-declined store c n part = rw (call-on store c) (on-declined (soundStore store) (namesHeld (certificates store)) c n part)
+call-refused store c n part = rw (call-on store c) (on-refused (soundStore store) (namesHeld (certificates store)) c n part)
 
-pub outcome-declined : (names : Evidence) (c : Call) (n part : ℕ) → (outcomeFrom names c ≡ Query.refused n part) ↔ Refusal true names c n part
+pub outcome-refused : (names : Evidence) (c : Call) (n part : ℕ) → (outcomeFrom names c ≡ Query.refused n part) ↔ Refusal true names c n part
 unfolding callOn outcomeFrom
-outcome-declined names c n part = rw (← sound-call (check (c .policy) (c .query)) refl) (on-declined true names c n part)
+outcome-refused names c n part = rw (← sound-call (check (c .policy) (c .query)) refl) (on-refused true names c n part)
   where
     sound-call : (d : Checked) → check (c .policy) (c .query) ≡ d → callOn true names c ≡ outcomeFrom names c
     sound-call (Checking.refused m p) f = rw (f, callOn, outcomeFrom)
@@ -158,11 +155,11 @@ outcome-declined names c n part = rw (← sound-call (check (c .policy) (c .quer
 pub outcome-answered : (names : Evidence) (c : Call) → ((v : Verdict) × (k : ℕ) × (S : RowSet) × (outcomeFrom names c ≡ answered v k S)) ↔
     (¬ ((n : ℕ) × (part : ℕ) × Refusal true names c n part))
 outcome-answered names c = (
-  λ t r. not-both (sym (t .3) ∙ outcome-declined names c (r .0) (r .1) .1 (r .2)),
+  λ t r. not-both (sym (t .3) ∙ outcome-refused names c (r .0) (r .1) .1 (r .2)),
   λ f. go (outcomeFrom names c) refl f,
 )
   where
     go : (o : Outcome) → outcomeFrom names c ≡ o → (¬ ((n : ℕ) × (part : ℕ) × Refusal true names c n part)) →
         (v : Verdict) × (k : ℕ) × (S : RowSet) × (outcomeFrom names c ≡ answered v k S)
     go (answered v k S) e f = (v, k, S, e)
-    go (Query.refused n part) e f = absurd (f (n, part, outcome-declined names c n part .0 e))
+    go (Query.refused n part) e f = absurd (f (n, part, outcome-refused names c n part .0 e))

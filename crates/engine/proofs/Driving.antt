@@ -130,9 +130,9 @@ module _ (f : From) (q : Expr) (v : Verdict) (k : ℕ) where
   unfolding readFrom
   query-done h = rw (h, readFrom)
 
-  query-declined : {n : ℕ} → reading f q [] k ≡ refused n → readFrom (names f) [] q v (sets f) k ≡ Query.refused n queryPart
+  reading-refused : {n : ℕ} → reading f q [] k ≡ refused n → readFrom (names f) [] q v (sets f) k ≡ Query.refused n queryPart
   unfolding readFrom
-  query-declined h = rw (h, readFrom)
+  reading-refused h = rw (h, readFrom)
 
 pub done-filled : {f : From} {ws : List ℕ} {k : ℕ} {area : List ℕ} {r : Read} {total : ℕ} → SayWhole f ws k r area → r ≡ read.Done total → Filled area
 unfolding IfDone
@@ -271,7 +271,7 @@ module _ {f : From} {policy : List ℕ} {progress : Progress} (said : ReadDefini
       unfolding setReadIs replyFor answerArea
       query-refused {number} {area = area} e = record {
         means = λ es q v h w.
-            let o : readFrom (names f) es q v [] 0 ≡ Query.refused number queryPart = goes es q v h ∙ query-declined f q v before (reads h ∙ ap (λ (x : Read). setReadIs x scratch) e) in
+            let o : readFrom (names f) es q v [] 0 ≡ Query.refused number queryPart = goes es q v h ∙ reading-refused f q v before (reads h ∙ ap (λ (x : Read). setReadIs x scratch) e) in
             (ap replyFor (sym o), ap (λ (x : Outcome). answerArea x area) (sym o));
       }
 

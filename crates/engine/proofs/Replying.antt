@@ -25,23 +25,23 @@ use Rattle.engine.specs.Steps.{Ready, ReadAll}
 use Rattle.engine.specs.declared.Reply.{Reply}
 use Rattle.engine.specs.declared.Reply.the-variants.{Refused}
 use Rattle.engine.specs.Reply.{Replied}
-use Rattle.demands.proofs.Outcome.{call-declined, call-reads}
+use Rattle.demands.proofs.Outcome.{call-refused, call-reads}
 
--- a call that was declined
-declines : (store : List ℕ) (c : Call) (n part : ℕ) → queryCall store c ≡ Query.refused n part → Replied store c (Refused n part) (c .answer) store
+-- a call that was refused
+refuses-call : (store : List ℕ) (c : Call) (n part : ℕ) → queryCall store c ≡ Query.refused n part → Replied store c (Refused n part) (c .answer) store
 unfolding replyFor answerArea
-declines store c n part e = record { reply = ap replyFor (sym e); area = ap (λ (o : Outcome). answerArea o (c .answer)) (sym e); unchanged = refl }
+refuses-call store c n part e = record { reply = ap replyFor (sym e); area = ap (λ (o : Outcome). answerArea o (c .answer)) (sym e); unchanged = refl }
 
 pub refuses-judged : (store : List ℕ) (c : Call) (n part : ℕ) → judge (c .policy) (c .query) ≡ refused n part → Replied store c (Refused n part) (c .answer) store
-refuses-judged store c n part e = declines store c n part (call-declined store c n part .1 (judged e))
+refuses-judged store c n part e = refuses-call store c n part (call-refused store c n part .1 (judged e))
 
 module _ (store : List ℕ) (c : Call) (v : Verdict) (passes : judge (c .policy) (c .query) ≡ verdict v) where
   pub refuses-store : soundStore store ≡ false → Replied store c (Refused badStore noPart) (c .answer) store
-  refuses-store s = declines store c badStore noPart (call-declined store c badStore noPart .1 (unsound (judge-checked (c .policy) (c .query) v .0 passes .2) s))
+  refuses-store s = refuses-call store c badStore noPart (call-refused store c badStore noPart .1 (unsound (judge-checked (c .policy) (c .query) v .0 passes .2) s))
 
   module _ (sound : soundStore store ≡ true) where
     pub refuses-areas : roomy c ≡ false → Replied store c (Refused shortArea noPart) (c .answer) store
-    refuses-areas r = declines store c shortArea noPart (call-declined store c shortArea noPart .1 (short (judge-checked (c .policy) (c .query) v .0 passes .2) sound r))
+    refuses-areas r = refuses-call store c shortArea noPart (call-refused store c shortArea noPart .1 (short (judge-checked (c .policy) (c .query) v .0 passes .2) sound r))
 
     module _ (room : roomy c ≡ true) where
       enough : (setRoom ≤ length (c .answer)) × (definitionRoom ≤ length (c .definitions)) × (scratchRoom ≤ length (c .scratch))

@@ -71,10 +71,10 @@ unfolding wholeFor
 whole-parsed ks (parsed e) f t = (e, refl, cc)
 whole-parsed ks (Parse.refused n) f t = impossible cc
 
-whole-unparsed : (ks : List Known) (x : Parsed) (n : ℕ) → wholeFor ks x ≡ whole.Refused n → x ≡ Parse.refused n
+whole-refused : (ks : List Known) (x : Parsed) (n : ℕ) → wholeFor ks x ≡ whole.Refused n → x ≡ Parse.refused n
 unfolding wholeFor
-whole-unparsed ks (parsed e) n t = impossible cc
-whole-unparsed ks (Parse.refused m) n t = cc
+whole-refused ks (parsed e) n t = impossible cc
+whole-refused ks (Parse.refused m) n t = cc
 
 reply-with : (e : Expr) (c : Checked) → replyOf (withDefinition e c) ≡ replyOf c
 unfolding withDefinition replyOf
@@ -101,7 +101,7 @@ module _ (p q : List ℕ) (n d : ℕ) (x : Earlier) (j : Judging p q n d x) wher
       pub judging-refused : {m : ℕ} → r ≡ whole.Refused m → judgement.Refused m d ≡ judgementFor (judge p q)
       unfolding checkFrom replyOf judgementFor this ks
       judging-refused {m} e =
-          let u = whole-unparsed (earlierIs x) (checkDefinition p (earlierIs x) (entryAt p (entryPlace d))) m (sym g ∙ e) in
+          let u = whole-refused (earlierIs x) (checkDefinition p (earlierIs x) (entryAt p (entryPlace d))) m (sym g ∙ e) in
           sym (ap judgementFor (one-more ∙ ap (λ t. replyOf (elim t as (λ c. Checked) [
             | parsed e ↦ withDefinition e (checkFrom p (entriesFrom (n - (d + 1)) p (entryPlace d + 4)) (earlierIs x ++ (knownOf (entryAt p (entryPlace d)) e (earlierIs x) ∷ [])) q)
             | Parse.refused n ↦ Checking.refused n (length (earlierIs x))
@@ -138,7 +138,7 @@ module _ (p q : List ℕ) (n d : ℕ) (x : Earlier) (j : Judging p q n d x) wher
 
     pub query-unjudged : {m : ℕ} → r ≡ whole.Refused m → judgement.Refused m queryPart ≡ judgementFor (judge p q)
     unfolding replyOf judgementFor
-    query-unjudged {m} e = sym (ap judgementFor (at-query (whole-unparsed (earlierIs x) (checkQuery (earlierIs x) q) m (sym g ∙ e))))
+    query-unjudged {m} e = sym (ap judgementFor (at-query (whole-refused (earlierIs x) (checkQuery (earlierIs x) q) m (sym g ∙ e))))
 
     pub query-judged : {f : Facts} {v : ℕ} → r ≡ whole.Checked f → v ≡ verdictWord (verdictOf (f .plus) (f .minus)) → judgement.Verdict v ≡ judgementFor (judge p q)
     unfolding replyOf judgementFor factsFor

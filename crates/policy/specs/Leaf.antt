@@ -8,7 +8,7 @@ use lib.ListN.{length, getD}
 use Rattle.refusals.specs.RefusalTable.{badWord, notInScope}
 use Rattle.rows.specs.Name.{Polarity, plus, minus, samePolarity, polarityWord, isName}
 use Rattle.policy.specs.Terms.{Term, termWords, each, termRowWords, FitIssuer, FitRows}
-use Rattle.policy.specs.Readers.{Reader, _>>=_, _>>_, after, give, refuse, wordWhere, issuer, rows, polarity}
+use Rattle.policy.specs.Readers.{Reader, _>>=_, _>>_, give, refuse, wordWhere, issuer, rows, polarity}
 
 -- the expressions that hold no other. (Leaf is our word for them, node for the others; the documents have none.)
 pub data Leaf : Type 0 where

@@ -156,9 +156,9 @@ module _ {f : From} {ws : List ℕ} {pattern rest left : ℕ} {first : List ℕ}
               means = λ a m. d .means a (record { says = λ p b t w. drawn-row since e t (gathering f b) (rowsIn now) ∙ after-done _ (g .says b (body-here t w)) (m .says p b t w) });
             }
 
-        pub each-stopped : {n : ℕ} → o ≡ Refused n → SayEach f ws pattern rest left first count k free entry (Refused n) last after
+        pub each-body-refused : {n : ℕ} → o ≡ Refused n → SayEach f ws pattern rest left first count k free entry (Refused n) last after
         unfolding IfDone rowsReadIs
-        each-stopped {n} h =
+        each-body-refused {n} h =
             let g : MeansBody f ws rest left scope (take scope later) one (rowsIn now) (refused n) =
             subst (λ (x : Read). MeansBody f ws rest left scope (take scope later) one (rowsIn now) (rowsReadIs x after)) h (s .means) in
             record {

@@ -149,9 +149,6 @@ module _ (a : List ℕ) (from other : ℕ) (b : Bool) (rooms : Rooms a from othe
   few = room-few a from (rooms .one-room) (rooms .one-sound)
 
   module _ (now : List ℕ) (i j kept : ℕ) (f : Filtered a from other b now i j kept) where
-    so-far : List Row
-    so-far = picked b (take i mine) theirs
-
     so-far-length : length (laid (picked b (take i mine) theirs)) ≡ 5 * kept
     so-far-length = omega (arith, laid-length (picked b (take i mine) theirs) (picked-narrow b (take i mine) theirs (all-take _ i mine (narrow-in (roomAt from a)))), f .count)
 

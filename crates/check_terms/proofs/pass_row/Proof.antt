@@ -4,7 +4,7 @@ use Rattle.policy.specs.Decode.{term, row}
 use Rattle.check_terms.specs.Answers.{keeping, nothing}
 use Rattle.check_terms.proofs.Answering.{word-found, keeps-got, keeps-lost}
 use Rattle.check_terms.proofs.TermAnswers.{term-found, term-refused}
-use Rattle.check_terms.proofs.RowAnswers.{Going, going-on, going-lost, going-done, row-starts, row-refused, shows-passed, shows-stopped}
+use Rattle.check_terms.proofs.RowAnswers.{Going, going-on, going-lost, going-done, row-starts, row-refused, shows-passed, shows-refused}
 use borrow.Author.Needs.{needs}
 use Rattle.check_terms.proofs.pass_row.Statement.{statement}
 use Rattle.check_terms.proofs.pass_row.Tie as tie
@@ -22,13 +22,13 @@ loop-holds : tie.Need-loop-holds Inv-loop μ-loop
 loop-holds c = let a = c .before .before .before .before .before .args in row-starts (a .words .now) (a .at) (a .variables) (c .before .before .before .word-between .ensures) (c .before .width .given .1)
 
 returns : tie.Need-returns Inv-loop μ-loop
-returns c = shows-stopped (going-lost (c .before .before .before .before .before .loop .inv) (c .before .before .before .before .loop-test .taken) (keeps-lost nothing (term-refused (c .before .before .before .read-term .ensures) (c .before .n2 .given .1))))
+returns c = shows-refused (going-lost (c .before .before .before .before .before .loop .inv) (c .before .before .before .before .loop-test .taken) (keeps-lost nothing (term-refused (c .before .before .before .read-term .ensures) (c .before .n2 .given .1))))
 
 loop-again : tie.Need-loop-again Inv-loop μ-loop
 loop-again c = going-on (c .before .before .before .before .before .loop .inv) (c .before .before .before .before .loop-test .taken) (keeps-got nothing (term-found (c .before .before .before .read-term .ensures) (c .before .after .given .1)))
 
 returns-2 : tie.Need-returns-2 Inv-loop μ-loop
-returns-2 c = let a = c .before .before .before .before .before .args in shows-stopped (row-refused (a .words .now) (a .at) (a .variables) (c .before .before .before .word-between .ensures) (c .before .n .given .1))
+returns-2 c = let a = c .before .before .before .before .before .args in shows-refused (row-refused (a .words .now) (a .at) (a .variables) (c .before .before .before .word-between .ensures) (c .before .n .given .1))
 
 returns-3 : tie.Need-returns-3 Inv-loop μ-loop
 returns-3 c = shows-passed (going-done (c .before .loop .inv) (c .loop-test .left))

@@ -3,7 +3,7 @@ use native.Mathlib.Omega.{arith}
 use Rattle.policy.specs.Decode.{row, rows}
 use Rattle.check_terms.specs.Answers.{keeping, nothing}
 use Rattle.check_terms.proofs.Answering.{word-found}
-use Rattle.check_terms.proofs.RowAnswers.{Going, going-on, going-lost, going-done, passed-found, passed-lost, rows-start, rows-refused, shows-passed, shows-stopped}
+use Rattle.check_terms.proofs.RowAnswers.{Going, going-on, going-lost, going-done, passed-found, passed-lost, rows-start, rows-refused, shows-passed, shows-refused}
 use borrow.Author.Needs.{needs}
 use Rattle.check_terms.proofs.pass_rows.Statement.{statement}
 use Rattle.check_terms.proofs.pass_rows.Tie as tie
@@ -21,13 +21,13 @@ loop-holds : tie.Need-loop-holds Inv-loop μ-loop
 loop-holds c = let a = c .before .before .before .before .before .args in rows-start (a .words .now) (a .at) (a .variables) (c .before .before .before .word-between .ensures) (c .before .count .given .1)
 
 returns : tie.Need-returns Inv-loop μ-loop
-returns c = shows-stopped (going-lost (c .before .before .before .before .before .loop .inv) (c .before .before .before .before .loop-test .taken) (passed-lost (c .before .before .before .pass-row .ensures) (c .before .n2 .given .1)))
+returns c = shows-refused (going-lost (c .before .before .before .before .before .loop .inv) (c .before .before .before .before .loop-test .taken) (passed-lost (c .before .before .before .pass-row .ensures) (c .before .n2 .given .1)))
 
 loop-again : tie.Need-loop-again Inv-loop μ-loop
 loop-again c = going-on (c .before .before .before .before .before .loop .inv) (c .before .before .before .before .loop-test .taken) (passed-found (c .before .before .before .pass-row .ensures) (c .before .after .given .1))
 
 returns-2 : tie.Need-returns-2 Inv-loop μ-loop
-returns-2 c = let a = c .before .before .before .before .before .args in shows-stopped (rows-refused (a .words .now) (a .at) (a .variables) (c .before .before .before .word-between .ensures) (c .before .n .given .1))
+returns-2 c = let a = c .before .before .before .before .before .args in shows-refused (rows-refused (a .words .now) (a .at) (a .variables) (c .before .before .before .word-between .ensures) (c .before .n .given .1))
 
 returns-3 : tie.Need-returns-3 Inv-loop μ-loop
 returns-3 c = shows-passed (going-done (c .before .loop .inv) (c .loop-test .left))

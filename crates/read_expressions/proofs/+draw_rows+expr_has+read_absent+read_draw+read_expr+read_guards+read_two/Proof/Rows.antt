@@ -2,7 +2,7 @@
 use Prim.Native.Nat.{ℕ}
 use mathlib.Core.Path.{_∙_}
 use native.Mathlib.Omega.{arith}
-use Rattle.read_expressions.proofs.Draws.{each-room, drawing-start, ask-next, each-refused, each-ended, each-body, each-nearer, drawing-on, each-stopped, each-done}
+use Rattle.read_expressions.proofs.Draws.{each-room, drawing-start, ask-next, each-refused, each-ended, each-body, each-nearer, drawing-on, each-body-refused, each-done}
 use Rattle.read_expressions.proofs.draw_rows.Reads as draw-rows
 use Rattle.read_expressions.proofs.+draw_rows+expr_has+read_absent+read_draw+read_expr+read_guards+read_two.Lts-draw_rows as draw-rows-lts
 use Rattle.read_expressions.proofs.+draw_rows+expr_has+read_absent+read_draw+read_expr+read_guards+read_two.Proof.Cycle.{draw-rows-at, draw-rows-claims, draw-rows-Inv-loop, draw-rows-μ-loop}
@@ -54,7 +54,7 @@ pub same-length-3 : (t : ℕ) → draw-rows-lts.Need-same-length-3 (draw-rows-cl
 same-length-3 t c = c .before .before .before .before .before .read-guards .kept .1 .1 .1 .1 .1 .0 ∙ turn t (drawn t (c .before .before .before .before .before)) .loop .inv .size
 
 pub returns-3 : (t : ℕ) → draw-rows-lts.Need-returns-3 (draw-rows-claims t) (draw-rows-at t) draw-rows.Post draw-rows-Inv-loop draw-rows-μ-loop
-returns-3 t c = each-stopped (turn t (drawn t (c .before .before .before .before .before)) .loop .inv) (drawn t (c .before .before .before .before .before) .draw-next .ensures)
+returns-3 t c = each-body-refused (turn t (drawn t (c .before .before .before .before .before)) .loop .inv) (drawn t (c .before .before .before .before .before) .draw-next .ensures)
     (c .before .before .before .before .before .before .before .before .before .next .given .1) (c .before .before .before .before .before .read-guards .ensures) (c .before .n2 .given .1)
 
 pub loop-less : (t : ℕ) → draw-rows-lts.Need-loop-less (draw-rows-claims t) (draw-rows-at t) draw-rows.Post draw-rows-Inv-loop draw-rows-μ-loop
