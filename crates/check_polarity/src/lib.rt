@@ -86,7 +86,7 @@ pub fn absent_of(lacking: Facts, rest: Facts) -> Facts
     }
 }
 
-// Of rows of terms, in a literal, a comparison or a head: "No other operand counts", so terms take no polarity away.
+// Of rows of terms, in a literal or a head: "No other operand counts", so terms take no polarity away.
 pub fn of_terms(complement: bool) -> Facts
     ensures { λ r. ⌜ r ≡ termFacts complement ⌝ }
 {

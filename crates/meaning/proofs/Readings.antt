@@ -7,7 +7,7 @@ use Rattle.rows.specs.Word.{All}
 use Rattle.rows.specs.Name.{plus, minus}
 use Rattle.rows.specs.Sets.{RowSet, only, allBut}
 use Rattle.policy.specs.Leaf.{finite, cofinite, listed}
-use Rattle.policy.specs.Syntax.{Term, atom, var, old, new, Expr, leaf, union, difference, comprehension, head, draw, same, absent}
+use Rattle.policy.specs.Syntax.{Term, atom, var, old, new, Expr, leaf, union, difference, comprehension, head, draw, same, different, absent}
 use Rattle.meaning.specs.Evidence.{namesHeld}
 use Rattle.meaning.specs.Reading.{Result, done, refused, read}
 
@@ -36,6 +36,9 @@ trials =
     ∷ record { expr = comprehension (draw (leaf (finite ((atom 5 ∷ []) ∷ (atom 6 ∷ []) ∷ []))) (old (atom 6) ∷ []) (head (atom 1 ∷ []))); answer = done (only ((1 ∷ []) ∷ [])) 2 }
     -- "guards after a failed one are not read": the second draw is never reached
     ∷ record { expr = comprehension (same (atom 1) (atom 2) (draw (leaf (finite ((atom 5 ∷ []) ∷ []))) (new ∷ []) (head (var 0 ∷ [])))); answer = done (only []) 0 }
+    -- "same and different, if the two atoms are equal or differ"
+    ∷ record { expr = comprehension (same (atom 1) (atom 1) (head (atom 3 ∷ []))); answer = done (only ((3 ∷ []) ∷ [])) 0 }
+    ∷ record { expr = comprehension (different (atom 1) (atom 2) (head (atom 3 ∷ []))); answer = done (only ((3 ∷ []) ∷ [])) 0 }
     -- "an operand is read each time its guard is reached": 2 draws, and 1 inside the operand for each of them
     ∷ record {
       expr = comprehension (draw (leaf (finite ((atom 5 ∷ []) ∷ (atom 6 ∷ []) ∷ []))) (new ∷ [])
@@ -46,7 +49,7 @@ trials =
     ∷ record { expr = comprehension (draw (leaf (cofinite [])) (new ∷ []) (head (var 0 ∷ []))); answer = refused complementDrawn }
     ∷ record { expr = union (leaf (finite (oneAtom 1 100))) (leaf (finite (oneAtom 1000 29))); answer = refused tooManyRows }
     ∷ record { expr = difference (difference (leaf (cofinite (oneAtom 1 100))) (leaf (finite (oneAtom 1000 28)))) (leaf (cofinite [])); answer = done (only []) 0 }
-    ∷ record { expr = union (leaf (finite (oneAtom 1 100))) (comprehension (draw (leaf (cofinite [])) (new ∷ []) (head (var 0 ∷ [])))); answer = refused complementDrawn }
+    ∷ record { expr = union (leaf (finite (oneAtom 1 128))) (comprehension (draw (leaf (cofinite [])) (new ∷ []) (head (var 0 ∷ [])))); answer = refused complementDrawn }
     -- a − name of which nothing is held has all rows, not none; a number's list has none with + and all with −
     ∷ record { expr = comprehension (absent (atom 7 ∷ []) (leaf (listed (atom k1) 2 minus)) (head (atom 7 ∷ []))); answer = done (only []) 0 }
     ∷ record { expr = leaf (listed (atom 5) 2 plus); answer = done (only []) 0 }
@@ -55,4 +58,4 @@ trials =
 
 pub readings : All Holds trials
 unfolding Holds trials All
-readings = (refl, (refl, (refl, (refl, (refl, (refl, (refl, (refl, (refl, (refl, (refl, tt)))))))))))
+readings = (refl, (refl, (refl, (refl, (refl, (refl, (refl, (refl, (refl, (refl, (refl, (refl, (refl, tt)))))))))))))
