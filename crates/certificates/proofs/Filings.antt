@@ -6,28 +6,30 @@ use mathlib.Core.Bool.{true, false}
 use mathlib.Core.List.{List, [], _∷_, _++_}
 use native.Mathlib.Omega.{arith}
 use lib.Dec.{T, ltb}
-use lib.ListN.{length, drop, length-append, length-drop}
-use lib.Seq.{drop-at, drop-drop}
+use lib.ListN.{length, drop}
+use lib.Seq.{drop-drop}
 use borrow.Author.Tests.{ltb-true, ltb-false}
 use Rattle.refusals.specs.RefusalTable.{badCertificate, storeFull}
 use Rattle.rows.specs.Word.{All, Words}
 use Rattle.rows.specs.Ordered.{_∈_, lists, insert}
-use Rattle.rows.specs.Layout.{flat, pieces}
+use Rattle.rows.specs.Layout.{pieces}
+use Rattle.rows.specs.Records.{countOf, recordsIn, withRecords}
 use Rattle.rows.proofs.Case.{Case, isTrue, isFalse, split, never, T-true, true-T, same-test, _then_, iff-refl, iff-sym, both-or}
-use Rattle.rows.proofs.Order.{words-order}
 use Rattle.rows.proofs.Lists.{all-in, all-of}
 use Rattle.rows.proofs.Ordered.{lists-iff, insert-∈, insert-ascending, insert-length}
-use Rattle.rows.proofs.LayoutLaws.{pieces-flat, flat-length}
+use Rattle.rows.proofs.LayoutLaws.{Sized}
+use Rattle.rows.proofs.Records.{records-length, with-records, with-length, with-past}
 use Rattle.certificates.specs.Certificate.{recordWords, soundRecord, recordBefore}
-use Rattle.certificates.specs.Store.{capacity, countOf, records, soundStore, withRecords}
+use Rattle.certificates.specs.Store.{capacity, records, soundStore}
 use Rattle.certificates.specs.Filing.{FilingReply, filed, held, refused, replyGiven, fileReply, storeBy, storeAfter, storeAt, acceptedBy, acceptedFrom, accepted}
-use Rattle.certificates.proofs.Sound.{AllSound, sound-store, store-sound, sound-sized, records-length}
+use Rattle.certificates.proofs.RecordOrder.{record-order}
+use Rattle.certificates.proofs.Sound.{AllSound, sound-store, store-sound, sound-sized}
 
 pub listed : (rs : List (List ℕ)) (w : List ℕ) → lists recordBefore rs w ≡ true → w ∈ rs
-listed rs w e = lists-iff recordBefore words-order rs w .0 (T-true e)
+listed rs w e = lists-iff recordBefore record-order rs w .0 (T-true e)
 
 pub not-listed : (rs : List (List ℕ)) (w : List ℕ) → lists recordBefore rs w ≡ false → ¬ (w ∈ rs)
-not-listed rs w e i = never (true-T _ (lists-iff recordBefore words-order rs w .1 i)) e
+not-listed rs w e i = never (true-T _ (lists-iff recordBefore record-order rs w .1 i)) e
 
 -- why a reply was given
 pub data Replied (rs : List (List ℕ)) (w : List ℕ) : FilingReply → Type 0 where
@@ -55,7 +57,7 @@ pub record Keeps (first now : List ℕ) (rs : List (List ℕ)) : Type 0 where
   pub untouched : drop (1 + recordWords * countOf now) now ≡ drop (1 + recordWords * countOf now) first
 
 pub empty-keeps : (store : List ℕ) → soundStore store ≡ true → countOf store ≡ 0 → Keeps store store []
-unfolding records pieces _∈_
+unfolding recordsIn pieces _∈_
 empty-keeps store s z = record {
   sound = s;
   just = λ w. subst (λ (n : ℕ). (w ∈ pieces recordWords n (drop 1 store)) ↔ ⊥) (sym z) iff-refl;
@@ -76,10 +78,10 @@ same-reply xs ys w e f = go (split (soundRecord w)) (split (lists recordBefore y
 
 pub reply-keeps : {first now : List ℕ} {rs : List (List ℕ)} → Keeps first now rs → (w : List ℕ) → fileReply now w ≡ replyGiven rs w
 unfolding fileReply
-reply-keeps {first} {now} {rs} k w = rw (k .sound, fileReply) (same-reply (records now) rs w (same-test _ _ held-alike) (records-length now ∙ k .count))
+reply-keeps {first} {now} {rs} k w = rw (k .sound, fileReply) (same-reply (records now) rs w (same-test _ _ held-alike) (records-length recordWords now ∙ k .count))
   where
     held-alike : T (lists recordBefore (records now) w) ↔ T (lists recordBefore rs w)
-    held-alike = lists-iff recordBefore words-order (records now) w then k .just w then iff-sym (lists-iff recordBefore words-order rs w)
+    held-alike = lists-iff recordBefore record-order (records now) w then k .just w then iff-sym (lists-iff recordBefore record-order rs w)
 
 -- the store with a new record in its place
 module _ {first now : List ℕ} {rs : List (List ℕ)} (k : Keeps first now rs) (w : List ℕ) (s : soundRecord w ≡ true) (fresh : ¬ (w ∈ rs)) (room : length rs < capacity) where
@@ -88,46 +90,43 @@ module _ {first now : List ℕ} {rs : List (List ℕ)} (k : Keeps first now rs) 
 
   placed-just : (v : List ℕ) → (v ∈ placed) ↔ (v ∈ (w ∷ rs))
   unfolding placed _∈_
-  placed-just v = insert-∈ recordBefore words-order w (records now) v then both-or iff-refl (k .just v)
+  placed-just v = insert-∈ recordBefore record-order w (records now) v then both-or iff-refl (k .just v)
 
   placed-sound : AllSound placed
   unfolding placed
   placed-sound = all-of (λ v. soundRecord v ≡ true) placed λ v i.
-      elim (insert-∈ recordBefore words-order w (records now) v .0 i) [
+      elim (insert-∈ recordBefore record-order w (records now) v .0 i) [
         | inl e ↦ subst (λ (x : List ℕ). soundRecord x ≡ true) (sym e) s
         | inr j ↦ all-in (λ x. soundRecord x ≡ true) (records now) (sound-store now (k .sound) .each) v j
       ]
 
   placed-length : length placed ≡ suc (length rs)
   unfolding placed
-  placed-length = insert-length recordBefore words-order w (records now) (λ i. fresh (k .just w .0 i)) ∙ ap suc (records-length now ∙ k .count)
+  placed-length = insert-length recordBefore record-order w (records now) (λ i. fresh (k .just w .0 i)) ∙ ap suc (records-length recordWords now ∙ k .count)
 
   after : List ℕ
-  after = withRecords placed now
+  after = withRecords recordWords placed now
 
   after-count : countOf after ≡ length placed
   unfolding after withRecords
   after-count = refl
 
+  placed-sized : All (Sized recordWords) placed
+  placed-sized = sound-sized placed placed-sound
+
   after-records : records after ≡ placed
-  unfolding after records withRecords
-  after-records = pieces-flat recordWords placed _ (sound-sized placed placed-sound)
+  unfolding after
+  after-records = with-records recordWords placed now placed-sized
 
   after-length : length after ≡ length first
-  unfolding after withRecords
-  after-length =
-      let n = placed-length in
-      let l = sound-store now (k .sound) .long in
-      let e = k .size in
-      let f = flat-length recordWords placed (sound-sized placed placed-sound) in
-      simp (length-append, length-drop) (omega arith)
+  unfolding after
+  after-length = with-length recordWords placed now placed-sized (omega (arith, placed-length, sound-store now (k .sound) .long)) ∙ k .size
 
   after-untouched : drop (1 + recordWords * length placed) after ≡ drop (1 + recordWords * length placed) first
-  unfolding after withRecords
+  unfolding after
   after-untouched =
-      let past : ℕ = recordWords * length placed in
-      let split-past : 1 + past ≡ (1 + recordWords * countOf now) + recordWords = omega (arith, placed-length, k .count) in
-      drop-at (length placed ∷ flat placed) (drop (1 + past) now) (1 + past) (omega (arith, flat-length recordWords placed (sound-sized placed placed-sound)))
+      let split-past : 1 + recordWords * length placed ≡ (1 + recordWords * countOf now) + recordWords = omega (arith, placed-length, k .count) in
+      with-past recordWords placed now placed-sized
       ∙ ap (λ (n : ℕ). drop n now) split-past
       ∙ sym (drop-drop recordWords (1 + recordWords * countOf now) now)
       ∙ ap (drop recordWords) (k .untouched)
@@ -141,7 +140,7 @@ module _ {first now : List ℕ} {rs : List (List ℕ)} (k : Keeps first now rs) 
       long = omega (arith, after-length, k .size, sound-store now (k .sound) .long);
       few = omega (arith, after-count, placed-length);
       each = subst AllSound (sym after-records) placed-sound;
-      order = rw after-records (insert-ascending recordBefore words-order w (records now) (sound-store now (k .sound) .order));
+      order = rw after-records (insert-ascending recordBefore record-order w (records now) (sound-store now (k .sound) .order));
     });
     just = λ v. rw after-records (placed-just v);
     count = after-count ∙ placed-length;
@@ -167,11 +166,6 @@ at-keeps k [] = k
 at-keeps k (w ∷ ws) = at-keeps (file-keeps k w) ws
 
 -- a list of filings in two parts
-pub storeAt-append : (store : List ℕ) (xs ys : List (List ℕ)) → storeAt store (xs ++ ys) ≡ storeAt (storeAt store xs) ys
-unfolding storeAt
-storeAt-append store [] ys = refl
-storeAt-append store (x ∷ xs) ys = storeAt-append (storeAfter store x) xs ys
-
 pub acceptedFrom-append : (rs xs ys : List (List ℕ)) → acceptedFrom rs (xs ++ ys) ≡ acceptedFrom (acceptedFrom rs xs) ys
 unfolding acceptedFrom
 acceptedFrom-append rs [] ys = refl

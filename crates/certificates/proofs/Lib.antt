@@ -1,7 +1,6 @@
-pub mod Pieces
-pub mod Places
+pub mod RecordOrder
 pub mod Sound
+pub mod WordByWord
 pub mod Filings
 pub mod NameParts
 pub mod NameRows
-pub mod Stores

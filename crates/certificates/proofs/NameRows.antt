@@ -1,28 +1,27 @@
 -- The records of one name: their words are cut back into them, their rows lie there as five sound words each, and in the order of rows.
 use Prim.Native.Nat.{ℕ, _+_, _-_, _*_, _<_}
-use mathlib.Core.Path.{_≡_, refl, sym, _∙_, ap}
-use mathlib.Core.Bool.{Bool, true, _&&_, _||_}
-use mathlib.Core.List.{List, [], _∷_, _++_, map, append-nil}
+use mathlib.Core.Path.{_≡_, sym, _∙_, ap}
+use mathlib.Core.Bool.{Bool, true}
+use mathlib.Core.List.{List, [], _∷_, map, append-nil}
 use native.Mathlib.Omega.{arith}
-use lib.Dec.{ltb, eqb}
-use lib.ListN.{length, getD, take, drop, replicate, length-drop}
+use lib.ListN.{length, getD, take, drop, length-drop}
 use lib.Seq.{take-add, drop-at, drop-drop, length-take-le}
-use borrow.Author.Tests.{ltb-true, eqb-true}
 use Rattle.rows.specs.Word.{All}
-use Rattle.rows.specs.Ordered.{StrictTotal, keep, wordsBefore}
-use Rattle.rows.specs.Row.{Row, rowBefore}
-use Rattle.rows.specs.Layout.{flat, pieces, rowIn, rowWords, fiveAt, soundRow}
-use Rattle.rows.proofs.Case.{Case, isTrue, isFalse, split, never, and-true, true-T}
-use Rattle.rows.proofs.Order.{step-less, step-equal, words-order, row-order}
+use Rattle.rows.specs.Ordered.{StrictTotal, keep}
+use Rattle.rows.specs.Row.{rowBefore}
+use Rattle.rows.specs.Layout.{flat, pieces, fiveAt, soundRow}
+use Rattle.rows.proofs.Case.{Case, isTrue, isFalse, split, never, true-T}
+use Rattle.rows.proofs.Order.{row-order}
 use Rattle.rows.proofs.Lists.{all-in, all-of}
 use Rattle.rows.proofs.Ordered.{Under, Ascending, keep-∈, keep-ascending}
-use Rattle.rows.proofs.LayoutLaws.{Sized, flat-length, pieces-flat, piece-at, row-written}
-use Rattle.certificates.specs.Certificate.{recordWords, soundRecord, recordBefore}
+use Rattle.rows.proofs.Place.{getD-∈}
+use Rattle.rows.proofs.LayoutLaws.{Sized, flat-length, pieces-flat, piece-at}
+use Rattle.certificates.specs.Certificate.{recordWords, soundRecord, recordName, recordRow, recordBefore}
 use Rattle.certificates.specs.Store.{records, soundStore}
 use Rattle.certificates.specs.NamePart.{ofName, namePart}
-use Rattle.certificates.proofs.Sound.{sound-record, sound-sized, sound-store}
-use Rattle.certificates.proofs.Places.{element}
-use Rattle.certificates.proofs.NameParts.{nameFirst}
+use Rattle.certificates.proofs.RecordOrder.{record-order, row-denies}
+use Rattle.certificates.proofs.Sound.{sound-record, row-is-all, sound-sized, sound-store}
+use Rattle.certificates.proofs.NameParts.{name-is}
 
 -- an ascending list is mapped to one where the map keeps the order
 module _ {A B : Type 0} {before : A → A → Bool} (laws : StrictTotal before) {before′ : B → B → Bool} (laws′ : StrictTotal before′) (f : A → B) (P : A → Type 0)
@@ -37,64 +36,24 @@ module _ {A B : Type 0} {before : A → A → Bool} (laws : StrictTotal before) 
   map-ascending [] ps a = tt
   map-ascending (x ∷ xs) ps a = (map-under x xs (ps .0) (ps .1) (a .0), map-ascending xs (ps .1) (a .1))
 
--- words that begin or end alike
-same-front : (u x y : List ℕ) → wordsBefore (u ++ x) (u ++ y) ≡ wordsBefore x y
-unfolding wordsBefore
-same-front [] x y = refl
-same-front (a ∷ u) x y = step-equal a a (wordsBefore (u ++ x) (u ++ y)) refl ∙ same-front u x y
-
-same-end : (x y z : List ℕ) → length x ≡ length y → wordsBefore (x ++ z) (y ++ z) ≡ wordsBefore x y
-unfolding wordsBefore
-same-end [] [] z e = words-order .irreflexive z
-same-end [] (b ∷ y) z e = absurd (omega arith)
-same-end (a ∷ x) [] z e = absurd (omega arith)
-same-end (a ∷ x) (b ∷ y) z e = ap (λ (q : Bool). ltb a b || (eqb a b && q)) (same-end x y z (omega arith))
-
--- rows are in the order of their words
-words-row : (r s : Row) → wordsBefore (rowWords r) (rowWords s) ≡ true → rowBefore r s ≡ true
-unfolding wordsBefore rowWords rowBefore
-words-row r s h = go (split (ltb (length r) (length s))) (split (eqb (length r) (length s)))
-  where
-    go : Case (ltb (length r) (length s)) → Case (eqb (length r) (length s)) → rowBefore r s ≡ true
-    go (isTrue a) b = step-less (length r) (length s) (wordsBefore r s) (ltb-true (length r) (length s) a)
-    go (isFalse a) (isTrue b) =
-        let e = eqb-true (length r) (length s) b in
-        let z : List ℕ = replicate (4 - length s) 0 in
-        step-equal (length r) (length s) (wordsBefore r s) e
-        ∙ sym (same-end r s z e)
-        ∙ ap (λ (n : ℕ). wordsBefore (r ++ replicate (4 - n) 0) (s ++ z)) (sym e)
-        ∙ sym (step-equal (length r) (length s) _ e) ∙ h
-    go (isFalse a) (isFalse b) = never h (rw (a, b))
-
 module _ (key name polarity : ℕ) where
   -- sound, and of the name
   record OfName (w : List ℕ) : Type 0 where
     sound : soundRecord w ≡ true
     named : ofName key name polarity w ≡ true
 
-  begins : (w : List ℕ) → OfName w → w ≡ nameFirst key name polarity ++ drop 3 w
-  begins [] o = absurd (omega (arith, sound-record [] (o .sound) .eight))
-  begins (a ∷ []) o = absurd (omega (arith, sound-record (a ∷ []) (o .sound) .eight))
-  begins (a ∷ b ∷ []) o = absurd (omega (arith, sound-record (a ∷ b ∷ []) (o .sound) .eight))
-  begins (a ∷ b ∷ c ∷ w) o =
-      let s = and-true (eqb a key) _ (o .named) in
-      let t = and-true (eqb b name) (eqb c polarity) (s .1) in
-      let e : a ≡ key = eqb-true a key (s .0) in
-      let f : b ≡ name = eqb-true b name (t .0) in
-      let g : c ≡ polarity = eqb-true c polarity (t .1) in
-      cc
+  rows-ascend : (v w : List ℕ) → OfName v → OfName w → recordBefore v w ≡ true → rowBefore (recordRow v) (recordRow w) ≡ true
+  rows-ascend v w o q h = go (split (rowBefore (recordRow v) (recordRow w))) (split (rowBefore (recordRow w) (recordRow v)))
+    where
+      named : recordName v ≡ recordName w
+      named = name-is key name polarity v (o .sound) (o .named) ∙ sym (name-is key name polarity w (q .sound) (q .named))
 
-  row-order-kept : (w v : List ℕ) → OfName w → OfName v → recordBefore w v ≡ true → rowBefore (rowIn (drop 3 w)) (rowIn (drop 3 v)) ≡ true
-  row-order-kept w v o q h =
-      let r = sound-record w (o .sound) in
-      let s = sound-record v (q .sound) in
-      let e = row-written (drop 3 w) (omega (arith, length-drop 3 w, r .eight)) (r .row) in
-      let f = row-written (drop 3 v) (omega (arith, length-drop 3 v, s .eight)) (s .row) in
-      let g : wordsBefore (drop 3 w) (drop 3 v) ≡ true =
-      sym (same-front (nameFirst key name polarity) (drop 3 w) (drop 3 v))
-      ∙ ap (λ (x : List ℕ). wordsBefore x (nameFirst key name polarity ++ drop 3 v)) (sym (begins w o))
-      ∙ ap (wordsBefore w) (sym (begins v q)) ∙ h in
-      words-row (rowIn (drop 3 w)) (rowIn (drop 3 v)) (rw (e, f) g)
+      go : Case (rowBefore (recordRow v) (recordRow w)) → Case (rowBefore (recordRow w) (recordRow v)) → rowBefore (recordRow v) (recordRow w) ≡ true
+      go (isTrue a) b = a
+      go (isFalse a) (isTrue b) = never h (row-denies v w named b)
+      go (isFalse a) (isFalse b) =
+          let e = row-is-all v w (o .sound) (q .sound) named (row-order .total (recordRow v) (recordRow w) a b) in
+          never h (rw e (record-order .irreflexive w))
 
   module _ (store : List ℕ) (sound : soundStore store ≡ true) where
     of-name : All OfName (keep (ofName key name polarity) (records store))
@@ -103,9 +62,9 @@ module _ (key name polarity : ℕ) where
         record { sound = all-in (λ x. soundRecord x ≡ true) (records store) (sound-store store sound .each) w (k .1); named = true-T _ (k .0) }
 
     -- the rows of the name, as its records have them, are a set's rows
-    pub name-rows : Ascending rowBefore row-order (map (λ w. rowIn (drop 3 w)) (keep (ofName key name polarity) (records store)))
-    name-rows = map-ascending words-order row-order (λ w. rowIn (drop 3 w)) OfName row-order-kept (keep (ofName key name polarity) (records store)) of-name
-        (keep-ascending recordBefore words-order (ofName key name polarity) (records store) (sound-store store sound .order))
+    pub name-rows : Ascending rowBefore row-order (map (λ w. recordRow w) (keep (ofName key name polarity) (records store)))
+    name-rows = map-ascending record-order row-order (λ w. recordRow w) OfName rows-ascend (keep (ofName key name polarity) (records store)) of-name
+        (keep-ascending recordBefore record-order (ofName key name polarity) (records store) (sound-store store sound .order))
 
     -- the part's words are those of the name's records, one after the other
     part-flat : namePart store key name polarity ≡ flat (keep (ofName key name polarity) (records store))
@@ -140,4 +99,4 @@ module _ (key name polarity : ℕ) where
       name-sound =
           let rs : List (List ℕ) = keep (ofName key name polarity) (records store) in
           let w : List ℕ = getD rs i [] in
-          rw name-row (sound-record w (all-in OfName rs of-name w (element rs [] i below) .sound) .row)
+          rw name-row (sound-record w (all-in OfName rs of-name w (getD-∈ rs i [] below) .sound) .row)

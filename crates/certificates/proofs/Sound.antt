@@ -1,25 +1,23 @@
 -- What soundness says of a record and of a store.
-use Prim.Native.Nat.{ℕ, _≤_}
+use Prim.Native.Nat.{ℕ}
 use mathlib.Core.Path.{_≡_}
-use mathlib.Core.Bool.{true, _&&_}
+use mathlib.Core.Bool.{true}
 use mathlib.Core.List.{List, [], _∷_}
 use native.Mathlib.Omega.{arith}
-use lib.Dec.{leb, eqb}
-use lib.ListN.{length, getD, drop, length-drop}
-use borrow.Author.Tests.{leb-true, eqb-true, le-leb, eq-eqb}
+use lib.Dec.{eqb}
+use lib.ListN.{length, getD, drop, length-drop, take-append-drop}
+use borrow.Author.Tests.{eqb-true, eq-eqb}
 use Rattle.rows.specs.Word.{All, IsWord, Words}
-use Rattle.rows.specs.Ordered.{ascending}
 use Rattle.rows.specs.Row.{IsRow, isKey}
 use Rattle.rows.specs.Name.{isName, isPolarity}
-use Rattle.rows.specs.Layout.{soundRow, every}
-use Rattle.rows.proofs.Case.{Case, isTrue, isFalse, split, never, and-true, true-and}
-use Rattle.rows.proofs.Order.{words-order}
+use Rattle.rows.specs.Layout.{rowWords, soundRow}
+use Rattle.rows.proofs.Case.{and-true, true-and}
 use Rattle.rows.proofs.Lists.{all-drop}
-use Rattle.rows.proofs.Ordered.{Ascending, ascending-true, true-ascending}
-use Rattle.rows.proofs.LayoutLaws.{Sized, length-pieces, row-is}
-use Rattle.certificates.specs.Certificate.{recordWords, soundRecord, certificateOf, recordBefore}
-use Rattle.certificates.specs.Store.{capacity, storeWords, countOf, records, soundStore}
-use Rattle.certificates.proofs.Pieces.{every-true, true-every, pieces-words}
+use Rattle.rows.proofs.LayoutLaws.{Sized, row-is, row-written}
+use Rattle.rows.proofs.Records.{SoundRecords, true-sound, sound-true}
+use Rattle.certificates.specs.Certificate.{recordWords, soundRecord, recordName, recordRow, certificateOf}
+use Rattle.certificates.specs.Store.{capacity, soundStore}
+use Rattle.certificates.proofs.RecordOrder.{record-order}
 
 -- a record, test by test
 pub record SoundRecord (w : List ℕ) : Type 0 where
@@ -42,21 +40,24 @@ pub record-sound : (w : List ℕ) → SoundRecord w → soundRecord w ≡ true
 unfolding soundRecord
 record-sound w s = true-and _ _ (eq-eqb (length w) recordWords (s .eight)) (true-and _ _ (s .key) (true-and _ _ (s .name) (true-and _ _ (s .polarity) (s .row))))
 
+-- its last five words are its row's, and nothing follows them
+pub row-laid : (w : List ℕ) → soundRecord w ≡ true → rowWords (recordRow w) ≡ drop 3 w
+row-laid w e = let s = sound-record w e in row-written (drop 3 w) (omega (arith, length-drop 3 w, s .eight)) (s .row)
+
+pub row-is-all : (v w : List ℕ) → soundRecord v ≡ true → soundRecord w ≡ true → recordName v ≡ recordName w → recordRow v ≡ recordRow w → v ≡ w
+row-is-all v w r s n e =
+    let f = row-laid v r in
+    let g = row-laid w s in
+    let x = take-append-drop 3 v in
+    let y = take-append-drop 3 w in
+    cc
+
 -- what a certificate speaks about is a row
 pub about-row : (w : List ℕ) → soundRecord w ≡ true → Words w → IsRow (certificateOf w .row)
 unfolding certificateOf
 about-row w e p =
     let s = sound-record w e in
     row-is (drop 3 w) (omega (arith, length-drop 3 w, s .eight)) (s .row) (all-drop IsWord 3 w p)
-
--- the records of a store
-pub records-length : (store : List ℕ) → length (records store) ≡ countOf store
-unfolding records
-records-length store = length-pieces recordWords (countOf store) (drop 1 store)
-
-pub records-words : (store : List ℕ) → Words store → All Words (records store)
-unfolding records
-records-words store p = pieces-words recordWords (countOf store) (drop 1 store) (all-drop IsWord 1 store p)
 
 abbrev pub AllSound : List (List ℕ) → Type 0
 AllSound = All (λ w. soundRecord w ≡ true)
@@ -67,31 +68,10 @@ sound-sized [] a = tt
 sound-sized (r ∷ rs) a = (sound-record r (a .0) .eight, sound-sized rs (a .1))
 
 -- a sound store, test by test
-pub record SoundStore (store : List ℕ) : Type 0 where
-  pub long : storeWords ≤ length store
-  pub few : countOf store ≤ capacity
-  pub each : AllSound (records store)
-  pub order : Ascending recordBefore words-order (records store)
-
-pub sound-store : (store : List ℕ) → soundStore store ≡ true → SoundStore store
+pub sound-store : (store : List ℕ) → soundStore store ≡ true → SoundRecords recordWords capacity soundRecord record-order store
 unfolding soundStore
-sound-store store e = go (split (leb storeWords (length store) && leb (countOf store) capacity))
-  where
-    go : Case (leb storeWords (length store) && leb (countOf store) capacity) → SoundStore store
-    go (isTrue p) =
-        let a = and-true (leb storeWords (length store)) _ p in
-        let f : (every soundRecord (records store) && ascending recordBefore (records store)) ≡ true = rw (p, soundStore) at e in
-        let b = and-true (every soundRecord (records store)) _ f in
-        record {
-          long = leb-true storeWords (length store) (a .0);
-          few = leb-true (countOf store) capacity (a .1);
-          each = every-true soundRecord (records store) (b .0);
-          order = ascending-true recordBefore words-order (records store) (b .1);
-        }
-    go (isFalse p) = never e (rw (p, soundStore))
+sound-store store e = true-sound recordWords capacity soundRecord record-order store e
 
-pub store-sound : (store : List ℕ) → SoundStore store → soundStore store ≡ true
+pub store-sound : (store : List ℕ) → SoundRecords recordWords capacity soundRecord record-order store → soundStore store ≡ true
 unfolding soundStore
-store-sound store s =
-    rw (le-leb storeWords (length store) (s .long), le-leb (countOf store) capacity (s .few), soundStore)
-    (true-and (every soundRecord (records store)) _ (true-every soundRecord (records store) (s .each)) (true-ascending recordBefore words-order (records store) (s .order)))
+store-sound store s = sound-true recordWords capacity soundRecord record-order store s

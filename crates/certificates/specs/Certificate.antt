@@ -3,9 +3,9 @@ use Prim.Native.Nat.{ℕ}
 use mathlib.Core.Bool.{Bool, _&&_}
 use mathlib.Core.List.{List}
 use lib.Dec.{eqb}
-use lib.ListN.{length, getD, drop}
-use Rattle.rows.specs.Ordered.{wordsBefore}
-use Rattle.rows.specs.Row.{Row, isKey}
+use lib.ListN.{length, getD, take, drop}
+use Rattle.rows.specs.Ordered.{wordsBefore, firstBy}
+use Rattle.rows.specs.Row.{Row, isKey, rowBefore}
 use Rattle.rows.specs.Name.{Polarity, isName, isPolarity, polarityOf}
 use Rattle.rows.specs.Layout.{rowIn, soundRow}
 
@@ -26,11 +26,21 @@ unfoldable pub soundRecord : List ℕ → Bool
 unfolding soundRow
 soundRecord w = eqb (length w) recordWords && (isKey (getD w 0 0) && (isName (getD w 1 0) && (isPolarity (getD w 2 0) && soundRow (drop 3 w))))
 
+-- key, name and polarity, which are what "one name" means
+abbrev pub recordName : List ℕ → List ℕ
+recordName w = take 3 w
+
+-- the row that follows them
+abbrev pub recordRow : List ℕ → Row
+recordRow w = rowIn (drop 3 w)
+
 -- what a record says
 unfoldable pub certificateOf : List ℕ → Certificate
 unfolding polarityOf rowIn
-certificateOf w = record { key = getD w 0 0; name = getD w 1 0; polarity = polarityOf (getD w 2 0); row = rowIn (drop 3 w) }
+certificateOf w = record { key = getD w 0 0; name = getD w 1 0; polarity = polarityOf (getD w 2 0); row = recordRow w }
 
--- records are in order "word by word"
-abbrev pub recordBefore : List ℕ → List ℕ → Bool
-recordBefore = wordsBefore
+-- Records are in order by key, name and polarity, then by the row, then by what follows the row. Nothing does in a sound record: there the last
+-- test finds no difference, and the order is that of document 01, "word by word" (WordByWord.antt).
+unfoldable pub recordBefore : List ℕ → List ℕ → Bool
+unfolding firstBy wordsBefore rowBefore rowIn
+recordBefore = firstBy recordName wordsBefore (firstBy recordRow rowBefore wordsBefore)

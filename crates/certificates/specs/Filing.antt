@@ -5,9 +5,10 @@ use mathlib.Core.List.{List, [], _∷_}
 use lib.Dec.{ltb}
 use lib.ListN.{length}
 use Rattle.refusals.specs.RefusalTable.{badStore, badCertificate, storeFull}
-use Rattle.rows.specs.Ordered.{lists, tied, insert, wordsBefore}
-use Rattle.certificates.specs.Certificate.{soundRecord, recordBefore}
-use Rattle.certificates.specs.Store.{capacity, records, soundStore, withRecords}
+use Rattle.rows.specs.Ordered.{lists, tied, insert}
+use Rattle.rows.specs.Records.{recordsIn, withRecords}
+use Rattle.certificates.specs.Certificate.{recordWords, soundRecord, recordBefore}
+use Rattle.certificates.specs.Store.{capacity, records, soundStore}
 
 -- "Filing answers Filed, Held or Refused with a number."
 pub data FilingReply : Type 0 where
@@ -16,7 +17,7 @@ pub data FilingReply : Type 0 where
 
 -- the reply to words filed where these records are held: "Filing: 8, 9, Held, 10"; 8 is the store's, below
 unfoldable pub replyGiven : List (List ℕ) → List ℕ → FilingReply
-unfolding soundRecord lists tied wordsBefore
+unfolding soundRecord lists tied recordBefore
 replyGiven records-held w = elim (soundRecord w) [
   | false ↦ refused badCertificate
   | true ↦ elim (lists recordBefore records-held w) [
@@ -26,13 +27,14 @@ replyGiven records-held w = elim (soundRecord w) [
 ]
 
 unfoldable pub fileReply : List ℕ → List ℕ → FilingReply
-unfolding soundStore replyGiven records
+unfolding soundStore replyGiven recordsIn
 fileReply store w = elim (soundStore store) [ false ↦ refused badStore | true ↦ replyGiven (records store) w ]
 
--- "Filed puts the record in its place, moves the later ones up by eight words and raises the count by 1. Held changes nothing."
+-- "Filed puts the record in its place, moves the later ones up by eight words and raises the count by 1. Held changes nothing.
+-- Words past the last record are never touched."
 unfoldable pub storeBy : FilingReply → List ℕ → List ℕ → List ℕ
-unfolding withRecords insert records wordsBefore
-storeBy filed store w = withRecords (insert recordBefore w (records store)) store
+unfolding withRecords insert recordsIn recordBefore
+storeBy filed store w = withRecords recordWords (insert recordBefore w (records store)) store
 storeBy held store w = store
 storeBy (refused n) store w = store
 

@@ -5,21 +5,24 @@ use mathlib.Core.Bool.{Bool, true, false, _&&_}
 use mathlib.Core.List.{List, [], _∷_}
 use lib.Dec.{eqb}
 use lib.ListN.{getD}
-use Rattle.rows.specs.Ordered.{keep}
+use Rattle.rows.specs.Ordered.{keep, leading, wordsBefore}
 use Rattle.rows.specs.Layout.{flat}
-use Rattle.certificates.specs.Certificate.{recordWords}
+use Rattle.rows.specs.Records.{recordsIn}
+use Rattle.certificates.specs.Certificate.{recordWords, recordName}
 use Rattle.certificates.specs.Store.{records, soundStore}
-use Rattle.certificates.specs.Steps.{placeIn}
 
 abbrev pub ofName : ℕ → ℕ → ℕ → List ℕ → Bool
 ofName key name polarity w = eqb (getD w 0 0) key && (eqb (getD w 1 0) name && eqb (getD w 2 0) polarity)
 
--- the words of the name's records, one after the other. That these stand in the store without a gap is shown in proofs/NameParts.antt, `part-words`.
+-- the words of the name's records, one after the other. That these stand in the store without a gap is shown in proofs/NameParts.antt, `spans-found`.
 unfoldable pub namePart : List ℕ → ℕ → ℕ → ℕ → List ℕ
-unfolding soundStore records keep flat
+unfolding soundStore recordsIn keep flat
 namePart store key name polarity = elim (soundStore store) [ true ↦ flat (keep (ofName key name polarity) (records store)) | false ↦ [] ]
 
--- the word of the store where that part begins: past the count and the records that come before the name's; 0 where the store is unsound
+-- the word of the store where that part begins: past the count and the records of earlier names; 0 where the store is unsound
 unfoldable pub nameStart : List ℕ → ℕ → ℕ → ℕ → ℕ
-unfolding soundStore records placeIn
-nameStart store key name polarity = elim (soundStore store) [ true ↦ 1 + recordWords * placeIn (records store) (key ∷ name ∷ polarity ∷ []) | false ↦ 0 ]
+unfolding soundStore recordsIn leading wordsBefore
+nameStart store key name polarity = elim (soundStore store) [
+  | true ↦ 1 + recordWords * leading (λ r. wordsBefore (recordName r) (key ∷ name ∷ polarity ∷ [])) (records store)
+  | false ↦ 0
+]

@@ -8,10 +8,11 @@ use lib.ListN.{length}
 use borrow.Author.Tests.{lt-ltb, le-ltb}
 use Rattle.rows.specs.Ordered.{_∈_, lists}
 use Rattle.rows.proofs.Case.{Case, isTrue, isFalse, split}
-use Rattle.certificates.specs.Certificate.{recordBefore}
+use Rattle.rows.proofs.Records.{records-length}
+use Rattle.certificates.specs.Certificate.{recordWords, recordBefore}
 use Rattle.certificates.specs.Store.{capacity, records, soundStore}
 use Rattle.certificates.specs.Filing.{FilingReply, refused, replyGiven, fileReply, storeBy, storeAfter}
-use Rattle.certificates.proofs.Sound.{records-length, sound-store}
+use Rattle.certificates.proofs.Sound.{sound-store}
 use Rattle.certificates.proofs.Filings.{listed, not-listed, Replied, unsound, known, full, new, replied}
 use Rattle.policy.proofs.Judging.{check-accepted}
 use Rattle.meaning.specs.Evidence.{namesHeld}
@@ -27,10 +28,10 @@ module _ (store w : List ℕ) where
   given s (unsound a) = nine s a
   given s (known a i) = isHeld s a i
   given s (full a i n) =
-      let l = records-length store in
+      let l = records-length recordWords store in
       let m = sound-store store s .few in
       ten s a i (omega arith)
-  given s (new a i n) = let l = records-length store in isNew s a i (omega arith)
+  given s (new a i n) = let l = records-length recordWords store in isNew s a i (omega arith)
 
   why : Filing store w (fileReply store w)
   unfolding fileReply
@@ -59,8 +60,8 @@ module _ (store w : List ℕ) where
   so (eight s) = rw (s, fileReply)
   so (nine s a) = rw (s, a, fileReply, replyGiven)
   so (isHeld s a i) = rw (s, a, is-listed i, fileReply, replyGiven)
-  so (ten s a i n) = let l = records-length store in rw (s, a, is-new i, le-ltb (length (records store)) capacity (omega arith), fileReply, replyGiven)
-  so (isNew s a i n) = let l = records-length store in rw (s, a, is-new i, lt-ltb (length (records store)) capacity (omega arith), fileReply, replyGiven)
+  so (ten s a i n) = let l = records-length recordWords store in rw (s, a, is-new i, le-ltb (length (records store)) capacity (omega arith), fileReply, replyGiven)
+  so (isNew s a i n) = let l = records-length recordWords store in rw (s, a, is-new i, lt-ltb (length (records store)) capacity (omega arith), fileReply, replyGiven)
 
 store-stays : (store w : List ℕ) (n : ℕ) → fileReply store w ≡ refused n → storeAfter store w ≡ store
 unfolding storeAfter storeBy

@@ -9,9 +9,10 @@ use Rattle.rows.specs.Sets.{RowSet}
 use Rattle.rows.specs.Layout.{setWords, written}
 use Rattle.rows.proofs.Lists.{all-in, map-∈}
 use Rattle.rows.proofs.LayoutLaws.{set-length, written-sound, written-reads}
-use Rattle.certificates.specs.Certificate.{Certificate, certificateOf}
+use Rattle.rows.proofs.Records.{records-words}
+use Rattle.certificates.specs.Certificate.{Certificate, recordWords, certificateOf}
 use Rattle.certificates.specs.Store.{records, certificates}
-use Rattle.certificates.proofs.Sound.{AllSound, about-row, records-words, sound-store}
+use Rattle.certificates.proofs.Sound.{AllSound, about-row, sound-store}
 use Rattle.policy.specs.Polarity.{Verdict}
 use Rattle.policy.proofs.Judging.{judge-checked}
 use Rattle.meaning.specs.Evidence.{Evidence, namesHeld}
@@ -48,7 +49,7 @@ unfolding certificates
 demand-2 store words c w v k S h =
     let sound = answered-sound store c v k S h in
     let cs = certificates store in
-    let about : AboutRows cs = records-about (records store) (sound-store store sound .each) (records-words store words) in
+    let about : AboutRows cs = records-about (records store) (sound-store store sound .each) (records-words recordWords store words) in
     let a = answered-by (namesHeld cs) c v k S (sym (call-reads store (namesHeld cs) sound refl c) ∙ h) in
     record {
       answer = answer-is (namesHeld cs) c v k S a;

@@ -8,8 +8,9 @@ use mathlib.Core.Bool.{true, false}
 use mathlib.Core.List.{List, []}
 use Rattle.refusals.specs.RefusalTable.{badStore, badCertificate, storeFull, complementDrawn}
 use Rattle.rows.specs.Ordered.{_∈_}
+use Rattle.rows.specs.Records.{countOf}
 use Rattle.certificates.specs.Certificate.{Certificate, soundRecord}
-use Rattle.certificates.specs.Store.{capacity, countOf, records, soundStore, certificates}
+use Rattle.certificates.specs.Store.{capacity, records, soundStore, certificates}
 use Rattle.certificates.specs.Filing.{FilingReply, filed, held, refused, fileReply, storeAfter}
 use Rattle.policy.specs.Syntax.{Expr}
 use Rattle.policy.specs.Polarity.{Verdict}

@@ -17,8 +17,9 @@ use Rattle.rows.specs.Word.{All, Words}
 use Rattle.rows.specs.Ordered.{_∈_}
 use Rattle.rows.specs.Row.{Row, IsRow}
 use Rattle.rows.specs.Sets.{RowSet, has}
+use Rattle.rows.specs.Records.{countOf}
 use Rattle.certificates.specs.Certificate.{Certificate, recordWords, certificateOf}
-use Rattle.certificates.specs.Store.{countOf, records, soundStore}
+use Rattle.certificates.specs.Store.{records, soundStore}
 use Rattle.certificates.specs.Filing.{replyGiven, fileReply, storeAfter, storeAt, accepted}
 use Rattle.policy.specs.Polarity.{Verdict, exact, lower, upper}
 use Rattle.meaning.specs.Evidence.{namesHeld}

@@ -120,6 +120,14 @@ first-differs (a ∷ x) (b ∷ y) (suc j) e h k l =
     let g : take j x ≡ take j y = cc in
     step-equal a b (wordsBefore x y) f ∙ first-differs x y j g (omega arith) (omega arith) l
 
+-- one word more that is the same
+pub front-next : (x y : List ℕ) (j : ℕ) → take j x ≡ take j y → j < length x → j < length y → getD x j 0 ≡ getD y j 0 → take (j + 1) x ≡ take (j + 1) y
+front-next x y j f h k e =
+    let s : j + 1 ≡ suc j = omega arith in
+    let p : take (suc j) x ≡ take j x ++ (getD x j 0 ∷ []) = take-suc x j 0 h in
+    let q : take (suc j) y ≡ take j y ++ (getD y j 0 ∷ []) = take-suc y j 0 k in
+    rw s (cc)
+
 module _ (x y : Row) where
   pub order-before : rowBefore x y ≡ true → orderFor x y ≡ Before
   unfolding orderFor
@@ -192,11 +200,7 @@ agree-start x y e = record { width = e; within = omega arith; front = refl }
 pub agree-next : (x y : Row) (j : ℕ) → Agree x y j → j < length x → getD x j 0 ≡ getD y j 0 → Agree x y (j + 1)
 agree-next x y j a h e =
     let w = a .width in
-    let s : j + 1 ≡ suc j = omega arith in
-    let f : take j x ≡ take j y = a .front in
-    let p : take (suc j) x ≡ take j x ++ (getD x j 0 ∷ []) = take-suc x j 0 h in
-    let q : take (suc j) y ≡ take j y ++ (getD y j 0 ∷ []) = take-suc y j 0 (omega arith) in
-    record { width = a .width; within = omega arith; front = rw s (cc) }
+    record { width = w; within = omega arith; front = front-next x y j (a .front) h (omega arith) e }
 
 pub agree-before : (x y : Row) (j : ℕ) → Agree x y j → j < length x → getD x j 0 < getD y j 0 → rowBefore x y ≡ true
 unfolding rowBefore

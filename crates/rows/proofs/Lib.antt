@@ -7,4 +7,7 @@ pub mod LayoutLaws
 pub mod Put
 pub mod Scan
 pub mod Place
+pub mod Leading
+pub mod Pieces
+pub mod Records
 pub mod Joining

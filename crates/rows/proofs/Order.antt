@@ -1,6 +1,6 @@
 -- The orders are strict total orders. Everything about sets and stores rests on these laws and on nothing else of an order.
 use Prim.Native.Nat.{ℕ, _<_, _≤_}
-use mathlib.Core.Path.{_≡_, refl, sym, _∙_}
+use mathlib.Core.Path.{_≡_, refl, sym, _∙_, ap}
 use mathlib.Core.Logic.{_⊎_, inl, inr}
 use mathlib.Core.Bool.{Bool, true, false, _&&_, _||_}
 use mathlib.Core.List.{List, [], _∷_}
@@ -8,7 +8,7 @@ use native.Mathlib.Omega.{arith}
 use lib.Dec.{ltb, eqb}
 use lib.ListN.{length}
 use borrow.Author.Tests.{ltb-true, ltb-false, eqb-true, lt-ltb, le-ltb, eq-eqb}
-use Rattle.rows.specs.Ordered.{StrictTotal, wordsBefore}
+use Rattle.rows.specs.Ordered.{StrictTotal, tied, firstBy, wordsBefore}
 use Rattle.rows.specs.Row.{rowBefore}
 use Rattle.rows.proofs.Case.{Case, isTrue, isFalse, split, never}
 
@@ -27,7 +27,7 @@ open-step x y q h (isTrue a) b = inl (ltb-true x y a)
 open-step x y q h (isFalse a) (isTrue b) = inr (eqb-true x y b, rw (a, b) at h)
 open-step x y q h (isFalse a) (isFalse b) = never h (rw (a, b))
 
-step-opens : (x y : ℕ) (q : Bool) → step x y q ≡ true → (x < y) ⊎ ((x ≡ y) × (q ≡ true))
+pub step-opens : (x y : ℕ) (q : Bool) → step x y q ≡ true → (x < y) ⊎ ((x ≡ y) × (q ≡ true))
 step-opens x y q h = open-step x y q h (split (ltb x y)) (split (eqb x y))
 
 step-transitive : (x y z : ℕ) (p q r : Bool) → (p ≡ true → q ≡ true → r ≡ true) → step x y p ≡ true → step y z q ≡ true → step x z r ≡ true
@@ -89,3 +89,80 @@ row-order = record {
   total = λ x y p q.
       let s = step-total (length x) (length y) (wordsBefore x y) (wordsBefore y x) p q in words-total x y (s .1) (s .2);
 }
+
+module _ {A : Type 0} {before : A → A → Bool} (laws : StrictTotal before) where
+  pub not-both : (x y : A) → before x y ≡ true → before y x ≡ false
+  not-both x y p = go (split (before y x))
+    where
+      go : Case (before y x) → before y x ≡ false
+      go (isTrue q) = never (laws .transitive x y x p q) (laws .irreflexive x)
+      go (isFalse q) = q
+
+  -- x is y or comes before it, and y comes before z
+  pub least-then-less : (x y z : A) → before y x ≡ false → before y z ≡ true → before x z ≡ true
+  least-then-less x y z p q = go (split (before x y))
+    where
+      go : Case (before x y) → before x z ≡ true
+      go (isTrue r) = laws .transitive x y z r q
+      go (isFalse r) = rw (laws .total x y r p) q
+
+  -- x comes before y, and y is z or comes before it
+  pub less-then-least : (x y z : A) → before x y ≡ true → before z y ≡ false → before x z ≡ true
+  less-then-least x y z p q = go (split (before y z))
+    where
+      go : Case (before y z) → before x z ≡ true
+      go (isTrue r) = laws .transitive x y z p r
+      go (isFalse r) = rw (← laws .total y z r q) p
+
+-- first by what f gives, then by another order
+module _ {A B : Type 0} (f : A → B) {before : B → B → Bool} (laws : StrictTotal before) {rest : A → A → Bool} (laws′ : StrictTotal rest) where
+  pub first-decides : (x y : A) → before (f x) (f y) ≡ true → firstBy f before rest x y ≡ true
+  unfolding firstBy
+  first-decides x y e = rw e
+
+  pub first-denies : (x y : A) → before (f y) (f x) ≡ true → firstBy f before rest x y ≡ false
+  unfolding firstBy tied
+  first-denies x y e = rw (not-both laws (f y) (f x) e, e)
+
+  pub first-same : (x y : A) → f x ≡ f y → firstBy f before rest x y ≡ rest x y
+  unfolding firstBy tied
+  first-same x y e = rw (e, laws .irreflexive (f y))
+
+  -- which of the two has decided
+  first-opens : (x y : A) → firstBy f before rest x y ≡ true → (before (f x) (f y) ≡ true) ⊎ ((f x ≡ f y) × (rest x y ≡ true))
+  first-opens x y e = go (split (before (f x) (f y))) (split (before (f y) (f x)))
+    where
+      go : Case (before (f x) (f y)) → Case (before (f y) (f x)) → (before (f x) (f y) ≡ true) ⊎ ((f x ≡ f y) × (rest x y ≡ true))
+      go (isTrue p) q = inl p
+      go (isFalse p) (isTrue q) = never e (first-denies x y q)
+      go (isFalse p) (isFalse q) = let s = laws .total (f x) (f y) p q in inr (s, sym (first-same x y s) ∙ e)
+
+  pub first-order : StrictTotal (firstBy f before rest)
+  first-order = record { irreflexive = λ x. first-same x x refl ∙ laws′ .irreflexive x; transitive = between; total = neither }
+    where
+      between : (x y z : A) → firstBy f before rest x y ≡ true → firstBy f before rest y z ≡ true → firstBy f before rest x z ≡ true
+      between x y z p q = go (first-opens x y p) (first-opens y z q)
+        where
+          go : (before (f x) (f y) ≡ true) ⊎ ((f x ≡ f y) × (rest x y ≡ true)) → (before (f y) (f z) ≡ true) ⊎ ((f y ≡ f z) × (rest y z ≡ true)) → firstBy f before rest x z ≡ true
+          go (inl a) (inl b) = first-decides x z (laws .transitive (f x) (f y) (f z) a b)
+          go (inl a) (inr b) = first-decides x z (sym (ap (before (f x)) (b .0)) ∙ a)
+          go (inr a) (inl b) = first-decides x z (ap (λ (u : B). before u (f z)) (a .0) ∙ b)
+          go (inr a) (inr b) = first-same x z (a .0 ∙ b .0) ∙ laws′ .transitive x y z (a .1) (b .1)
+
+      neither : (x y : A) → firstBy f before rest x y ≡ false → firstBy f before rest y x ≡ false → x ≡ y
+      neither x y p q = go (split (before (f x) (f y))) (split (before (f y) (f x)))
+        where
+          go : Case (before (f x) (f y)) → Case (before (f y) (f x)) → x ≡ y
+          go (isTrue a) b = never (first-decides x y a) p
+          go (isFalse a) (isTrue b) = never (first-decides y x b) q
+          go (isFalse a) (isFalse b) =
+              let s = laws .total (f x) (f y) a b in
+              laws′ .total x y (sym (first-same x y s) ∙ p) (sym (first-same y x (sym s)) ∙ q)
+
+  -- of two in order, the first gives nothing that comes after what the second gives
+  pub first-not-after : (x y : A) → firstBy f before rest x y ≡ true → before (f y) (f x) ≡ false
+  first-not-after x y e = go (split (before (f y) (f x)))
+    where
+      go : Case (before (f y) (f x)) → before (f y) (f x) ≡ false
+      go (isTrue p) = never e (first-denies x y p)
+      go (isFalse p) = p

@@ -4,3 +4,4 @@ pub mod Row
 pub mod Name
 pub mod Sets
 pub mod Layout
+pub mod Records

@@ -1,10 +1,11 @@
 -- Lists in strictly ascending order, over any elements and any test `before`. Rows, records and whatever else is kept in order share this.
-use Prim.Native.Nat.{ℕ}
+use Prim.Native.Nat.{ℕ, suc}
 use mathlib.Core.Path.{_≡_}
 use mathlib.Core.Logic.{_⊎_}
 use mathlib.Core.Bool.{Bool, true, false, not, _&&_, _||_}
 use mathlib.Core.List.{List, [], _∷_}
 use lib.Dec.{ltb, eqb}
+use Rattle.rows.specs.Word.{All}
 
 infix 4 _∈_
 unfoldable pub _∈_ : {A : Type 0} → A → List A → Type 0
@@ -21,6 +22,17 @@ pub record StrictTotal {A : Type 0} (before : A → A → Bool) : Type 0 where
 unfoldable pub keep : {A : Type 0} → (A → Bool) → List A → List A
 keep f [] = []
 keep f (x ∷ xs) = elim (f x) [ true ↦ x ∷ keep f xs | false ↦ keep f xs ]
+
+-- how many pass the test from the front on
+unfoldable pub leading : {A : Type 0} → (A → Bool) → List A → ℕ
+leading f [] = 0
+leading f (x ∷ xs) = elim (f x) [ true ↦ suc (leading f xs) | false ↦ 0 ]
+
+-- those that pass the test stand before those that fail it
+unfoldable pub PassFirst : {A : Type 0} → (A → Bool) → List A → Type 0
+unfolding All
+PassFirst f [] = Unit {0}
+PassFirst f (x ∷ xs) = All (λ y. f y ≡ true → f x ≡ true) xs × PassFirst f xs
 
 -- word by word: the first that differs decides; where one list ends and the other goes on, the shorter comes first
 unfoldable pub wordsBefore : List ℕ → List ℕ → Bool
@@ -70,3 +82,8 @@ module _ {A : Type 0} (before : A → A → Bool) where
   unfolding beforeFirst
   ascending [] = true
   ascending (x ∷ xs) = beforeFirst x xs && ascending xs
+
+-- first by what `f` gives of each, in the order `before`; where that is the same, by `rest`
+unfoldable pub firstBy : {A B : Type 0} → (A → B) → (B → B → Bool) → (A → A → Bool) → A → A → Bool
+unfolding tied
+firstBy f before rest x y = before (f x) (f y) || (tied before (f x) (f y) && rest x y)

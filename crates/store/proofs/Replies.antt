@@ -8,10 +8,12 @@ use lib.ListN.{length}
 use borrow.Author.Tests.{lt-ltb, le-ltb}
 use Rattle.refusals.specs.RefusalTable.{badStore, badCertificate, storeFull}
 use Rattle.rows.specs.Ordered.{lists, insert}
-use Rattle.certificates.specs.Certificate.{soundRecord, recordBefore}
-use Rattle.certificates.specs.Store.{capacity, countOf, records, soundStore, withRecords}
+use Rattle.rows.specs.Records.{countOf, withRecords}
+use Rattle.rows.proofs.Records.{records-length}
+use Rattle.certificates.specs.Certificate.{recordWords, soundRecord, recordBefore}
+use Rattle.certificates.specs.Store.{capacity, records, soundStore}
 use Rattle.certificates.specs.Filing.{FilingReply, filed, held, refused, replyGiven, fileReply, storeBy, storeAfter}
-use Rattle.certificates.proofs.Sound.{records-length, sound-store}
+use Rattle.certificates.proofs.Sound.{sound-store}
 
 module _ (store w : List ℕ) where
   -- the store goes by the reply
@@ -40,11 +42,11 @@ module _ (store w : List ℕ) where
       module _ (new : lists recordBefore (records store) w ≡ false) where
         pub reply-full : countOf store ≡ capacity → refused storeFull ≡ fileReply store w
         unfolding fileReply replyGiven
-        reply-full c = rw (sound, fileReply, good, new, le-ltb (length (records store)) capacity (omega (arith, records-length store)), replyGiven)
+        reply-full c = rw (sound, fileReply, good, new, le-ltb (length (records store)) capacity (omega (arith, records-length recordWords store)), replyGiven)
 
-        pub reply-filed : (now : List ℕ) → (countOf store ≡ capacity → ⊥) → now ≡ withRecords (insert recordBefore w (records store)) store →
+        pub reply-filed : (now : List ℕ) → (countOf store ≡ capacity → ⊥) → now ≡ withRecords recordWords (insert recordBefore w (records store)) store →
             (filed ≡ fileReply store w) × (now ≡ storeAfter store w)
         unfolding fileReply replyGiven storeBy
         reply-filed now c e =
             let f = sound-store store sound .few in
-            reply-and-store filed now (rw (sound, fileReply, good, new, lt-ltb (length (records store)) capacity (omega (arith, records-length store)), replyGiven)) e
+            reply-and-store filed now (rw (sound, fileReply, good, new, lt-ltb (length (records store)) capacity (omega (arith, records-length recordWords store)), replyGiven)) e

@@ -10,6 +10,7 @@ ghost use Rattle.certificates.specs.NamePart.{namePart};
 ghost use Rattle.certificates.specs.Spans.{Spans};
 use certificates::CAPACITY;
 use certificates::RECORD_WORDS;
+use records::count_before;
 use records::insert;
 use store_records::is_held;
 use store_records::place_of;
@@ -40,7 +41,7 @@ pub fn file(store: &mut [u32], certificate: &[u32]) -> Filing
     if store[0] == CAPACITY {
         return Filing::Refused(refusals::STORE_FULL);
     }
-    insert(store, place, certificate);
+    insert(store, RECORD_WORDS, place, certificate);
     Filing::Filed
 }
 
@@ -55,11 +56,9 @@ pub fn span_in(store: &[u32], key: u32, name: u32, polarity: u32) -> Span
     requires { ⌜ soundStore (now store) ≡ true ⌝ }
     ensures { λ r. ⌜ Spans (now (store .entry)) key name polarity (r .from) (r .to) ⌝ }
 {
-    // what is shorter comes first and no width is 5, so the name's records lie from `first` to `past`
-    let first = [key, name, polarity];
-    let past = [key, name, polarity, 5];
-    let from = 1 + RECORD_WORDS * place_of(store, &first);
-    let to = 1 + RECORD_WORDS * place_of(store, &past);
+    let words = [key, name, polarity];
+    let from = 1 + RECORD_WORDS * count_before(store, RECORD_WORDS, &words, false);
+    let to = 1 + RECORD_WORDS * count_before(store, RECORD_WORDS, &words, true);
     Span { from, to }
 }
 

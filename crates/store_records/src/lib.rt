@@ -1,46 +1,39 @@
 // The store's words, a count and then the records in order: tested and searched.
 pub mod record;
 
-ghost use Prim.Native.Nat.{_+_, _*_, _≤_, _<_};
+ghost use Prim.Native.Nat.{_+_, _-_, _*_, _≤_, _<_};
 ghost use mathlib.Core.Path.{_≡_};
 ghost use mathlib.Core.Bool.{true};
 ghost use lib.ListN.{length};
+ghost use Rattle.rows.specs.Records.{recordAt, placeIn, heldAt};
 ghost use Rattle.certificates.specs.Certificate.{recordWords, soundRecord, recordBefore};
-ghost use Rattle.certificates.specs.Store.{countOf, records, soundStore};
-ghost use Rattle.certificates.specs.Steps.{recordAt, soundAt, pairAt, Blank, Run, placeIn, heldAt};
+ghost use Rattle.certificates.specs.Store.{records, soundStore};
+ghost use Rattle.certificates.specs.Steps.{soundAt, pairAt, Blank, Run};
+use crate::record::record_before;
 use crate::record::sound_record;
-use crate::record::words_before;
 use certificates::CAPACITY;
 use certificates::RECORD_WORDS;
 use certificates::ROW_IN_RECORD;
 use certificates::STORE_WORDS;
+use records::record_at;
 use row_words::wide;
 
 const FIRST_ATOM: usize = ROW_IN_RECORD + 1;
 
-// The words of record `i`.
-fn record_at<'a>(store: &'a [u32], i: usize) -> &'a [u32]
-    requires { ⌜ 1 + recordWords * (i + 1) ≤ length (now store) ⌝ }
-    ensures { λ r. ⌜ now r ≡ recordAt (now (store .entry)) i ⌝ }
-{
-    let start = 1 + RECORD_WORDS * i;
-    let end = start + RECORD_WORDS;
-    &store[start..end]
-}
-
-// Is record `i` sound, and does it come behind the one before?
+// Is record `i` sound, and does it come behind the one before, which is sound?
 fn sound_at(store: &[u32], i: usize) -> bool
     requires { ⌜ 1 + recordWords * (i + 1) ≤ length (now store) ⌝ }
+    requires { ⌜ (0 < i → soundRecord (recordAt recordWords (now store) (i - 1)) ≡ true) ⌝ }
     ensures { λ r. ⌜ r ≡ soundAt (now (store .entry)) i ⌝ }
 {
-    let this = record_at(store, i);
+    let this = record_at(store, RECORD_WORDS, i);
     if !sound_record(this) {
         return false;
     }
     if i == 0 {
         return true;
     }
-    words_before(record_at(store, i - 1), this)
+    record_before(record_at(store, RECORD_WORDS, i - 1), this)
 }
 
 // Two words as one number, which one load reads: pairs are equal just if both words are.
@@ -67,7 +60,7 @@ fn blank(store: &[u32], at: usize, narrow: bool) -> bool
 // The first record after a sound one that does not follow plainly: with the same key, name, polarity and width, a greater first atom, and blank.
 // Those that do are sound and in order, so that a record is tested whole only where a run begins.
 fn run_end(store: &[u32], count: usize, start: usize) -> usize
-    requires { ⌜ (start < count) × (1 + recordWords * count ≤ length (now store)) × (soundRecord (recordAt (now store) start) ≡ true) ⌝ }
+    requires { ⌜ (start < count) × (1 + recordWords * count ≤ length (now store)) × (soundRecord (recordAt recordWords (now store) start) ≡ true) ⌝ }
     ensures { λ r. ⌜ Run (now (store .entry)) count start r ⌝ }
 {
     let first = 1 + RECORD_WORDS * start;
@@ -118,34 +111,16 @@ pub fn sound_store(store: &[u32]) -> bool
     true
 }
 
-// Does record `i` come before these words? Key and name nearly always decide it.
-fn record_before(store: &[u32], i: usize, words: &[u32]) -> bool
-    requires { ⌜ 1 + recordWords * (i + 1) ≤ length (now store) ⌝ }
-    ensures { λ r. ⌜ r ≡ recordBefore (recordAt (now (store .entry)) i) (now (words .entry)) ⌝ }
-{
-    let record = record_at(store, i);
-    if words.len() < 2 {
-        return words_before(record, words);
-    }
-    if record[0] != words[0] {
-        return record[0] < words[0];
-    }
-    if record[1] != words[1] {
-        return record[1] < words[1];
-    }
-    words_before(record, words)
-}
-
-// How many records of a sound store come before these words: their place among them, by binary search.
-pub fn place_of(store: &[u32], words: &[u32]) -> usize
-    requires { ⌜ soundStore (now store) ≡ true ⌝ }
-    ensures { λ r. ⌜ r ≡ placeIn (records (now (store .entry))) (now (words .entry)) ⌝ }
+// How many records of a sound store come before the certificate: its place among them, by binary search.
+pub fn place_of(store: &[u32], certificate: &[u32]) -> usize
+    requires { ⌜ (soundStore (now store) ≡ true) × (soundRecord (now certificate) ≡ true) ⌝ }
+    ensures { λ r. ⌜ r ≡ placeIn recordBefore (records (now (store .entry))) (now (certificate .entry)) ⌝ }
 {
     let mut low: usize = 0;
     let mut high = store[0] as usize;
     while low < high {
         let middle = low + (high - low) / 2;
-        if record_before(store, middle, words) {
+        if record_before(record_at(store, RECORD_WORDS, middle), certificate) {
             low = middle + 1;
         } else {
             high = middle;
@@ -156,11 +131,11 @@ pub fn place_of(store: &[u32], words: &[u32]) -> usize
 
 // Is the certificate the record at its place?
 pub fn is_held(store: &[u32], place: usize, certificate: &[u32]) -> bool
-    requires { ⌜ 1 + recordWords * countOf (now store) ≤ length (now store) ⌝ }
-    ensures { λ r. ⌜ r ≡ heldAt (now (store .entry)) place (now (certificate .entry)) ⌝ }
+    requires { ⌜ (soundStore (now store) ≡ true) × (soundRecord (now certificate) ≡ true) ⌝ }
+    ensures { λ r. ⌜ r ≡ heldAt recordWords recordBefore (now (store .entry)) place (now (certificate .entry)) ⌝ }
 {
     if place < store[0] as usize {
-        !words_before(certificate, record_at(store, place))
+        !record_before(certificate, record_at(store, RECORD_WORDS, place))
     } else {
         false
     }

@@ -1,31 +1,15 @@
 // The eight words of a certificate.
 ghost use mathlib.Core.Path.{_≡_};
-ghost use Rattle.rows.specs.Ordered.{wordsBefore};
-ghost use Rattle.certificates.specs.Certificate.{soundRecord};
+ghost use mathlib.Core.Bool.{true};
+ghost use Rattle.certificates.specs.Certificate.{soundRecord, recordBefore};
 use certificates::RECORD_WORDS;
 use certificates::ROW_IN_RECORD;
 use row_words::row;
+use row_words::row::Order;
+use row_words::row::compare;
+use row_words::row::load;
 use rows::FIRST_KEY;
 use rows::LAST_NAME;
-
-// Does `a` come before `b`, word by word?
-pub fn words_before(a: &[u32], b: &[u32]) -> bool
-    ensures { λ r. ⌜ r ≡ wordsBefore (now (a .entry)) (now (b .entry)) ⌝ }
-{
-    let mut i: usize = 0;
-    while i < a.len() {
-        if i == b.len() {
-            return false;
-        }
-        let x = a[i];
-        let y = b[i];
-        if x != y {
-            return x < y;
-        }
-        i += 1;
-    }
-    i < b.len()
-}
 
 // Eight words: the key is one, name and polarity are in range, and the row is sound.
 pub fn sound_record(words: &[u32]) -> bool
@@ -44,4 +28,31 @@ pub fn sound_record(words: &[u32]) -> bool
         return false;
     }
     row::sound(words, ROW_IN_RECORD)
+}
+
+// Does `a` come before `b`? Key, name and polarity nearly always decide it; the rows do where these are the same.
+pub fn record_before(a: &[u32], b: &[u32]) -> bool
+    requires { ⌜ (soundRecord (now a) ≡ true) × (soundRecord (now b) ≡ true) ⌝ }
+    ensures { λ r. ⌜ r ≡ recordBefore (now (a .entry)) (now (b .entry)) ⌝ }
+{
+    let key = a[0];
+    let other_key = b[0];
+    if key != other_key {
+        return key < other_key;
+    }
+    let name = a[1];
+    let other_name = b[1];
+    if name != other_name {
+        return name < other_name;
+    }
+    let polarity = a[2];
+    let other_polarity = b[2];
+    if polarity != other_polarity {
+        return polarity < other_polarity;
+    }
+    match compare(load(a, ROW_IN_RECORD), b, ROW_IN_RECORD) {
+        Order::Before => true,
+        Order::Same => false,
+        Order::After => false,
+    }
 }

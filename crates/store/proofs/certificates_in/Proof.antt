@@ -3,14 +3,8 @@ use mathlib.Core.Path.{_∙_}
 use Rattle.store.proofs.certificates_in.Statement.{statement}
 use Rattle.store.proofs.certificates_in.Tie as tie
 
-span-in-requires : tie.Need-span-in-requires
-span-in-requires c κs = search needs
-
-words-of-requires : tie.Need-words-of-requires
-words-of-requires c κs = search needs
-
 returns : tie.Need-returns
 returns c = c .words-of .ensures ∙ c .before .span-in .ensures .words
 
 pub certificates-in-spec : {M : Type 1} → statement M
-certificates-in-spec = tie.close (tie.spec span-in-requires words-of-requires returns)
+certificates-in-spec = tie.close (tie.spec (λ c κs. search needs) (λ c κs. search needs) returns)

@@ -7,12 +7,13 @@ use mathlib.Core.List.{List}
 use native.Mathlib.Omega.{arith}
 use borrow.Author.Tests.{not-true, not-false}
 use Rattle.rows.specs.Ordered.{lists}
-use Rattle.certificates.specs.Certificate.{soundRecord, recordBefore}
+use Rattle.rows.proofs.Records.{place-few, held-is, put-is-insert}
+use Rattle.certificates.specs.Certificate.{recordWords, soundRecord, recordBefore}
 use Rattle.certificates.specs.Store.{soundStore, records}
 use Rattle.store.specs.Reply.{filingIs}
 use Rattle.certificates.proofs.Filings.{not-listed}
+use Rattle.certificates.proofs.RecordOrder.{record-order}
 use Rattle.certificates.proofs.Sound.{sound-record, sound-store}
-use Rattle.certificates.proofs.Stores.{place-few, held-is, put-is-insert}
 use Rattle.store.proofs.Replies.{kept, reply-unsound, reply-bad, reply-held, reply-full, reply-filed}
 use Rattle.store.proofs.file.Statement.{statement}
 use Rattle.store.proofs.file.Tie as tie
@@ -46,7 +47,7 @@ checked h = placed h .before .before
 is-listed : (h : tie.After-is-held) → lists recordBefore (records (held (tested (checked h)))) (given (tested (checked h))) ≡ h .is-held .result
 is-listed h =
     let e = tested (checked h) in
-    sym (held-is (held e) (given e) (sound e) _ (placed h .place-of .ensures)) ∙ sym (h .is-held .ensures)
+    sym (held-is recordWords record-order (held e) (given e) (sound-store (held e) (sound e) .order) _ (placed h .place-of .ensures)) ∙ sym (h .is-held .ensures)
 
 new : (n : tie.Else3) → lists recordBefore (records (held (tested (checked (n .before))))) (given (tested (checked (n .before)))) ≡ false
 new n = is-listed (n .before) ∙ n .if3 .left
@@ -65,11 +66,11 @@ returns-2 c =
     let e = c .before .before in
     kept (held e) (given e) _ (reply-bad (held e) (given e) (sound e) (sym (c .before .sound-record .ensures) ∙ not-true _ (c .if2 .taken)))
 
+place-of-requires : tie.Need-place-of-requires
+place-of-requires c κs = (sound (tested (c .before)), good (c .before))
+
 is-held-requires : tie.Need-is-held-requires
-is-held-requires c κs =
-    let e = tested (c .before .before .before) in
-    let whole = sound-store (held e) (sound e) in
-    omega arith
+is-held-requires c κs = let r = c .before .before .before in (sound (tested r), good r)
 
 returns-3 : tie.Need-returns-3
 unfolding filingIs
@@ -98,7 +99,7 @@ insert-requires c κs =
     let r = checked h in
     let e = tested r in
     let whole = sound-store (held e) (sound e) in
-    let few = place-few (held e) (given e) in
+    let few = place-few recordWords record-order (held e) (given e) in
     let at = placed h .place-of .ensures in
     let room = c .before .if4 .left in
     (sound-record (given e) (good r) .eight, ((omega arith, omega arith), omega arith))
@@ -111,12 +112,12 @@ returns-5 c =
     let r = checked h in
     let e = tested r in
     let at = placed h .place-of .ensures in
-    let few = place-few (held e) (given e) in
+    let few = place-few recordWords record-order (held e) (given e) in
     let long = sound-store (held e) (sound e) .long in
     let most = sound-store (held e) (sound e) .few in
     let room = c .before .before .before .before .if4 .left in
     let eight = sound-record (given e) (good r) .eight in
-    let put = put-is-insert (held e) (given e) (placed h .place-of .result) (omega arith) (omega arith) eight at (not-listed (records (held e)) (given e) (new n)) in
+    let put = put-is-insert recordWords (held e) (given e) (placed h .place-of .result) (omega arith) (omega arith) eight record-order at (not-listed (records (held e)) (given e) (new n)) in
     reply-filed (held e) (given e) (sound e) (good r) (new n) _ room (c .before .before .insert .ensures ∙ put)
 
 pub file-spec : {M : Type 1} → statement M
@@ -129,7 +130,7 @@ file-spec =
     (λ c κs. search needs)
     (λ c. search needs)
     returns-2
-    (λ c κs. sound (tested (c .before)))
+    place-of-requires
     is-held-requires
     (λ c. search needs)
     returns-3

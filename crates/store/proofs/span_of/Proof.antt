@@ -6,17 +6,11 @@ use Rattle.certificates.proofs.NameParts.{spans-none}
 use Rattle.store.proofs.span_of.Statement.{statement}
 use Rattle.store.proofs.span_of.Tie as tie
 
-sound-store-requires : tie.Need-sound-store-requires
-sound-store-requires c κs = search needs
-
 returns : tie.Need-returns
 returns c = spans-none _ _ _ _ (sym (c .before .sound-store .ensures) ∙ not-true _ (c .if1 .taken))
 
 span-in-requires : tie.Need-span-in-requires
 span-in-requires c κs = sym (c .before .sound-store .ensures) ∙ not-false _ (c .if1 .left)
 
-returns-2 : tie.Need-returns-2
-returns-2 c = search needs
-
 pub span-of-spec : {M : Type 1} → statement M
-span-of-spec = tie.close (tie.spec sound-store-requires returns span-in-requires returns-2)
+span-of-spec = tie.close (tie.spec (λ c κs. search needs) returns span-in-requires (λ c. search needs))

@@ -8,24 +8,12 @@ use Rattle.store_records.proofs.Runs.{blank-pair}
 use Rattle.store_records.proofs.blank.Statement.{statement}
 use Rattle.store_records.proofs.blank.Tie as tie
 
-mul-if2 : tie.Need-mul-if2
-mul-if2 c = search needs
-
-shared-slice-read-if2 : tie.Need-shared-slice-read-if2
-shared-slice-read-if2 c = search needs
-
 returns : tie.Need-returns
 returns c = λ e. never e refl
-
-add-pair : tie.Need-add-pair
-add-pair c = search needs
-
-pair-requires : tie.Need-pair-requires
-pair-requires c κs = search needs
 
 returns-2 : tie.Need-returns-2
 returns-2 c = λ e. blank-pair (⊎-elim (λ w n. w .2 .left) (λ w n. never n (w .left)) (c .before .if1 .came)) (sym (c .pair .ensures) ∙ eqb-true _ _ e)
 
 pub blank-spec : {M : Type 1} → statement M
 blank-spec =
-    tie.close (tie.spec mul-if2 shared-slice-read-if2 returns add-pair pair-requires returns-2)
+    tie.close (tie.spec (λ c. search needs) (λ c. search needs) returns (λ c. search needs) (λ c κs. search needs) returns-2)

@@ -1,16 +1,11 @@
--- Test by test: `proofs/Stores.antt` of certificates says what each makes of `soundAt`.
+-- Test by test: `proofs/Words.antt` says what each makes of `soundAt`.
 use borrow.Author.Needs.{needs}
 use mathlib.Core.Path.{sym, _∙_}
+use native.Mathlib.Omega.{arith}
 use borrow.Author.Tests.{not-true, not-false}
-use Rattle.certificates.proofs.Stores.{at-unsound, at-first, at-next}
+use Rattle.store_records.proofs.Words.{at-unsound, at-first, at-next}
 use Rattle.store_records.proofs.sound_at.Statement.{statement}
 use Rattle.store_records.proofs.sound_at.Tie as tie
-
-record-at-requires : tie.Need-record-at-requires
-record-at-requires c κs = search needs
-
-sound-record-requires : tie.Need-sound-record-requires
-sound-record-requires c κs = search needs
 
 returns : tie.Need-returns
 returns c = at-unsound _ _ _ (c .before .before .record-at .ensures) (sym (not-true _ (c .if1 .taken)) ∙ c .before .sound-record .ensures)
@@ -18,29 +13,26 @@ returns c = at-unsound _ _ _ (c .before .before .record-at .ensures) (sym (not-t
 returns-2 : tie.Need-returns-2
 returns-2 c = at-first _ _ _ (c .before .before .before .record-at .ensures) (sym (not-false _ (c .before .if1 .left)) ∙ c .before .before .sound-record .ensures) (c .if2 .taken)
 
-sub-record-at : tie.Need-sub-record-at
-sub-record-at c = search needs
-
-record-at-requires-2 : tie.Need-record-at-requires-2
-record-at-requires-2 c κs = search needs
-
-words-before-requires : tie.Need-words-before-requires
-words-before-requires c κs = search needs
+record-before-requires : tie.Need-record-before-requires
+record-before-requires c κs =
+    let tested = c .before .before .before in
+    let entry = tested .before .before .before in
+    (rw (c .record-at2 .ensures) (entry .pre .1 (omega arith)), sym (tested .sound-record .ensures) ∙ not-false _ (c .before .before .if1 .left))
 
 returns-3 : tie.Need-returns-3
 returns-3 c =
     let tested = c .before .before .before .before in
-    at-next _ _ _ (tested .before .record-at .ensures) _ _ (sym (not-false _ (c .before .before .before .if1 .left)) ∙ tested .sound-record .ensures) (c .before .before .if2 .left) (c .before .record-at2 .ensures) (c .words-before .ensures)
+    at-next _ _ _ (tested .before .record-at .ensures) _ _ (sym (not-false _ (c .before .before .before .if1 .left)) ∙ tested .sound-record .ensures) (c .before .before .if2 .left) (c .before .record-at2 .ensures) (c .record-before .ensures)
 
 pub sound-at-spec : {M : Type 1} → statement M
 sound-at-spec =
     tie.close
     (tie.spec
-    record-at-requires
-    sound-record-requires
+    (λ c κs. search needs)
+    (λ c κs. search needs)
     returns
     returns-2
-    sub-record-at
-    record-at-requires-2
-    words-before-requires
+    (λ c. search needs)
+    (λ c κs. search needs)
+    record-before-requires
     returns-3)

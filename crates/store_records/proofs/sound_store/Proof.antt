@@ -5,8 +5,12 @@ use mathlib.Core.Path.{_≡_, sym, _∙_}
 use mathlib.Core.Bool.{true}
 use native.Mathlib.Omega.{arith}
 use borrow.Author.Tests.{not-true, not-false}
+use Rattle.rows.proofs.Records.{too-short, too-many, sound-each, unsound-at}
+use Rattle.certificates.specs.Certificate.{recordWords, soundRecord}
+use Rattle.certificates.specs.Store.{capacity, soundStore}
 use Rattle.certificates.specs.Steps.{soundAt}
-use Rattle.certificates.proofs.Stores.{too-short, too-many, at-sound, sound-each, sound-fails}
+use Rattle.certificates.proofs.RecordOrder.{record-order}
+use Rattle.store_records.proofs.Words.{at-parts, at-sound}
 use Rattle.store_records.proofs.Runs.{through-run}
 use Rattle.store_records.proofs.sound_store.Statement.{statement}
 use Rattle.store_records.proofs.sound_store.Tie as tie
@@ -18,40 +22,32 @@ abbrev μ-loop : tie.MeasureT-loop
 μ-loop store count i₀ i = count - i
 
 returns : tie.Need-returns Inv-loop μ-loop
-returns c = too-short _ (omega arith)
-
-shared-slice-read-if2 : tie.Need-shared-slice-read-if2 Inv-loop μ-loop
-shared-slice-read-if2 c = search needs
+unfolding soundStore
+returns c = too-short recordWords capacity soundRecord record-order (c .before .before .args .store .now) (omega arith)
 
 returns-2 : tie.Need-returns-2 Inv-loop μ-loop
-returns-2 c = too-many _ (omega arith) (omega arith)
-
-shared-slice-read-count : tie.Need-shared-slice-read-count Inv-loop μ-loop
-shared-slice-read-count c = search needs
-
-cast-count : tie.Need-cast-count Inv-loop μ-loop
-cast-count c = search needs
+unfolding soundStore
+returns-2 c = too-many recordWords capacity soundRecord record-order (c .before .before .before .before .args .store .now) (omega arith) (omega arith)
 
 loop-holds : tie.Need-loop-holds Inv-loop μ-loop
 loop-holds c = (omega arith, λ k h. absurd (omega arith))
 
 sound-at-requires : tie.Need-sound-at-requires Inv-loop μ-loop
-sound-at-requires c κs = search needs
+sound-at-requires c κs = (search needs, λ h. at-sound _ _ (c .before .loop .inv .1 _ (omega arith)))
 
 returns-3 : tie.Need-returns-3 Inv-loop μ-loop
-returns-3 c = sound-fails _ _ (c .before .before .loop-test .taken) (sym (c .before .sound-at .ensures) ∙ not-true _ (c .if3 .taken))
+unfolding soundStore
+returns-3 c = unsound-at recordWords capacity soundRecord record-order _ _ (c .before .before .loop-test .taken) (sym (c .before .sound-at .ensures) ∙ not-true _ (c .if3 .taken))
 
 run-end-requires : tie.Need-run-end-requires Inv-loop μ-loop
 run-end-requires c κs = (search needs, search needs, at-sound _ _ (sym (c .before .sound-at .ensures) ∙ not-false _ (c .if3 .left)))
-
-loop-less : tie.Need-loop-less Inv-loop μ-loop
-loop-less c = search needs
 
 loop-again : tie.Need-loop-again Inv-loop μ-loop
 loop-again c = (c .run-end .ensures .few, through-run (c .before .before .before .before .loop .inv .1) (sym (c .before .before .sound-at .ensures) ∙ not-false _ (c .before .if3 .left)) (c .run-end .ensures))
 
 returns-4 : tie.Need-returns-4 Inv-loop μ-loop
-returns-4 c = sound-each _ (omega arith) (omega arith) (λ k h. c .before .loop .inv .1 k (omega arith))
+unfolding soundStore
+returns-4 c = sound-each recordWords capacity soundRecord record-order _ (omega arith) (omega arith) (λ k h. at-parts _ k (c .before .loop .inv .1 k (omega arith)))
 
 pub sound-store-spec : {M : Type 1} → statement M
 sound-store-spec =
@@ -60,14 +56,14 @@ sound-store-spec =
     Inv-loop
     μ-loop
     returns
-    shared-slice-read-if2
+    (λ c. search needs)
     returns-2
-    shared-slice-read-count
-    cast-count
+    (λ c. search needs)
+    (λ c. search needs)
     loop-holds
     sound-at-requires
     returns-3
     run-end-requires
-    loop-less
+    (λ c. search needs)
     loop-again
     returns-4)

@@ -15,26 +15,14 @@ use Rattle.store_records.proofs.record.sound_record.Tie as tie
 returns : tie.Need-returns
 returns c = not-eight (c .before .before .args .words .now) (c .if1 .taken)
 
-shared-slice-read-if2 : tie.Need-shared-slice-read-if2
-shared-slice-read-if2 c = search needs
-
 returns-2 : tie.Need-returns-2
 returns-2 c = no-key (c .before .before .before .before .args .words .now) (c .before .before .if1 .left) (omega arith)
-
-shared-slice-read-if3 : tie.Need-shared-slice-read-if3
-shared-slice-read-if3 c = search needs
 
 returns-3 : tie.Need-returns-3
 returns-3 c = no-name (c .before .before .before .before .before .before .args .words .now) (c .before .before .before .before .if1 .left) (omega arith) (omega arith)
 
-shared-slice-read-if4 : tie.Need-shared-slice-read-if4
-shared-slice-read-if4 c = search needs
-
 returns-4 : tie.Need-returns-4
 returns-4 c = no-polarity (c .before .before .before .before .before .before .before .before .args .words .now) (c .before .before .before .before .before .before .if1 .left) (omega arith) (omega arith) (omega arith)
-
-sound-requires : tie.Need-sound-requires
-sound-requires c κs = search needs
 
 returns-5 : tie.Need-returns-5
 returns-5 c =
@@ -48,11 +36,11 @@ sound-record-spec =
     tie.close
     (tie.spec
     returns
-    shared-slice-read-if2
+    (λ c. search needs)
     returns-2
-    shared-slice-read-if3
+    (λ c. search needs)
     returns-3
-    shared-slice-read-if4
+    (λ c. search needs)
     returns-4
-    sound-requires
+    (λ c κs. search needs)
     returns-5)
