@@ -126,11 +126,13 @@ mod tests {
     }
 
     #[test]
-    fn kinds_have_the_engines_words_and_numbers() {
+    fn kinds_and_header_have_the_engines_words_and_numbers() {
         let engine = include_str!("../../../crates/refusals/src/lib.rt");
+        let header: Vec<&str> = include_str!("../../../include/txindurbe.h").split([' ', ',', '\n']).filter(|word| !word.is_empty()).collect();
         let constants = engine.lines().filter_map(|line| line.strip_prefix("pub const ")?.strip_suffix(';')?.split_once(": u32 = "));
         let mut kinds = 0;
         for (constant, number) in constants {
+            assert!(header.windows(3).any(|words| words == [&format!("TXB_{constant}"), "=", number]), "the header's {constant}");
             let number = number.parse().expect("constants are numbers");
             match constant {
                 "QUERY_PART" => assert_eq!(Part::from_number(number), Some(Part::Query)),
