@@ -6,7 +6,7 @@
 //     words FROM END               prints these words of the store, eight to a line
 //     part KEY NAME POLARITY       prints one name's part of the store, eight words to a line
 //
-// `file` and `store` lines keep the store (crate `storing`). Any other line is printed.
+// `file` and `store` lines keep the store (`cases::storing`). Any other line is printed.
 ghost use Prim.Native.Nat.{_≤_};
 ghost use lib.ListN.{length};
 use cases::after;

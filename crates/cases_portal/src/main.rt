@@ -4,7 +4,7 @@
 //     NAME|POLICY|QUERY            asks the query under the policy, over the store as it is
 //     NAME|POLICY|QUERY|AREAS      the same with an answer, a definition and a scratch area of so many words, not 642 10272 16384
 //
-// `file` and `store` lines keep the store (crate `storing`). Any other line is printed.
+// `file` and `store` lines keep the store (`cases::storing`). Any other line is printed.
 ghost use Prim.Native.Nat.{_≤_};
 ghost use lib.ListN.{length};
 use cases::after;
