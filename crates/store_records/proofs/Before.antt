@@ -1,6 +1,6 @@
 -- Which of two sound records comes before, a word of the name at a time and then by the comparison of their rows.
-use Prim.Native.Nat.{ℕ, _≤_, _<_}
-use mathlib.Core.Path.{_≡_, sym, _∙_, ap}
+use Prim.Native.Nat.{ℕ, _+_, _≤_, _<_}
+use mathlib.Core.Path.{_≡_, refl, sym, _∙_, ap}
 use mathlib.Core.Bool.{true, false}
 use mathlib.Core.List.{List}
 use native.Mathlib.Omega.{arith}
@@ -16,7 +16,7 @@ use Rattle.row_words.specs.Values.{fiveIs, rowIs, orderFor}
 use Rattle.row_words.specs.declared.row.Row as Held
 use Rattle.row_words.specs.declared.row.Order as Order
 use Rattle.row_words.specs.declared.row.Order.the-variants.{Before, Same, After}
-use Rattle.row_words.proofs.RowLaws.{first-differs, before-order, same-order, after-order, loaded-row}
+use Rattle.row_words.proofs.RowLaws.{first-differs, front-next, before-order, same-order, after-order, loaded-row}
 use Rattle.certificates.specs.Certificate.{recordWords, recordName, recordRow, soundRecord, recordBefore}
 use Rattle.certificates.proofs.RecordOrder.{record-order, name-decides, name-denies, row-decides, row-denies}
 use Rattle.certificates.proofs.Sound.{sound-record, row-is-all}
@@ -24,21 +24,36 @@ use Rattle.certificates.proofs.Sound.{sound-record, row-is-all}
 pub record-width : (w : List ℕ) → soundRecord w ≡ true → getD w 3 0 ≤ 4
 record-width w s = omega (arith, sound-width (drop 3 w) (sound-record w s .row) .few, getD-drop 3 w 0 0)
 
--- one of the first three words differs, those before it do not
-module _ (a b : List ℕ) (long-a : length a ≡ recordWords) (long-b : length b ≡ recordWords) (i : ℕ) (h : i < 3) (front : take i a ≡ take i b) where
-  first-of-names : getD a i 0 < getD b i 0 → wordsBefore (recordName a) (recordName b) ≡ true
-  first-of-names l = first-differs (recordName a) (recordName b) i (take-take i 3 a (omega arith) ∙ front ∙ sym (take-take i 3 b (omega arith)))
-      (omega (arith, length-take-le 3 a (omega arith))) (omega (arith, length-take-le 3 b (omega arith))) (omega (arith, getD-take 3 a i 0 h, getD-take 3 b i 0 h))
+-- the first j words of the names are the same
+pub record Agreed (a b : List ℕ) (j : ℕ) : Type 0 where
+  pub long : length a ≡ recordWords
+  pub other-long : length b ≡ recordWords
+  pub within : j ≤ 3
+  pub front : take j a ≡ take j b
 
-pub name-differs : (a b : List ℕ) → length a ≡ recordWords → length b ≡ recordWords → (i : ℕ) → i < 3 → take i a ≡ take i b → (getD a i 0 ≡ getD b i 0 → ⊥) →
-    ltb (getD a i 0) (getD b i 0) ≡ recordBefore a b
-name-differs a b long-a long-b i h front n = go (split (ltb (getD a i 0) (getD b i 0)))
+pub agreed-none : (a b : List ℕ) → soundRecord a ≡ true → soundRecord b ≡ true → Agreed a b 0
+agreed-none a b s t = record { long = sound-record a s .eight; other-long = sound-record b t .eight; within = omega arith; front = refl }
+
+module _ (a b : List ℕ) (j : ℕ) where
+  pub agreed-all : Agreed a b j → 3 ≤ j → recordName a ≡ recordName b
+  agreed-all g h = let w = g .within in let e : j ≡ 3 = omega arith in rw e at (g .front)
+
+  pub agreed-next : Agreed a b j → j < 3 → getD a j 0 ≡ getD b j 0 → Agreed a b (j + 1)
+  agreed-next g h e = record { long = g .long; other-long = g .other-long; within = omega arith; front = front-next a b j (g .front) (omega arith) (omega arith) e }
+
+  first-of-names : Agreed a b j → j < 3 → getD a j 0 < getD b j 0 → wordsBefore (recordName a) (recordName b) ≡ true
+  first-of-names g h l = first-differs (recordName a) (recordName b) j (take-take j 3 a (omega arith) ∙ g .front ∙ sym (take-take j 3 b (omega arith)))
+      (omega (arith, length-take-le 3 a (omega arith))) (omega (arith, length-take-le 3 b (omega arith))) (omega (arith, getD-take 3 a j 0 h, getD-take 3 b j 0 h))
+
+pub agreed-differs : (a b : List ℕ) (j : ℕ) → Agreed a b j → j < 3 → (getD a j 0 ≡ getD b j 0 → ⊥) → ltb (getD a j 0) (getD b j 0) ≡ recordBefore a b
+agreed-differs a b j g h n = go (split (ltb (getD a j 0) (getD b j 0)))
   where
-    go : Case (ltb (getD a i 0) (getD b i 0)) → ltb (getD a i 0) (getD b i 0) ≡ recordBefore a b
-    go (isTrue e) = e ∙ sym (name-decides a b (first-of-names a b long-a long-b i h front (ltb-true (getD a i 0) (getD b i 0) e)))
-    go (isFalse e) =
-        let more : getD b i 0 < getD a i 0 = omega (arith, ltb-false (getD a i 0) (getD b i 0) e) in
-        e ∙ sym (name-denies a b (first-of-names b a long-b long-a i h (sym front) more))
+    turned : Agreed b a j
+    turned = record { long = g .other-long; other-long = g .long; within = g .within; front = sym (g .front) }
+
+    go : Case (ltb (getD a j 0) (getD b j 0)) → ltb (getD a j 0) (getD b j 0) ≡ recordBefore a b
+    go (isTrue e) = e ∙ sym (name-decides a b (first-of-names a b j g h (ltb-true (getD a j 0) (getD b j 0) e)))
+    go (isFalse e) = e ∙ sym (name-denies a b (first-of-names b a j turned h (omega (arith, ltb-false (getD a j 0) (getD b j 0) e))))
 
 -- the names are the same: the rows, as the code compares them
 module _ (a b : List ℕ) (sound-a : soundRecord a ≡ true) (sound-b : soundRecord b ≡ true) (named : recordName a ≡ recordName b) where

@@ -35,20 +35,14 @@ pub fn record_before(a: &[u32], b: &[u32]) -> bool
     requires { ⌜ (soundRecord (now a) ≡ true) × (soundRecord (now b) ≡ true) ⌝ }
     ensures { λ r. ⌜ r ≡ recordBefore (now (a .entry)) (now (b .entry)) ⌝ }
 {
-    let key = a[0];
-    let other_key = b[0];
-    if key != other_key {
-        return key < other_key;
-    }
-    let name = a[1];
-    let other_name = b[1];
-    if name != other_name {
-        return name < other_name;
-    }
-    let polarity = a[2];
-    let other_polarity = b[2];
-    if polarity != other_polarity {
-        return polarity < other_polarity;
+    let mut j: usize = 0;
+    while j < ROW_IN_RECORD {
+        let x = a[j];
+        let y = b[j];
+        if x != y {
+            return x < y;
+        }
+        j += 1;
     }
     match compare(load(a, ROW_IN_RECORD), b, ROW_IN_RECORD) {
         Order::Before => true,
