@@ -95,7 +95,7 @@ module _ (key name polarity : ℕ) where
     -- where it lies: nowhere in an unsound store
     pub spans-none : soundStore store ≡ false → Spans store key name polarity 0 0
     unfolding nameStart
-    spans-none e = record { start = rw (e, nameStart); order = omega arith; inside = omega arith; near = omega arith; words = part-none e }
+    spans-none e = record { start = rw (e, nameStart); order = omega arith; inside = omega arith; words = part-none e }
 
     module _ (sound : soundStore store ≡ true) where
       pub begins-first : (also : Bool) → PassFirst (beginsBefore also nameGiven) (records store)
@@ -135,6 +135,5 @@ module _ (key name polarity : ℕ) where
               start = rw (sound, nameStart) (ap (λ (n : ℕ). 1 + recordWords * n) e);
               order = omega arith;
               inside = few .1;
-              near = omega (arith, few .0);
               words = part-words;
             }

@@ -3,7 +3,6 @@ use Prim.Native.Nat.{ℕ, _-_, _≤_}
 use mathlib.Core.Path.{_≡_}
 use mathlib.Core.List.{List}
 use lib.ListN.{length, take, drop}
-use Rattle.certificates.specs.Store.{storeWords}
 use Rattle.certificates.specs.NamePart.{namePart, nameStart}
 
 -- the words from the one up to the other are the name's part, and lie within the store
@@ -11,5 +10,4 @@ pub record Spans (store : List ℕ) (key name polarity from to : ℕ) : Type 0 w
   pub start : from ≡ nameStart store key name polarity
   pub order : from ≤ to
   pub inside : to ≤ length store
-  pub near : to ≤ storeWords
   pub words : take (to - from) (drop from store) ≡ namePart store key name polarity

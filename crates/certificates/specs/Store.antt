@@ -1,16 +1,14 @@
 -- Document 01, "Store and filing": the store's words.
-use Prim.Native.Nat.{ℕ, _+_, _*_}
+use Prim.Native.Nat.{ℕ}
 use mathlib.Core.Bool.{Bool}
 use mathlib.Core.List.{List, map}
 use Rattle.rows.specs.Records.{recordsIn, soundRecords}
 use Rattle.certificates.specs.Certificate.{Certificate, recordWords, soundRecord, certificateOf, recordBefore}
 
--- "A store is at least 16,001 words: a count of 0 to 2,000, then eight words a certificate .., strictly ascending": rows/specs/Records.antt
+-- "A store is at least 16,001 words [1 + 8 × 2,000]: a count of 0 to 2,000, then eight words a certificate .., strictly ascending": what is laid out so is
+-- defined over any width in rows/specs/Records.antt
 abbrev pub capacity : ℕ
 capacity = 2000
-
-abbrev pub storeWords : ℕ
-storeWords = 1 + recordWords * capacity
 
 -- the records held
 abbrev pub records : List ℕ → List (List ℕ)
