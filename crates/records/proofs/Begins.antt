@@ -1,18 +1,18 @@
--- Whether words begin before others, a word at a time.
-use Prim.Native.Nat.{ℕ, _+_, _≤_, _<_}
-use mathlib.Core.Path.{_≡_, refl, sym, _∙_, ap}
+-- Whether a record begins with words before others.
+use Prim.Native.Nat.{ℕ}
+use mathlib.Core.Path.{_≡_, sym, _∙_, ap}
 use mathlib.Core.Bool.{Bool, true, false, not}
 use mathlib.Core.List.{List}
 use native.Mathlib.Omega.{arith}
-use lib.Dec.{ltb}
-use lib.ListN.{length, getD, take, drop, length-drop}
-use lib.Seq.{getD-take, getD-drop, take-all, length-take-le}
-use borrow.Author.Tests.{ltb-true, ltb-false}
+use lib.ListN.{length, take, drop}
+use lib.Seq.{take-all}
 use Rattle.rows.specs.Ordered.{wordsBefore}
 use Rattle.rows.specs.Records.{beginsBefore}
-use Rattle.rows.proofs.Case.{Case, isTrue, isFalse, split}
 use Rattle.rows.proofs.Order.{words-order, not-both}
-use Rattle.row_words.proofs.RowLaws.{first-differs, front-next}
+use Rattle.row_words.specs.Values.{orderFor}
+use Rattle.row_words.specs.declared.row.Order as Order
+use Rattle.row_words.specs.declared.row.Order.the-variants.{Before, Same, After}
+use Rattle.row_words.proofs.RowLaws.{before-order, same-order, after-order}
 
 module _ (area : List ℕ) (at : ℕ) (words : List ℕ) where
   abbrev front : List ℕ
@@ -33,35 +33,16 @@ module _ (area : List ℕ) (at : ℕ) (words : List ℕ) where
   begins-same false e = ap (λ (x : List ℕ). wordsBefore x words) e ∙ words-order .irreflexive words
   begins-same true e = ap (λ (x : List ℕ). not (wordsBefore words x)) e ∙ ap not (words-order .irreflexive words)
 
-  -- the first j words are the same
-  pub record Agreed (j : ℕ) : Type 0 where
-    pub within : j ≤ length words
-    pub alike : take j front ≡ take j words
+  -- as the code compares them
+  module _ (also : Bool) {o : Order.Order} (compared : o ≡ orderFor wordsBefore front (take (length words) words)) where
+    order-is : orderFor wordsBefore front words ≡ o
+    order-is = ap (orderFor wordsBefore front) (sym (take-all (length words) words (omega arith))) ∙ sym compared
 
-  pub agreed-none : Agreed 0
-  agreed-none = record { within = omega arith; alike = refl }
+    pub words-before : o ≡ Before → true ≡ beginsBefore also words (drop at area)
+    words-before e = sym (begins-less also (before-order words-order front words (order-is ∙ e)))
 
-  module _ (room : at + length words ≤ length area) where
-    front-length : length front ≡ length words
-    front-length = length-take-le (length words) (drop at area) (omega (arith, length-drop at area))
+    pub words-same : o ≡ Same → also ≡ beginsBefore also words (drop at area)
+    words-same e = sym (begins-same also (same-order words-order front words (order-is ∙ e)))
 
-    front-word : (j : ℕ) → j < length words → getD front j 0 ≡ getD area (at + j) 0
-    front-word j h = getD-take (length words) (drop at area) j 0 h ∙ getD-drop at area j 0
-
-    pub agreed-all : (also : Bool) (j : ℕ) → Agreed j → length words ≤ j → also ≡ beginsBefore also words (drop at area)
-    agreed-all also j a h =
-        let l = front-length in
-        sym (begins-same also (sym (take-all j front (omega arith)) ∙ a .alike ∙ take-all j words h))
-
-    module _ (j : ℕ) (a : Agreed j) (h : j < length words) where
-      pub agreed-next : getD area (at + j) 0 ≡ getD words j 0 → Agreed (j + 1)
-      agreed-next e = record { within = omega arith; alike = front-next front words j (a .alike) (omega (arith, front-length)) h (front-word j h ∙ e) }
-
-      pub agreed-differs : (also : Bool) → (getD area (at + j) 0 ≡ getD words j 0 → ⊥) → ltb (getD area (at + j) 0) (getD words j 0) ≡ beginsBefore also words (drop at area)
-      agreed-differs also n = go (split (ltb (getD area (at + j) 0) (getD words j 0)))
-        where
-          go : Case (ltb (getD area (at + j) 0) (getD words j 0)) → ltb (getD area (at + j) 0) (getD words j 0) ≡ beginsBefore also words (drop at area)
-          go (isTrue e) = e ∙ sym (begins-less also (first-differs front words j (a .alike) (omega (arith, front-length)) h (omega (arith, front-word j h, ltb-true (getD area (at + j) 0) (getD words j 0) e))))
-          go (isFalse e) =
-              let more : getD words j 0 < getD area (at + j) 0 = omega (arith, ltb-false (getD area (at + j) 0) (getD words j 0) e) in
-              e ∙ sym (begins-more also (first-differs words front j (sym (a .alike)) h (omega (arith, front-length)) (omega (arith, front-word j h))))
+    pub words-after : o ≡ After → false ≡ beginsBefore also words (drop at area)
+    words-after e = sym (begins-more also (after-order words-order front words (order-is ∙ e)))

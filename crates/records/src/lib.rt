@@ -4,7 +4,9 @@ ghost use mathlib.Core.Path.{_≡_};
 ghost use lib.ListN.{length, drop};
 ghost use Rattle.rows.specs.Ordered.{leading, PassFirst};
 ghost use Rattle.rows.specs.Records.{countOf, recordsIn, recordAt, putIn, beginsBefore};
+use row_words::compare_words;
 use row_words::copy_up;
+use row_words::row::Order;
 use row_words::write;
 
 // The words of record `i`.
@@ -22,16 +24,11 @@ fn begins_before(area: &[u32], at: usize, words: &[u32], also: bool) -> bool
     requires { ⌜ at + length (now words) ≤ length (now area) ⌝ }
     ensures { λ r. ⌜ r ≡ beginsBefore also (now (words .entry)) (drop at (now (area .entry))) ⌝ }
 {
-    let mut j: usize = 0;
-    while j < words.len() {
-        let x = area[at + j];
-        let y = words[j];
-        if x != y {
-            return x < y;
-        }
-        j += 1;
+    match compare_words(area, at, words, words.len()) {
+        Order::Before => true,
+        Order::Same => also,
+        Order::After => false,
     }
-    also
 }
 
 // How many records begin with words before these, with `also` those that begin with these too, by binary search.

@@ -1,13 +1,13 @@
 -- A row in words and in hand, and which of two comes first.
 use Prim.Native.Nat.{ℕ, zero, suc, _+_, _-_, _≤_, _<_}
 use mathlib.Core.Path.{_≡_, refl, sym, _∙_, ap}
-use mathlib.Core.Bool.{true, false}
+use mathlib.Core.Bool.{Bool, true, false}
 use mathlib.Core.List.{List, [], _∷_, _++_}
 use native.Mathlib.Omega.{arith}
 use lib.ListN.{length, getD, take, drop, replicate, length-drop, getD-replicate, List·getD-append}
 use lib.Seq.{drop-cons, getD-take, getD-drop, getD-append-add, take-suc, take-all, length-take-le}
 use borrow.Author.Tests.{le-leb, lt-leb}
-use Rattle.rows.specs.Ordered.{wordsBefore}
+use Rattle.rows.specs.Ordered.{StrictTotal, wordsBefore}
 use Rattle.rows.specs.Row.{Row, rowBefore}
 use Rattle.rows.specs.Layout.{rowIn, rowWords, fiveAt, zeros, soundRow}
 use Rattle.row_words.specs.Values.{fiveIs, rowIs, orderFor}
@@ -128,67 +128,61 @@ front-next x y j f h k e =
     let q : take (suc j) y ≡ take j y ++ (getD y j 0 ∷ []) = take-suc y j 0 k in
     rw s (cc)
 
-module _ (x y : Row) where
-  pub order-before : rowBefore x y ≡ true → orderFor x y ≡ Before
+module _ {A : Type 0} {before : A → A → Bool} (laws : StrictTotal before) (x y : A) where
+  pub order-before : before x y ≡ true → orderFor before x y ≡ Before
   unfolding orderFor
   order-before e = rw (e, orderFor)
 
-  pub order-after : rowBefore y x ≡ true → orderFor x y ≡ After
+  pub order-after : before y x ≡ true → orderFor before x y ≡ After
   unfolding orderFor
-  order-after e = go (split (rowBefore x y))
+  order-after e = go (split (before x y))
     where
-      go : Case (rowBefore x y) → orderFor x y ≡ After
-      go (isTrue f) = never (row-order .transitive x y x f e) (row-order .irreflexive x)
+      go : Case (before x y) → orderFor before x y ≡ After
+      go (isTrue f) = never (laws .transitive x y x f e) (laws .irreflexive x)
       go (isFalse f) = rw (f, e, orderFor)
 
-  pub order-same : x ≡ y → orderFor x y ≡ Same
+  pub order-same : x ≡ y → orderFor before x y ≡ Same
   unfolding orderFor
   order-same e =
-      let f : rowBefore x y ≡ false = ap (rowBefore x) (sym e) ∙ row-order .irreflexive x in
-      let g : rowBefore y x ≡ false = ap (rowBefore y) e ∙ row-order .irreflexive y in
+      let f : before x y ≡ false = ap (before x) (sym e) ∙ laws .irreflexive x in
+      let g : before y x ≡ false = ap (before y) e ∙ laws .irreflexive y in
       rw (f, g, orderFor)
 
   -- and back
-  pub before-order : orderFor x y ≡ Before → rowBefore x y ≡ true
+  pub before-order : orderFor before x y ≡ Before → before x y ≡ true
   unfolding orderFor
-  before-order e = go (split (rowBefore x y)) (split (rowBefore y x))
+  before-order e = go (split (before x y)) (split (before y x))
     where
-      go : Case (rowBefore x y) → Case (rowBefore y x) → rowBefore x y ≡ true
+      go : Case (before x y) → Case (before y x) → before x y ≡ true
       go (isTrue f) g = f
       go (isFalse f) (isTrue g) = let h = rw (f, g, orderFor) at e in let z : _≡_ {A = ℕ} 0 1 = cc in absurd (omega arith)
       go (isFalse f) (isFalse g) = let h = rw (f, g, orderFor) at e in let z : _≡_ {A = ℕ} 0 1 = cc in absurd (omega arith)
 
-  pub after-order : orderFor x y ≡ After → rowBefore y x ≡ true
+  pub after-order : orderFor before x y ≡ After → before y x ≡ true
   unfolding orderFor
-  after-order e = go (split (rowBefore x y)) (split (rowBefore y x))
+  after-order e = go (split (before x y)) (split (before y x))
     where
-      go : Case (rowBefore x y) → Case (rowBefore y x) → rowBefore y x ≡ true
+      go : Case (before x y) → Case (before y x) → before y x ≡ true
       go (isTrue f) g = let h = rw (f, orderFor) at e in let z : _≡_ {A = ℕ} 0 1 = cc in absurd (omega arith)
       go (isFalse f) (isTrue g) = g
       go (isFalse f) (isFalse g) = let h = rw (f, g, orderFor) at e in let z : _≡_ {A = ℕ} 0 1 = cc in absurd (omega arith)
 
-  pub same-order : orderFor x y ≡ Same → x ≡ y
+  pub same-order : orderFor before x y ≡ Same → x ≡ y
   unfolding orderFor
-  same-order e = go (split (rowBefore x y)) (split (rowBefore y x))
+  same-order e = go (split (before x y)) (split (before y x))
     where
-      go : Case (rowBefore x y) → Case (rowBefore y x) → x ≡ y
+      go : Case (before x y) → Case (before y x) → x ≡ y
       go (isTrue f) g = let h = rw (f, orderFor) at e in let z : _≡_ {A = ℕ} 0 1 = cc in absurd (omega arith)
       go (isFalse f) (isTrue g) = let h = rw (f, g, orderFor) at e in let z : _≡_ {A = ℕ} 0 1 = cc in absurd (omega arith)
-      go (isFalse f) (isFalse g) = row-order .total x y f g
+      go (isFalse f) (isFalse g) = laws .total x y f g
 
+module _ (x y : Row) where
   -- narrower, or wider
   pub narrower : length x < length y → rowBefore x y ≡ true
   unfolding rowBefore
   narrower h = step-less (length x) (length y) (wordsBefore x y) h
 
-pub not-before : (x y : Row) → rowBefore y x ≡ true → rowBefore x y ≡ false
-not-before x y e = go (split (rowBefore x y))
-  where
-    go : Case (rowBefore x y) → rowBefore x y ≡ false
-    go (isTrue f) = never (row-order .transitive x y x f e) (row-order .irreflexive x)
-    go (isFalse f) = f
-
--- the first atoms of two rows of one width are the same
+-- the first words of two lists of one length are the same, as the first atoms of two rows of one width
 pub record Agree (x y : Row) (j : ℕ) : Type 0 where
   pub width : length x ≡ length y
   pub within : j ≤ length x
@@ -266,19 +260,19 @@ module _ (r : Held.Row) (ws : List ℕ) (at : ℕ) (room : at + 5 ≤ length ws)
   their-width : length (rowIn (fiveAt ws at)) ≡ getD ws at 0
   their-width = row-at-length ws at room narrow
 
-  pub compare-narrower : r .width < getD ws at 0 → orderFor (rowIs r) (rowIn (fiveAt ws at)) ≡ Before
-  compare-narrower h = order-before _ _ (narrower _ _ (omega (arith, mine-width, their-width)))
+  pub compare-narrower : r .width < getD ws at 0 → orderFor rowBefore (rowIs r) (rowIn (fiveAt ws at)) ≡ Before
+  compare-narrower h = order-before row-order _ _ (narrower _ _ (omega (arith, mine-width, their-width)))
 
-  pub compare-wider : getD ws at 0 < r .width → orderFor (rowIs r) (rowIn (fiveAt ws at)) ≡ After
-  compare-wider h = order-after _ _ (narrower _ _ (omega (arith, mine-width, their-width)))
+  pub compare-wider : getD ws at 0 < r .width → orderFor rowBefore (rowIs r) (rowIn (fiveAt ws at)) ≡ After
+  compare-wider h = order-after row-order _ _ (narrower _ _ (omega (arith, mine-width, their-width)))
 
   module _ (alike : r .width ≡ getD ws at 0) where
     pub compare-start : Agree (rowIs r) (rowIn (fiveAt ws at)) 0
     compare-start = agree-start _ _ (omega (arith, mine-width, their-width))
 
     module _ (j : ℕ) (a : Agree (rowIs r) (rowIn (fiveAt ws at)) j) where
-      pub compare-end : r .width ≤ j → orderFor (rowIs r) (rowIn (fiveAt ws at)) ≡ Same
-      compare-end h = order-same _ _ (agree-end _ _ j a (omega (arith, mine-width)))
+      pub compare-end : r .width ≤ j → orderFor rowBefore (rowIs r) (rowIn (fiveAt ws at)) ≡ Same
+      compare-end h = order-same row-order _ _ (agree-end _ _ j a (omega (arith, mine-width)))
 
       module _ (h : j < r .width) where
         here : getD (rowIs r) j 0 ≡ getD (r .atoms) j 0
@@ -287,11 +281,11 @@ module _ (r : Held.Row) (ws : List ℕ) (at : ℕ) (room : at + 5 ≤ length ws)
         there : getD (rowIn (fiveAt ws at)) j 0 ≡ getD ws (at + 1 + j) 0
         there = row-at-atom ws at j narrow (omega arith)
 
-        pub compare-less : getD (r .atoms) j 0 < getD ws (at + 1 + j) 0 → orderFor (rowIs r) (rowIn (fiveAt ws at)) ≡ Before
-        compare-less l = order-before _ _ (agree-before _ _ j a (omega (arith, mine-width)) (omega (arith, here, there)))
+        pub compare-less : getD (r .atoms) j 0 < getD ws (at + 1 + j) 0 → orderFor rowBefore (rowIs r) (rowIn (fiveAt ws at)) ≡ Before
+        compare-less l = order-before row-order _ _ (agree-before _ _ j a (omega (arith, mine-width)) (omega (arith, here, there)))
 
-        pub compare-more : getD ws (at + 1 + j) 0 < getD (r .atoms) j 0 → orderFor (rowIs r) (rowIn (fiveAt ws at)) ≡ After
-        compare-more l = order-after _ _ (agree-before _ _ j (agree-turned _ _ j a) (omega (arith, their-width)) (omega (arith, here, there)))
+        pub compare-more : getD ws (at + 1 + j) 0 < getD (r .atoms) j 0 → orderFor rowBefore (rowIs r) (rowIn (fiveAt ws at)) ≡ After
+        compare-more l = order-after row-order _ _ (agree-before _ _ j (agree-turned _ _ j a) (omega (arith, their-width)) (omega (arith, here, there)))
 
         pub compare-next : getD ws (at + 1 + j) 0 ≤ getD (r .atoms) j 0 → getD (r .atoms) j 0 ≤ getD ws (at + 1 + j) 0 → Agree (rowIs r) (rowIn (fiveAt ws at)) (j + 1)
         compare-next l m = agree-next _ _ j a (omega (arith, mine-width)) (omega (arith, here, there))

@@ -101,18 +101,18 @@ module _ {ws : List ℕ} {start step count : ℕ} (l : Listed ws start step coun
   pub below-count : m < count
   below-count = let e = b .end in omega (arith, rows-at-length ws start step count)
 
-  module _ {o : Order.Order} (compared : o ≡ orderFor x (rowIn (fiveAt ws (start + step * m)))) where
-    order-there : orderFor x (getD (rowsAt ws start step count) m []) ≡ o
-    order-there = ap (orderFor x) (rows-at-get ws start step count m below-count) ∙ sym compared
+  module _ {o : Order.Order} (compared : o ≡ orderFor rowBefore x (rowIn (fiveAt ws (start + step * m)))) where
+    order-there : orderFor rowBefore x (getD (rowsAt ws start step count) m []) ≡ o
+    order-there = ap (orderFor rowBefore x) (rows-at-get ws start step count m below-count) ∙ sym compared
 
     order : Ascending rowBefore row-order (rowsAt ws start step count)
     order = ascending-true rowBefore row-order (rowsAt ws start step count) (l .ascends)
 
     pub halve-before : o ≡ Before → Between rowBefore row-order [] (rowsAt ws start step count) x low m
-    halve-before e = between-down rowBefore row-order [] (rowsAt ws start step count) order x low high m b h k (before-order _ _ (order-there ∙ e))
+    halve-before e = between-down rowBefore row-order [] (rowsAt ws start step count) order x low high m b h k (before-order row-order _ _ (order-there ∙ e))
 
     pub halve-same : o ≡ Same → Finds (rowsAt ws start step count) x (At m)
-    halve-same e = let n = b .end in finds-at (rowsAt ws start step count) x m (omega arith) (sym (same-order _ _ (order-there ∙ e)))
+    halve-same e = let n = b .end in finds-at (rowsAt ws start step count) x m (omega arith) (sym (same-order row-order _ _ (order-there ∙ e)))
 
     pub halve-after : o ≡ After → Between rowBefore row-order [] (rowsAt ws start step count) x (m + 1) high
-    halve-after e = between-up rowBefore row-order [] (rowsAt ws start step count) order x low high m b h k (after-order _ _ (order-there ∙ e))
+    halve-after e = between-up rowBefore row-order [] (rowsAt ws start step count) order x low high m b h k (after-order row-order _ _ (order-there ∙ e))

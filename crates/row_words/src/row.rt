@@ -2,6 +2,7 @@
 ghost use mathlib.Core.Path.{_≡_};
 ghost use Prim.Native.Nat.{_+_, _≤_, _<_};
 ghost use lib.ListN.{length, getD};
+ghost use Rattle.rows.specs.Row.{rowBefore};
 ghost use Rattle.rows.specs.Layout.{rowIn, rowWords, fiveAt, soundRow, put};
 ghost use Rattle.row_words.specs.Values.{fiveIs, rowIs, orderFor};
 use crate::wide;
@@ -54,7 +55,7 @@ pub fn sound(words: &[u32], at: usize) -> bool
 // Where `row` stands to the row whose five words stand at `at`: the one place that knows the order of rows.
 pub fn compare(row: Row, words: &[u32], at: usize) -> Order
     requires { ⌜ (at + 5 ≤ length (now words)) × (row .width ≤ 4) × (getD (now words) at 0 ≤ 4) ⌝ }
-    ensures { λ r. ⌜ r ≡ orderFor (rowIs row) (rowIn (fiveAt (now (words .entry)) at)) ⌝ }
+    ensures { λ r. ⌜ r ≡ orderFor rowBefore (rowIs row) (rowIn (fiveAt (now (words .entry)) at)) ⌝ }
 {
     let width = words[at];
     if row.width < width {

@@ -31,7 +31,7 @@ unfolding lastOrderFor
 last-zero zero x y e = refl
 last-zero (suc i) x y e = absurd (omega arith)
 
-pub last-some : (i : ℕ) (x y : Row) → 0 < i → orderFor x y ≡ lastOrderFor i x y
+pub last-some : (i : ℕ) (x y : Row) → 0 < i → orderFor rowBefore x y ≡ lastOrderFor i x y
 unfolding lastOrderFor
 last-some zero x y h = absurd (omega arith)
 last-some (suc i) x y h = refl
@@ -148,15 +148,15 @@ module _ (a : List ℕ) (rooms : Rooms a 0 642) where
       theirs-is : rowIn (fiveAt now (644 + 5 * (j - 1))) ≡ getD ys (j - 1) []
       theirs-is = ap rowIn (e .theirs h) ∙ row-reads (getD ys (j - 1) [])
 
-      order-is : 0 < i → orderFor (getD xs (i - 1) []) (getD ys (j - 1) []) ≡ o
+      order-is : 0 < i → orderFor rowBefore (getD xs (i - 1) []) (getD ys (j - 1) []) ≡ o
       order-is k =
           let p = mine-is k in
           let q = theirs-is in
           let s = last-some i (rowIn (fiveAt now (2 + 5 * (i - 1)))) (rowIn (fiveAt now (644 + 5 * (j - 1)))) k in
-          ap (λ (r : Row). orderFor r (getD ys (j - 1) [])) (sym p) ∙ ap (orderFor (rowIn (fiveAt now (2 + 5 * (i - 1))))) (sym q) ∙ s ∙ sym said
+          ap (λ (r : Row). orderFor rowBefore r (getD ys (j - 1) [])) (sym p) ∙ ap (orderFor rowBefore (rowIn (fiveAt now (2 + 5 * (i - 1))))) (sym q) ∙ s ∙ sym said
 
       pub right-last : o ≡ Before → join rowBefore (take i xs) (take j ys) ≡ join rowBefore (take i xs) (take (j - 1) ys) ++ (getD ys (j - 1) [] ∷ [])
-      right-last b = firsts-right rowBefore row-order [] xs ys left-ascending right-ascending i j (e .left) (e .right) h (λ k. before-order _ _ (order-is k ∙ b))
+      right-last b = firsts-right rowBefore row-order [] xs ys left-ascending right-ascending i j (e .left) (e .right) h (λ k. before-order row-order _ _ (order-is k ∙ b))
 
       pub same-some : o ≡ Same → 0 < i
       same-some b = last-is-some i _ _ o (sym said) (λ c. not-same (c ∙ b))
@@ -165,10 +165,10 @@ module _ (a : List ℕ) (rooms : Rooms a 0 642) where
       after-some b = last-is-some i _ _ o (sym said) (λ c. not-after (c ∙ b))
 
       pub both-last : o ≡ Same → join rowBefore (take i xs) (take j ys) ≡ join rowBefore (take (i - 1) xs) (take (j - 1) ys) ++ (getD xs (i - 1) [] ∷ [])
-      both-last b = firsts-both rowBefore row-order [] xs ys left-ascending right-ascending i j (e .left) (e .right) (same-some b) h (same-order _ _ (order-is (same-some b) ∙ b))
+      both-last b = firsts-both rowBefore row-order [] xs ys left-ascending right-ascending i j (e .left) (e .right) (same-some b) h (same-order row-order _ _ (order-is (same-some b) ∙ b))
 
       pub left-last : o ≡ After → join rowBefore (take i xs) (take j ys) ≡ join rowBefore (take (i - 1) xs) (take j ys) ++ (getD xs (i - 1) [] ∷ [])
-      left-last b = firsts-left rowBefore row-order [] xs ys left-ascending right-ascending i j (e .left) (e .right) (after-some b) (λ k. after-order _ _ (order-is (after-some b) ∙ b))
+      left-last b = firsts-left rowBefore row-order [] xs ys left-ascending right-ascending i j (e .left) (e .right) (after-some b) (λ k. after-order row-order _ _ (order-is (after-some b) ∙ b))
 
   -- ---- counting
 

@@ -17,7 +17,7 @@ use Rattle.set_algebra.specs.declared.Reached as Reached
 unfoldable pub lastOrderFor : ℕ → Row → Row → Order.Order
 unfolding orderFor
 lastOrderFor zero x y = Before
-lastOrderFor (suc n) x y = orderFor x y
+lastOrderFor (suc n) x y = orderFor rowBefore x y
 
 -- the 642 words of a set in an area
 abbrev pub roomAt : ℕ → List ℕ → List ℕ

@@ -29,35 +29,35 @@ width-at n ws i e h = sound-narrow ws (2 + 5 * i) (piece-sound n ws i e h)
 
 -- row `i`, loaded, was compared with row `j`
 module _ (ws : List ℕ) (i j : ℕ) (h : i < getD ws 1 0) (k : j < getD ws 1 0) (r : Held.Row) (o : Order.Order)
-    (loaded : fiveIs r ≡ fiveAt ws (2 + 5 * i)) (compared : o ≡ orderFor (rowIs r) (rowIn (fiveAt ws (2 + 5 * j)))) where
-  rows-order : orderFor (getD (rowsIn ws) i []) (getD (rowsIn ws) j []) ≡ o
+    (loaded : fiveIs r ≡ fiveAt ws (2 + 5 * i)) (compared : o ≡ orderFor rowBefore (rowIs r) (rowIn (fiveAt ws (2 + 5 * j)))) where
+  rows-order : orderFor rowBefore (getD (rowsIn ws) i []) (getD (rowsIn ws) j []) ≡ o
   rows-order =
       let e : getD (rowsIn ws) i [] ≡ rowIs r = row-at ws i h ∙ sym (loaded-row r ws (2 + 5 * i) loaded) in
       let f : getD (rowsIn ws) j [] ≡ rowIn (fiveAt ws (2 + 5 * j)) = row-at ws j k in
       cc
 
   pub rows-before : o ≡ Before → rowBefore (getD (rowsIn ws) i []) (getD (rowsIn ws) j []) ≡ true
-  rows-before e = before-order _ _ (rows-order ∙ e)
+  rows-before e = before-order row-order _ _ (rows-order ∙ e)
 
   pub rows-same : o ≡ Same → getD (rowsIn ws) i [] ≡ getD (rowsIn ws) j []
-  rows-same e = same-order _ _ (rows-order ∙ e)
+  rows-same e = same-order row-order _ _ (rows-order ∙ e)
 
   pub rows-after : o ≡ After → rowBefore (getD (rowsIn ws) j []) (getD (rowsIn ws) i []) ≡ true
-  rows-after e = after-order _ _ (rows-order ∙ e)
+  rows-after e = after-order row-order _ _ (rows-order ∙ e)
 
 -- a row in hand was compared with row `m`
-module _ (ws : List ℕ) (m : ℕ) (h : m < getD ws 1 0) (r : Held.Row) (o : Order.Order) (compared : o ≡ orderFor (rowIs r) (rowIn (fiveAt ws (2 + 5 * m)))) where
-  row-order-at : orderFor (rowIs r) (getD (rowsIn ws) m []) ≡ o
-  row-order-at = ap (orderFor (rowIs r)) (row-at ws m h) ∙ sym compared
+module _ (ws : List ℕ) (m : ℕ) (h : m < getD ws 1 0) (r : Held.Row) (o : Order.Order) (compared : o ≡ orderFor rowBefore (rowIs r) (rowIn (fiveAt ws (2 + 5 * m)))) where
+  row-order-at : orderFor rowBefore (rowIs r) (getD (rowsIn ws) m []) ≡ o
+  row-order-at = ap (orderFor rowBefore (rowIs r)) (row-at ws m h) ∙ sym compared
 
   pub row-before : o ≡ Before → rowBefore (rowIs r) (getD (rowsIn ws) m []) ≡ true
-  row-before e = before-order _ _ (row-order-at ∙ e)
+  row-before e = before-order row-order _ _ (row-order-at ∙ e)
 
   pub row-same : o ≡ Same → getD (rowsIn ws) m [] ≡ rowIs r
-  row-same e = sym (same-order _ _ (row-order-at ∙ e))
+  row-same e = sym (same-order row-order _ _ (row-order-at ∙ e))
 
   pub row-after : o ≡ After → rowBefore (getD (rowsIn ws) m []) (rowIs r) ≡ true
-  row-after e = after-order _ _ (row-order-at ∙ e)
+  row-after e = after-order row-order _ _ (row-order-at ∙ e)
 
 -- a sound set's rows ascend
 pub sound-ascending : (ws : List ℕ) → soundSet ws ≡ true → Ascending rowBefore row-order (rowsIn ws)

@@ -4,6 +4,7 @@ ghost use mathlib.Core.Bool.{true};
 ghost use Rattle.certificates.specs.Certificate.{soundRecord, recordBefore};
 use certificates::RECORD_WORDS;
 use certificates::ROW_IN_RECORD;
+use row_words::compare_words;
 use row_words::row;
 use row_words::row::Order;
 use row_words::row::compare;
@@ -35,18 +36,13 @@ pub fn record_before(a: &[u32], b: &[u32]) -> bool
     requires { ⌜ (soundRecord (now a) ≡ true) × (soundRecord (now b) ≡ true) ⌝ }
     ensures { λ r. ⌜ r ≡ recordBefore (now (a .entry)) (now (b .entry)) ⌝ }
 {
-    let mut j: usize = 0;
-    while j < ROW_IN_RECORD {
-        let x = a[j];
-        let y = b[j];
-        if x != y {
-            return x < y;
-        }
-        j += 1;
-    }
-    match compare(load(a, ROW_IN_RECORD), b, ROW_IN_RECORD) {
+    match compare_words(a, 0, b, ROW_IN_RECORD) {
         Order::Before => true,
-        Order::Same => false,
+        Order::Same => match compare(load(a, ROW_IN_RECORD), b, ROW_IN_RECORD) {
+            Order::Before => true,
+            Order::Same => false,
+            Order::After => false,
+        },
         Order::After => false,
     }
 }

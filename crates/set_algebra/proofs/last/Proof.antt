@@ -2,7 +2,7 @@
 use Prim.Native.Nat.{_+_, _*_, _-_}
 use mathlib.Core.Path.{_∙_, ap}
 use native.Mathlib.Omega.{arith}
-use Rattle.rows.specs.Row.{Row}
+use Rattle.rows.specs.Row.{Row, rowBefore}
 use Rattle.rows.specs.Layout.{rowIn, fiveAt}
 use Rattle.row_words.specs.Values.{orderFor}
 use Rattle.row_words.proofs.RowLaws.{loaded-row, loaded-width}
@@ -30,7 +30,7 @@ returns-2 : tie.Need-returns-2
 returns-2 c =
     let a = c .before .before .before .before .args in
     let n = c .before .before .if1 .left in
-    c .compare .ensures ∙ ap (λ (x : Row). orderFor x (rowIn (fiveAt (a .area .now) (644 + 5 * (a .j - 1))))) (loaded-row _ (a .area .now) (2 + 5 * (a .i - 1)) (c .before .load .ensures)) ∙ last-some (a .i) _ _ (omega arith)
+    c .compare .ensures ∙ ap (λ (x : Row). orderFor rowBefore x (rowIn (fiveAt (a .area .now) (644 + 5 * (a .j - 1))))) (loaded-row _ (a .area .now) (2 + 5 * (a .i - 1)) (c .before .load .ensures)) ∙ last-some (a .i) _ _ (omega arith)
 
 pub last-spec : {M : Type 1} → statement M
 last-spec =

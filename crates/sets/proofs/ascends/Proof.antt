@@ -7,9 +7,9 @@ use lib.ListN.{getD}
 use Rattle.rows.specs.Row.{rowBefore}
 use Rattle.rows.specs.Layout.{rowsIn}
 use Rattle.rows.proofs.Scan.{Climbed, climbed-none, climbed-next, climbed-fails, climbed-all}
-use Rattle.rows.proofs.Order.{row-order}
 use Rattle.rows.proofs.LayoutLaws.{rows-count}
-use Rattle.row_words.proofs.RowLaws.{not-before, loaded-width}
+use Rattle.rows.proofs.Order.{row-order, not-both}
+use Rattle.row_words.proofs.RowLaws.{loaded-width}
 use Rattle.sets.proofs.SetWords.{width-at, rows-before, rows-same, rows-after}
 use borrow.Author.Needs.{needs}
 use Rattle.sets.proofs.ascends.Statement.{statement}
@@ -51,7 +51,7 @@ returns-2 c =
     let i = c .before .before .before .before .before .loop .i in
     let l = rows-count (a .set .now) in
     let e = rows-after (a .set .now) i (i + 1) (omega arith) (omega arith) _ _ (c .before .before .before .load .ensures) (c .before .before .compare .ensures) (c .enum-told3 .given .1) in
-    sym (climbed-fails rowBefore (rowsIn (a .set .now)) i [] (c .before .before .before .before .before .loop .inv) (omega arith) (not-before _ _ e))
+    sym (climbed-fails rowBefore (rowsIn (a .set .now)) i [] (c .before .before .before .before .before .loop .inv) (omega arith) (not-both row-order _ _ e))
 
 loop-again : tie.Need-loop-again Inv-loop μ-loop
 loop-again c =

@@ -1,86 +1,87 @@
--- The invariant: the names agree so far. Where they agree whole, the rows are compared.
+-- The names decide; where they are the same, the rows do.
 use borrow.Author.Needs.{needs}
-use Prim.Native.Nat.{ℕ, _-_}
 use mathlib.Core.Path.{_≡_}
-use mathlib.Core.List.{List}
 use native.Mathlib.Omega.{arith}
 use Rattle.certificates.specs.Certificate.{recordName}
+use Rattle.certificates.proofs.Sound.{sound-record}
 use Rattle.row_words.proofs.RowLaws.{loaded-width}
-use Rattle.store_records.proofs.Before.{Agreed, agreed-none, agreed-next, agreed-differs, agreed-all, record-width, row-before, row-same, row-after}
+use Rattle.store_records.proofs.Before.{record-width, name-before, name-same, name-after, row-before, row-same, row-after}
 use Rattle.store_records.proofs.record.record_before.Statement.{statement}
 use Rattle.store_records.proofs.record.record_before.Tie as tie
 
-abbrev Inv-loop : tie.InvT-loop
-Inv-loop a b j₀ j = Agreed a b j
+-- where the call starts, from where the names are compared
+abbrev entry : tie.After-compare-words → tie.Start
+entry n = n .before .before .before
 
-abbrev μ-loop : tie.MeasureT-loop
-μ-loop a b j₀ j = 3 - j
+-- where the names are compared, from where the row is loaded
+abbrev compared : tie.After-load → tie.After-compare-words
+compared r = r .before .before .before
 
-abbrev entry : tie.At-loop Inv-loop μ-loop → tie.Start Inv-loop μ-loop
-entry l = l .before .before .before
+named : (r : tie.After-load) → recordName (entry (compared r) .args .a .now) ≡ recordName (entry (compared r) .args .b .now)
+named r = let s = entry (compared r) in name-same (s .args .a .now) (s .args .b .now) (compared r .compare-words .ensures) (r .before .enum-told2 .given .1)
 
-abbrev a : tie.At-loop Inv-loop μ-loop → List ℕ
-a l = entry l .args .a .now
+compare-words-requires : tie.Need-compare-words-requires
+compare-words-requires c κs =
+    let s = c .before .before in
+    (omega (arith, sound-record (s .args .a .now) (s .pre .0) .eight), omega (arith, sound-record (s .args .b .now) (s .pre .1) .eight))
 
-abbrev b : tie.At-loop Inv-loop μ-loop → List ℕ
-b l = entry l .args .b .now
+load-requires : tie.Need-load-requires
+load-requires c κs =
+    let s = entry (c .before .before) in
+    omega (arith, sound-record (s .args .a .now) (s .pre .0) .eight)
 
-loop-holds : tie.Need-loop-holds Inv-loop μ-loop
-loop-holds c = let s = c .before .before in agreed-none (s .args .a .now) (s .args .b .now) (s .pre .0) (s .pre .1)
-
-returns : tie.Need-returns Inv-loop μ-loop
-returns c = let t = c .before .before .before in agreed-differs (a (t .before)) (b (t .before)) (t .before .loop .j) (t .before .loop .inv) (omega arith) (c .if1 .taken)
-
-loop-again : tie.Need-loop-again Inv-loop μ-loop
-loop-again c = let t = c .before .before .before in agreed-next (a (t .before)) (b (t .before)) (t .before .loop .j) (t .before .loop .inv) (omega arith) (c .if1 .left)
-
-named : (e : tie.After-loop Inv-loop μ-loop) → recordName (a (e .before)) ≡ recordName (b (e .before))
-named e = agreed-all (a (e .before)) (b (e .before)) (e .before .loop .j) (e .before .loop .inv) (omega arith)
-
-compare-requires : tie.Need-compare-requires Inv-loop μ-loop
+compare-requires : tie.Need-compare-requires
 compare-requires c κs =
-    let l = c .before .before in
-    let few = record-width (a l) (entry l .pre .0) in
-    (omega arith, omega (arith, loaded-width _ (a l) 3 (c .load .ensures)), record-width (b l) (entry l .pre .1))
+    let s = entry (compared c) in
+    let few = record-width (s .args .a .now) (s .pre .0) in
+    let long = sound-record (s .args .b .now) (s .pre .1) .eight in
+    (omega arith, omega (arith, loaded-width _ (s .args .a .now) 3 (c .load .ensures)), record-width (s .args .b .now) (s .pre .1))
 
-returns-2 : tie.Need-returns-2 Inv-loop μ-loop
+returns : tie.Need-returns
+returns c =
+    let n = c .before .before in
+    let s = entry n in
+    name-before (s .args .a .now) (s .args .b .now) (n .compare-words .ensures) (c .enum-told .given .1)
+
+returns-2 : tie.Need-returns-2
 returns-2 c =
     let r = c .before .before .before in
-    let l = r .before .before in
-    row-before (a l) (b l) (entry l .pre .0) (entry l .pre .1) (named (r .before)) _ (r .load .ensures) _ (c .before .before .compare .ensures) (c .enum-told .given .1)
+    let s = entry (compared r) in
+    row-before (s .args .a .now) (s .args .b .now) (s .pre .0) (s .pre .1) (named r) _ (r .load .ensures) _ (c .before .before .compare .ensures) (c .enum-told3 .given .1)
 
-returns-3 : tie.Need-returns-3 Inv-loop μ-loop
+returns-3 : tie.Need-returns-3
 returns-3 c =
     let r = c .before .before .before in
-    let l = r .before .before in
-    row-same (a l) (b l) (entry l .pre .0) (entry l .pre .1) (named (r .before)) _ (r .load .ensures) _ (c .before .before .compare .ensures) (c .enum-told2 .given .1)
+    let s = entry (compared r) in
+    row-same (s .args .a .now) (s .args .b .now) (s .pre .0) (s .pre .1) (named r) _ (r .load .ensures) _ (c .before .before .compare .ensures) (c .enum-told4 .given .1)
 
-returns-4 : tie.Need-returns-4 Inv-loop μ-loop
+returns-4 : tie.Need-returns-4
 returns-4 c =
     let r = c .before .before .before in
-    let l = r .before .before in
-    row-after (a l) (b l) (entry l .pre .0) (entry l .pre .1) (named (r .before)) _ (r .load .ensures) _ (c .before .before .compare .ensures) (c .enum-told3 .given .1)
+    let s = entry (compared r) in
+    row-after (s .args .a .now) (s .args .b .now) (s .pre .0) (s .pre .1) (named r) _ (r .load .ensures) _ (c .before .before .compare .ensures) (c .enum-told5 .given .1)
+
+returns-5 : tie.Need-returns-5
+returns-5 c =
+    let n = c .before .before in
+    let s = entry n in
+    name-after (s .args .a .now) (s .args .b .now) (n .compare-words .ensures) (c .enum-told6 .given .1)
 
 pub record-before-spec : {M : Type 1} → statement M
 record-before-spec =
     tie.close
     (tie.spec
-    Inv-loop
-    μ-loop
-    loop-holds
+    compare-words-requires
+    (λ c. search needs)
+    (λ c. search needs)
+    load-requires
+    compare-requires
     (λ c. search needs)
     (λ c. search needs)
     (λ c. search needs)
     (λ c. search needs)
     returns
-    (λ c. search needs)
-    (λ c. search needs)
-    loop-again
-    (λ c κs. search needs)
-    compare-requires
-    (λ c. search needs)
-    (λ c. search needs)
-    (λ c. search needs)
     returns-2
     returns-3
-    returns-4)
+    returns-4
+    returns-5)
