@@ -2,7 +2,7 @@
 ghost use mathlib.Core.Path.{_≡_};
 ghost use Rattle.certificates.specs.Filing.{fileReply, storeAfter};
 ghost use Rattle.capi.specs.Replies.{filingWord};
-ghost use Rattle.capi.specs.Places.{CertificatesAt};
+ghost use Rattle.capi.specs.Spans.{CertificatesAt};
 use store::Filing;
 use store::file;
 use store::span_of;

@@ -2,7 +2,7 @@
 ghost use mathlib.Core.Path.{_≡_};
 ghost use Rattle.policy.specs.Judgement.{judge};
 ghost use Rattle.capi.specs.Replies.{handJudgement};
-ghost use Rattle.capi.specs.Places.{PartAt};
+ghost use Rattle.capi.specs.Spans.{PartAt};
 use crate::NO_REFUSAL;
 use crate::NO_VERDICT;
 use judging::Judgement;

@@ -19,7 +19,7 @@ use Rattle.policy_table.specs.Spans.{partSpanIs}
 use Rattle.policy_table.specs.declared.TableRead.{TableRead}
 use Rattle.policy_table.specs.declared.TableRead.the-variants as tableRead
 use Rattle.policy_table.specs.declared.parts.PartSpan as Held
-use Rattle.policy_table.specs.declared.parts.PartSpan.the-variants as place
+use Rattle.policy_table.specs.declared.parts.PartSpan.the-variants as span
 use Rattle.policy.proofs.Basics.{impossible}
 use Rattle.policy_table.proofs.TableAnswers.{Header, header-of, sound-of}
 
@@ -104,23 +104,23 @@ listed-of p n e =
       parts = λ i h. subst (inside p) (entry-in n p 2 i h) (all-at (inside p) (entriesFrom n p 2) (t .parts) i noEntry (omega (arith, length-entries n p 2)));
     }
 
-pub place-none : (policy : List ℕ) (number n : ℕ) → refused n ≡ readTable policy → inPolicy 0 0 ≡ partSpan policy number
+pub span-none : (policy : List ℕ) (number n : ℕ) → refused n ≡ readTable policy → inPolicy 0 0 ≡ partSpan policy number
 unfolding partSpan nowhere
-place-none policy number n e = rw (← e, partSpan)
+span-none policy number n e = rw (← e, partSpan)
 
 module _ (policy : List ℕ) (number count : ℕ) (sound : table (entriesFrom count policy 2) ≡ readTable policy) where
-  pub place-query : number ≡ 16 → wholeQuery ≡ partSpan policy number
+  pub span-query : number ≡ 16 → wholeQuery ≡ partSpan policy number
   unfolding partSpan spanAmong
-  place-query q = rw (← sound, partSpan) (rw (eq-eqb number 16 q, spanAmong))
+  span-query q = rw (← sound, partSpan) (rw (eq-eqb number 16 q, spanAmong))
 
   module _ (other : number ≡ 16 → ⊥) where
-    pub place-past : count ≤ number → inPolicy 0 0 ≡ partSpan policy number
+    pub span-past : count ≤ number → inPolicy 0 0 ≡ partSpan policy number
     unfolding partSpan spanAmong nowhere
-    place-past h = rw (← sound, partSpan) (rw (ne-eqb number 16 other, le-ltb number (length (entriesFrom count policy 2)) (omega (arith, length-entries count policy 2)), spanAmong))
+    span-past h = rw (← sound, partSpan) (rw (ne-eqb number 16 other, le-ltb number (length (entriesFrom count policy 2)) (omega (arith, length-entries count policy 2)), spanAmong))
 
-    pub place-entry : number < count → inPolicy (getD policy (2 + 4 * number + 2) 0) (getD policy (2 + 4 * number + 3) 0) ≡ partSpan policy number
+    pub span-entry : number < count → inPolicy (getD policy (2 + 4 * number + 2) 0) (getD policy (2 + 4 * number + 3) 0) ≡ partSpan policy number
     unfolding partSpan spanAmong entryAt
-    place-entry h =
+    span-entry h =
         let x : getD (entriesFrom count policy 2) number noEntry ≡ entryAt policy (2 + 4 * number) = entry-in count policy 2 number h in
         rw (← sound, partSpan) (rw (ne-eqb number 16 other, lt-ltb number (length (entriesFrom count policy 2)) (omega (arith, length-entries count policy 2)), spanAmong)
         (ap (λ (y : Entry). inPolicy (y .offset) (y .size)) (sym x)))
@@ -129,9 +129,9 @@ module _ (policy : List ℕ) (number count : ℕ) (sound : table (entriesFrom co
 in-policy : (a b c d : ℕ) → inPolicy a b ≡ inPolicy c d → (a ≡ c) × (b ≡ d)
 in-policy a b c d e = (cc, cc)
 
-pub place-inside : (policy : List ℕ) (number start size : ℕ) → inPolicy start size ≡ partSpan policy number → start + size ≤ length policy
+pub span-inside : (policy : List ℕ) (number start size : ℕ) → inPolicy start size ≡ partSpan policy number → start + size ≤ length policy
 unfolding partSpan spanAmong nowhere
-place-inside policy number start size e = go (readTable policy) refl (split (eqb number 16))
+span-inside policy number start size e = go (readTable policy) refl (split (eqb number 16))
   where
     go : (t : Table) → readTable policy ≡ t → Case (eqb number 16) → start + size ≤ length policy
     go (refused n) f b =
@@ -177,11 +177,11 @@ pub table-read : (policy : List ℕ) (r : TableRead) (n : ℕ) → tableIs polic
 unfolding tableIs
 table-read policy r n e is = ap (tableIs policy) (sym is) ∙ e
 
--- a place in hand
-pub place-held : (p : Part.PartSpan) (r : Held.PartSpan) (start size : ℕ) → partSpanIs r ≡ p → r ≡ place.InPolicy start size → inPolicy start size ≡ p
+-- a span in hand
+pub span-held : (p : Part.PartSpan) (r : Held.PartSpan) (start size : ℕ) → partSpanIs r ≡ p → r ≡ span.InPolicy start size → inPolicy start size ≡ p
 unfolding partSpanIs
-place-held p r start size e is = ap partSpanIs (sym is) ∙ e
+span-held p r start size e is = ap partSpanIs (sym is) ∙ e
 
-pub query-held : (p : Part.PartSpan) (r : Held.PartSpan) → partSpanIs r ≡ p → r ≡ place.WholeQuery → wholeQuery ≡ p
+pub query-held : (p : Part.PartSpan) (r : Held.PartSpan) → partSpanIs r ≡ p → r ≡ span.WholeQuery → wholeQuery ≡ p
 unfolding partSpanIs
 query-held p r e is = ap partSpanIs (sym is) ∙ e

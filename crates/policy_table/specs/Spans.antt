@@ -1,8 +1,8 @@
--- What the code's place of a part stands for.
+-- Where a part lies, as the code says it.
 use Rattle.policy.specs.Part as Part
 use Rattle.policy_table.specs.declared.parts.PartSpan.{PartSpan}
-use Rattle.policy_table.specs.declared.parts.PartSpan.the-variants as place
+use Rattle.policy_table.specs.declared.parts.PartSpan.the-variants as span
 
 unfoldable pub partSpanIs : PartSpan → Part.PartSpan
-partSpanIs (place.InPolicy start size) = Part.inPolicy start size
-partSpanIs place.WholeQuery = Part.wholeQuery
+partSpanIs (span.InPolicy start size) = Part.inPolicy start size
+partSpanIs span.WholeQuery = Part.wholeQuery

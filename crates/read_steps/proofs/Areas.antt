@@ -30,16 +30,16 @@ finite-set ws h = ap (λ (n : ℕ). formed n (rowsIn ws)) h
 -- ---- what stays
 
 pub kept-self : {free : ℕ} {a : List ℕ} → Kept free a a
-kept-self = record { same = λ k h l. refl }
+kept-self = record { stays = λ k h l. refl }
 
 pub kept-less : {free more : ℕ} {a b : List ℕ} → free ≤ more → Kept more a b → Kept free a b
-kept-less h p = record { same = λ k l m. p .same k l (omega arith) }
+kept-less h p = record { stays = λ k l m. p .stays k l (omega arith) }
 
 pub kept-then : {free : ℕ} {a b c : List ℕ} → Kept free a b → Kept free b c → Kept free a c
-kept-then p q = record { same = λ k h l. q .same k h l ∙ p .same k h l }
+kept-then p q = record { stays = λ k h l. q .stays k h l ∙ p .stays k h l }
 
 pub written-kept : {free : ℕ} (S : RowSet) (area : List ℕ) {now : List ℕ} → length (setWords S) ≤ 642 → 642 ≤ length area → now ≡ written S area → Kept free area now
-written-kept S area h long e = record { same = λ k l m. ap (λ (ws : List ℕ). getD ws k 0) (e ∙ sym (written-put S area)) ∙ put-after 0 (setWords S) area (omega arith) k (omega arith) }
+written-kept S area h long e = record { stays = λ k l m. ap (λ (ws : List ℕ). getD ws k 0) (e ∙ sym (written-put S area)) ∙ put-after 0 (setWords S) area (omega arith) k (omega arith) }
 
 -- a set that lies in what stayed
 pub kept-part : {free : ℕ} {a b : List ℕ} → 642 ≤ free → length b ≡ length a → free + 642 ≤ length a → Kept (free + 642) a b → SameFront (drop free a) (drop free b)
@@ -50,7 +50,7 @@ kept-part {free} {a} {b} h l m p =
     let lb = length-take-le 642 (drop free b) (omega arith) in
     record {
       front = ext-getD 0 (take 642 (drop free a)) (take 642 (drop free b)) (omega arith)
-          (λ i q. getD-take 642 (drop free a) i 0 (omega arith) ∙ getD-drop free a i 0 ∙ sym (p .same (free + i) (omega arith) (omega arith))
+          (λ i q. getD-take 642 (drop free a) i 0 (omega arith) ∙ getD-drop free a i 0 ∙ sym (p .stays (free + i) (omega arith) (omega arith))
           ∙ sym (getD-drop free b i 0) ∙ sym (getD-take 642 (drop free b) i 0 (omega arith)));
       first = omega arith;
       second = omega arith;
@@ -84,7 +84,7 @@ module _ (area : List ℕ) (free : ℕ) (ys : List ℕ) (inside : free ≤ lengt
       }
 
   pub back-kept : Kept free area givenBack
-  back-kept = record { same = λ k h l. sym (getD-take free givenBack k 0 l) ∙ ap (λ (z : List ℕ). getD z k 0) (take-put free (length area - free) area ys inside) ∙ getD-take free area k 0 l }
+  back-kept = record { stays = λ k h l. sym (getD-take free givenBack k 0 l) ∙ ap (λ (z : List ℕ). getD z k 0) (take-put free (length area - free) area ys inside) ∙ getD-take free area k 0 l }
 
 pub part-length : (free : ℕ) (area : List ℕ) → free ≤ length area → length (take (length area - free) (drop free area)) + free ≡ length area
 part-length free area h = omega (arith, length-take (length area - free) (drop free area), length-drop free area)

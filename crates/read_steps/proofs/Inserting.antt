@@ -44,7 +44,7 @@ pub record Listed (ws : List ℕ) (r : Row) (after : List ℕ) : Type 0 where
   pub kept : (free : ℕ) → Kept free ws after
 
 pub record NoRoom (ws : List ℕ) (r : Row) (after : List ℕ) : Type 0 where
-  pub same : after ≡ ws
+  pub stays : after ≡ ws
   pub many : 128 < length (insert rowBefore r (rowsIn ws))
 
 module _ {ws : List ℕ} (f : Filled ws) {r : Row} (width : Width r) (a : Inserted.Inserted) (answer : a ≡ insertedFor (setIn ws) r) (after : List ℕ) (words : after ≡ afterInsert a ws r) where
@@ -71,7 +71,7 @@ module _ {ws : List ℕ} (f : Filled ws) {r : Row} (width : Width r) (a : Insert
 
   pub full-no-room : a ≡ Full → NoRoom ws r after
   unfolding afterInsert
-  full-no-room e = record { same = words ∙ ap (λ (b : Inserted.Inserted). afterInsert b ws r) e; many = full-many ws r (f .sound) a answer e }
+  full-no-room e = record { stays = words ∙ ap (λ (b : Inserted.Inserted). afterInsert b ws r) e; many = full-many ws r (f .sound) a answer e }
 
   -- where there is room
   pub listed : length (rowsIn ws) < 128 → Listed ws r after
@@ -104,7 +104,7 @@ module _ {ws : List ℕ} {at : ℕ} {vs : Values} {k : ℕ} {entry : List ℕ} (
     gathering = tt;
     means = λ m ts h.
         ap (λ (x : Row). within (insert rowBefore x (rowsIn entry)) k) (sym (s .means m ts h)) ∙ within-many (insert rowBefore (held.rowIs r) (rowsIn entry)) k (n .many);
-    kept = λ free. subst (Kept free entry) (sym (n .same)) kept-self;
+    kept = λ free. subst (Kept free entry) (sym (n .stays)) kept-self;
   }
 
 pub says-has : {ws : List ℕ} {at : ℕ} {vs : Values} {set : List ℕ} {r : Held-row.Row} {b : Bool} → SayRow ws at vs r → b ≡ has (setIn set) (held.rowIs r) → SayHas ws at vs set b

@@ -13,4 +13,4 @@ pub record Gathering (area : List ℕ) : Type 0 where
 
 -- the words behind the first set, up to `free`, are as they were
 pub record Kept (free : ℕ) (before after : List ℕ) : Type 0 where
-  pub same : (k : ℕ) → setRoom ≤ k → k < free → getD after k 0 ≡ getD before k 0
+  pub stays : (k : ℕ) → setRoom ≤ k → k < free → getD after k 0 ≡ getD before k 0

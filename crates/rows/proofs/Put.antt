@@ -132,17 +132,17 @@ module _ (at : ℕ) (ws area : List ℕ) (room : at + length ws ≤ length area)
 -- the first words of a list are written at a place
 pub record Writing (ws area : List ℕ) (at : ℕ) (now : List ℕ) (j : ℕ) : Type 0 where
   pub within : j ≤ length ws
-  pub same : length now ≡ length area
+  pub size : length now ≡ length area
   pub words : now ≡ put at (take j ws) area
 
 module _ (ws area : List ℕ) (at : ℕ) where
   pub writing-start : Writing ws area at area 0
-  writing-start = record { within = omega arith; same = refl; words = sym (put-none at area) }
+  writing-start = record { within = omega arith; size = refl; words = sym (put-none at area) }
 
   pub writing-next : at + length ws ≤ length area → (now : List ℕ) (j w : ℕ) → Writing ws area at now j → j < length ws → w ≡ getD ws j 0 → Writing ws area at (set now (at + j) w) (j + 1)
   writing-next room now j w s h e = record {
     within = omega arith;
-    same = length-set now (at + j) w ∙ s .same;
+    size = length-set now (at + j) w ∙ s .size;
     words = ap (λ (m : List ℕ). set m (at + j) w) (s .words) ∙ ap (λ (k : ℕ). set (put at (take j ws) area) (at + j) k) e ∙ put-next at ws area room j h;
   }
 
@@ -159,16 +159,16 @@ module _ (area : List ℕ) (from to count : ℕ) where
 
   pub record CopiedDown (now : List ℕ) (j : ℕ) : Type 0 where
     pub within : j ≤ count
-    pub same : length now ≡ length area
+    pub size : length now ≡ length area
     pub words : now ≡ put to (take j (take count (drop from area))) area
 
   pub record CopiedUp (now : List ℕ) (j : ℕ) : Type 0 where
     pub within : j ≤ count
-    pub same : length now ≡ length area
+    pub size : length now ≡ length area
     pub words : now ≡ put (to + j) (drop j (take count (drop from area))) area
 
   pub down-start : CopiedDown area 0
-  down-start = record { within = omega arith; same = refl; words = sym (put-none to area) }
+  down-start = record { within = omega arith; size = refl; words = sym (put-none to area) }
 
   pub down-next : to ≤ from → from + count ≤ length area → (now : List ℕ) (j : ℕ) → CopiedDown now j → j < count → CopiedDown (set now (to + j) (getD now (from + j) 0)) (j + 1)
   down-next low room now j c h =
@@ -178,7 +178,7 @@ module _ (area : List ℕ) (from to count : ℕ) where
       let r : getD (put to (take j ws) area) (from + j) 0 ≡ getD ws j 0 = put-after to (take j ws) area (omega arith) (from + j) (omega arith) ∙ sym (part-word j h) in
       record {
         within = omega arith;
-        same = length-set now (to + j) (getD now (from + j) 0) ∙ c .same;
+        size = length-set now (to + j) (getD now (from + j) 0) ∙ c .size;
         words = ap (λ (m : List ℕ). set m (to + j) (getD m (from + j) 0)) (c .words) ∙ ap (λ (w : ℕ). set (put to (take j ws) area) (to + j) w) r
             ∙ put-next to ws area (omega arith) j (omega arith);
       }
@@ -191,7 +191,7 @@ module _ (area : List ℕ) (from to count : ℕ) where
   pub up-start : from + count ≤ length area → CopiedUp area count
   up-start room =
       let l = part-length room in
-      record { within = omega arith; same = refl; words = sym (ap (λ (m : List ℕ). put (to + count) m area) (drop-of-length-le (take count (drop from area)) {i = count} (omega arith)) ∙ put-none (to + count) area) }
+      record { within = omega arith; size = refl; words = sym (ap (λ (m : List ℕ). put (to + count) m area) (drop-of-length-le (take count (drop from area)) {i = count} (omega arith)) ∙ put-none (to + count) area) }
 
   pub up-next : from ≤ to → to + count ≤ length area → (now : List ℕ) (j : ℕ) → CopiedUp now j → 0 < j → CopiedUp (set now (to + (j - 1)) (getD now (from + (j - 1)) 0)) (j - 1)
   up-next high room now j c h =
@@ -206,7 +206,7 @@ module _ (area : List ℕ) (from to count : ℕ) where
       put-before (to + ((j - 1) + 1)) (drop ((j - 1) + 1) ws) area (omega arith) (from + (j - 1)) (omega arith) ∙ sym (part-word (j - 1) (omega arith)) in
       record {
         within = omega arith;
-        same = length-set now (to + (j - 1)) (getD now (from + (j - 1)) 0) ∙ c .same;
+        size = length-set now (to + (j - 1)) (getD now (from + (j - 1)) 0) ∙ c .size;
         words = ap (λ (m : List ℕ). set m (to + (j - 1)) (getD m (from + (j - 1)) 0)) s ∙ ap (λ (w : ℕ). set (put (to + ((j - 1) + 1)) (drop ((j - 1) + 1) ws) area) (to + (j - 1)) w) r
             ∙ put-previous to ws area (omega arith) (j - 1) (omega arith);
       }

@@ -195,7 +195,7 @@ module _ (a : List ℕ) (long : 1284 ≤ length a) (left : soundSet a ≡ true) 
       value-is ∙ ap (λ (n : ℕ). subtract (formed n us) (formed (getD a 642 0) vs)) z ∙ finite-less (getD a 642 0) us vs right-form ∙ ap (λ (n : ℕ). formed n (picked (eqb (getD a 642 0) 1) us vs)) (sym z) in
       record {
         answer = fits-if _ e (omega (arith, ap length (formed-listing (getD a 0 0) (picked (eqb (getD a 642 0) 1) us vs)), picked-length c us vs, room-few a 0 (rooms .one-room) (rooms .one-sound)));
-        same = s;
+        size = s;
         words = ap (take 642) (w ∙ written-put (formed (getD a 0 0) (picked (eqb (getD a 642 0) 1) us vs)) a ∙ ap (λ (v : RowSet). written v a) (sym e));
       }
 
@@ -206,7 +206,7 @@ module _ (a : List ℕ) (long : 1284 ≤ length a) (left : soundSet a ≡ true) 
       let e : subtract (setIn a) (setIn (drop 642 a)) ≡ only (picked false vs us) = value-is ∙ complements-less (getD a 0 0) (getD a 642 0) us vs z (eqb-true (getD a 642 0) 1 t) in
       record {
         answer = fits-if _ e (omega (arith, picked-length false vs us, room-few a 642 (rooms .other-room) (rooms .other-sound)));
-        same = s;
+        size = s;
         words = w ∙ ap (λ (v : RowSet). take 642 (written v a)) (sym e);
       }
 
@@ -218,7 +218,7 @@ module _ (a : List ℕ) (long : 1284 ≤ length a) (left : soundSet a ≡ true) 
       value-is ∙ complement-less (getD a 0 0) (getD a 642 0) us vs z o (sound-ascending (roomAt 0 a) (rooms .one-sound)) (sound-ascending (roomAt 642 a) (rooms .other-sound)) in
       record {
         answer = f ∙ ap (λ (l : List Row). leb (length l) mostRows) (sym (formed-listing (getD a 0 0) (join rowBefore us vs)) ∙ ap listing (sym e));
-        same = s;
+        size = s;
         words = ap (take 642) (w ∙ ap (λ (v : RowSet). leftBy fits v a) (sym e));
       }
 
@@ -335,7 +335,7 @@ module _ (a after : List ℕ) (S : RowSet) (long : 642 ≤ length a) (form : get
   combined-turned : (fits : Bool) → Combined S (set a 0 (1 - getD a 0 0)) after fits → Combined (flip S) a (set after 0 (1 - getD after 0 0)) fits
   combined-turned fits c = record {
     answer = c .answer ∙ ap (λ (l : List Row). leb (length l) mostRows) (sym (flip-listing S));
-    same = length-set after 0 (1 - getD after 0 0) ∙ c .same ∙ length-set a 0 (1 - getD a 0 0);
+    size = length-set after 0 (1 - getD after 0 0) ∙ c .size ∙ length-set a 0 (1 - getD a 0 0);
     words = turned-words fits c;
   }
 

@@ -123,12 +123,12 @@ module _ (a : List ℕ) (from other : ℕ) (b : Bool) where
     pub within : i ≤ length (rowsIn (roomAt from a))
     pub passed : i < length (rowsIn (roomAt from a)) → Passed (rowsIn (roomAt other a)) (getD (rowsIn (roomAt from a)) i []) j
     pub count : kept ≡ length (picked b (take i (rowsIn (roomAt from a))) (rowsIn (roomAt other a)))
-    pub same : length now ≡ length a
+    pub size : length now ≡ length a
     pub words : now ≡ put (from + 2) (laid (picked b (take i (rowsIn (roomAt from a))) (rowsIn (roomAt other a)))) a
 
   pub filter-start : Filtered a 0 0 0
   unfolding Passed picked common without keep flat
-  filter-start = record { within = omega arith; passed = λ h. (omega arith, λ k l. absurd (omega arith)); count = none b; same = refl; words = sym (ap (λ (l : List Row). put (from + 2) (laid l) a) (empty b) ∙ put-none (from + 2) a) }
+  filter-start = record { within = omega arith; passed = λ h. (omega arith, λ k l. absurd (omega arith)); count = none b; size = refl; words = sym (ap (λ (l : List Row). put (from + 2) (laid l) a) (empty b) ∙ put-none (from + 2) a) }
     where
       empty : (c : Bool) → picked c [] (rowsIn (roomAt other a)) ≡ []
       empty true = refl
@@ -180,7 +180,7 @@ module _ (a : List ℕ) (from other : ℕ) (b : Bool) (rooms : Rooms a from othe
       pub filter-left : keeps b (lists rowBefore theirs (getD mine i [])) ≡ false → Filtered a from other b now (i + 1) k kept
       filter-left e =
           let q = picked-less b mine theirs i h e in
-          record { within = omega arith; passed = on k h p; count = f .count ∙ ap length (sym q); same = f .same; words = f .words ∙ ap (λ (l : List Row). put (from + 2) (laid l) a) (sym q) }
+          record { within = omega arith; passed = on k h p; count = f .count ∙ ap length (sym q); size = f .size; words = f .words ∙ ap (λ (l : List Row). put (from + 2) (laid l) a) (sym q) }
 
       pub filter-kept : keeps b (lists rowBefore theirs (getD mine i [])) ≡ true →
           (after : List ℕ) → length after ≡ length now → after ≡ put (from + 2 + 5 * kept) (take 5 (drop (from + 2 + 5 * i) now)) now → Filtered a from other b after (i + 1) k (kept + 1)
@@ -198,7 +198,7 @@ module _ (a : List ℕ) (from other : ℕ) (b : Bool) (rooms : Rooms a from othe
             within = omega arith;
             passed = on k h p;
             count = omega (arith, f .count, ap length q, length-append (picked b (take i mine) theirs) (x ∷ []));
-            same = s ∙ f .same;
+            size = s ∙ f .size;
             words = w ∙ ap (λ (z : List ℕ). put (from + 2 + 5 * kept) z now) (row-here h) ∙ ap (put (from + 2 + 5 * kept) (rowWords x)) (f .words)
                 ∙ ap (λ (n : ℕ). put n (rowWords x) (put (from + 2) (laid (picked b (take i mine) theirs)) a)) at
                 ∙ put-then-after (from + 2) (laid (picked b (take i mine) theirs)) (rowWords x) a (omega arith)
@@ -229,10 +229,10 @@ module _ (a : List ℕ) (from other : ℕ) (b : Bool) (rooms : Rooms a from othe
       pub count : getD a (from + 1) 0 ≡ length mine
       pub one : from + 642 ≤ length a
       pub two : other + 642 ≤ length a
-      pub same : length now ≡ length a
+      pub size : length now ≡ length a
 
     pub numbers : Numbers
-    numbers = record { rows = few; low = kept-few; within = f .within; count = room-count a from (rooms .one-room) (rooms .one-sound); one = rooms .one-room; two = rooms .other-room; same = f .same }
+    numbers = record { rows = few; low = kept-few; within = f .within; count = room-count a from (rooms .one-room) (rooms .one-sound); one = rooms .one-room; two = rooms .other-room; size = f .size }
 
     -- the row is loaded, and looked for among the others
     module _ (r : Held.Row) (h : i < length mine) (loaded : fiveIs r ≡ fiveAt now (from + 2 + 5 * i)) where

@@ -60,7 +60,7 @@ module _ (a : List ℕ) where
   pub record Ends (now : List ℕ) (i j : ℕ) : Type 0 where
     pub left : i ≤ length (rowsIn (roomAt 0 a))
     pub right : j ≤ length (rowsIn (roomAt 642 a))
-    pub same : length now ≡ length a
+    pub size : length now ≡ length a
     pub mine : 0 < i → fiveAt now (2 + 5 * (i - 1)) ≡ rowWords (getD (rowsIn (roomAt 0 a)) (i - 1) [])
     pub theirs : 0 < j → fiveAt now (644 + 5 * (j - 1)) ≡ rowWords (getD (rowsIn (roomAt 642 a)) (j - 1) [])
 
@@ -76,7 +76,7 @@ module _ (a : List ℕ) where
     pub right : j ≤ length (rowsIn (roomAt 642 a))
     pub within : k ≤ length (join rowBefore (rowsIn (roomAt 0 a)) (rowsIn (roomAt 642 a)))
     pub front : take k (join rowBefore (rowsIn (roomAt 0 a)) (rowsIn (roomAt 642 a))) ≡ join rowBefore (take i (rowsIn (roomAt 0 a))) (take j (rowsIn (roomAt 642 a)))
-    pub same : length now ≡ length a
+    pub size : length now ≡ length a
     pub words : now ≡ put (2 + 5 * k) (laid (drop k (join rowBefore (rowsIn (roomAt 0 a)) (rowsIn (roomAt 642 a))))) a
 
 module _ (a : List ℕ) (rooms : Rooms a 0 642) where
@@ -131,7 +131,7 @@ module _ (a : List ℕ) (rooms : Rooms a 0 642) where
         let c = counts in
         let l = e .left in
         let r = e .right in
-        let s = e .same in
+        let s = e .size in
         let n = narrow-in (roomAt 0 a) in
         let m = narrow-in (roomAt 642 a) in (
           omega arith,
@@ -186,7 +186,7 @@ module _ (a : List ℕ) (rooms : Rooms a 0 642) where
       record {
         left = l;
         right = r;
-        same = refl;
+        size = refl;
         mine = λ h. room-row a 0 (rooms .one-room) (rooms .one-sound) (i - 1) (omega arith);
         theirs = λ h. room-row a 642 (rooms .other-room) (rooms .other-sound) (j - 1) (omega arith);
       }
@@ -224,7 +224,7 @@ module _ (a : List ℕ) (rooms : Rooms a 0 642) where
       left = omega arith;
       right = omega arith;
       within = omega arith;
-      same = refl;
+      size = refl;
       front = take-all k both (omega arith) ∙ sym (whole i j e f);
       words = sym (ap (λ (l : List Row). put (2 + 5 * k) (laid l) a) (drop-of-length-le both {i = k} (omega arith)) ∙ put-none (2 + 5 * k) a);
     }
@@ -239,14 +239,14 @@ module _ (a : List ℕ) (rooms : Rooms a 0 642) where
         pub most : k ≤ 128
         pub left-within : i ≤ length xs
         pub right-within : j ≤ length ys
-        pub same : length now ≡ length a
+        pub size : length now ≡ length a
 
       pub places : Places
       places =
           let f = firsts-longer rowBefore row-order [] xs ys left-ascending right-ascending i j (m .left) (m .right) in
           let w = m .within in
           let q = k-is in
-          record { left-below = omega arith; right-below = omega arith; most = omega arith; left-within = m .left; right-within = m .right; same = m .same }
+          record { left-below = omega arith; right-below = omega arith; most = omega arith; left-within = m .left; right-within = m .right; size = m .size }
 
       pub merging-ends : Ends a now i j
       merging-ends =
@@ -259,7 +259,7 @@ module _ (a : List ℕ) (rooms : Rooms a 0 642) where
           record {
             left = l;
             right = r;
-            same = m .same;
+            size = m .size;
             mine = λ h. ap (λ (z : List ℕ). fiveAt z (2 + 5 * (i - 1))) (m .words)
                 ∙ part-before (2 + 5 * k) (laid (drop k both)) a (omega arith) (2 + 5 * (i - 1)) 5 (omega arith) ∙ room-row a 0 (rooms .one-room) (rooms .one-sound) (i - 1) (omega arith);
             theirs = λ h. ap (λ (z : List ℕ). fiveAt z (644 + 5 * (j - 1))) (m .words)
@@ -285,7 +285,7 @@ module _ (a : List ℕ) (rooms : Rooms a 0 642) where
             left = omega arith;
             right = omega arith;
             within = omega arith;
-            same = same ∙ m .same;
+            size = same ∙ m .size;
             front = last-front both (join rowBefore (take p xs) (take q ys)) z k u w;
             words = s ∙ ap (λ (y : List ℕ). put (2 + 5 * (k - 1)) y now) t ∙ ap (put (2 + 5 * (k - 1)) (rowWords z)) (m .words ∙ ap (λ (y : ℕ). put y (laid (drop k both)) a) at)
                 ∙ put-then-before (2 + 5 * (k - 1)) (rowWords z) (laid (drop k both)) a (omega arith)

@@ -23,5 +23,5 @@ unfolding leftBy
 combined-stands {value} {before} {after} c e fit long =
     let few = leb-true (length (listing value)) mostRows (sym (c .answer) ∙ e) in
     let there = written-stands fit few before long refl in
-    let same = c .same in
+    let same = c .size in
     stands-front there (record { front = sym (c .words ∙ ap (λ (b : Bool). take 642 (leftBy b value before)) e); first = there .long; second = omega arith })

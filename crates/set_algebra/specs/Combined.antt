@@ -15,5 +15,5 @@ leftBy false value area = area
 
 pub record Combined (value : RowSet) (before after : List ℕ) (fits : Bool) : Type 0 where
   pub answer : fits ≡ leb (length (listing value)) mostRows
-  pub same : length after ≡ length before
+  pub size : length after ≡ length before
   pub words : take 642 after ≡ take 642 (leftBy fits value before)

@@ -27,7 +27,7 @@ loop-again c =
     writing-next (a .words .now) (a .area .now) (a .at) (omega arith) (l .area) (l .j) _ (l .inv) (omega arith) refl
 
 same-length : tie.Need-same-length Inv-loop μ-loop
-same-length c = c .before .loop .inv .same
+same-length c = c .before .loop .inv .size
 
 returns : tie.Need-returns Inv-loop μ-loop
 returns c =

@@ -123,7 +123,7 @@ slice-write-area : tie.Need-slice-write-area Inv-loop μ-loop
 slice-write-area c = let n = bounds (c .before) in omega arith
 
 same-length : tie.Need-same-length Inv-loop μ-loop
-same-length c = simp length-set (c .before .loop .inv .same)
+same-length c = simp length-set (c .before .loop .inv .size)
 
 returns : tie.Need-returns Inv-loop μ-loop
 returns c =

@@ -16,7 +16,7 @@ abbrev entry : tie.After-subtract → tie.Start
 entry t = t .before .before .before .before
 
 same-size : (t : tie.After-subtract) → length (t .subtract .last .0) ≡ length (entry t .args .area .now)
-same-size t = t .subtract .ensures .same ∙ length-set (entry t .args .area .now) 0 (1 - getD (entry t .args .area .now) 0 0)
+same-size t = t .subtract .ensures .size ∙ length-set (entry t .args .area .now) 0 (1 - getD (entry t .args .area .now) 0 0)
 
 -- ---- before the difference
 

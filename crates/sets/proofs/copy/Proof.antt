@@ -45,7 +45,7 @@ mul-to-2 c =
 
 slice-write-to : tie.Need-slice-write-to Inv-loop μ-loop
 slice-write-to c =
-    let s = size (c .before .before .before .before .before .before .before .args .from .now) (c .before .before .before .before .before .before .before .pre .0) in let k = c .before .before .loop .inv .same in omega arith
+    let s = size (c .before .before .before .before .before .before .before .args .from .now) (c .before .before .before .before .before .before .before .pre .0) in let k = c .before .before .loop .inv .size in omega arith
 
 add-i : tie.Need-add-i Inv-loop μ-loop
 add-i c =

@@ -1,6 +1,6 @@
 -- The words that `span_of` finds are the name's part.
 use borrow.Author.Needs.{needs}
-use Rattle.capi.proofs.Placing.{hands-certificates}
+use Rattle.capi.proofs.Spanning.{hands-certificates}
 use Rattle.capi.proofs.filing.txb_certificates_of.Statement.{statement}
 use Rattle.capi.proofs.filing.txb_certificates_of.Tie as tie
 

@@ -1,6 +1,6 @@
--- The place that `place_of` finds is handed out as `handPart` says.
+-- The span that `part_span` finds is handed out as `handPart` says.
 use borrow.Author.Needs.{needs}
-use Rattle.capi.proofs.Placing.{hands-query, hands-definition}
+use Rattle.capi.proofs.Spanning.{hands-query, hands-definition}
 use Rattle.capi.proofs.judgement.txb_part.Statement.{statement}
 use Rattle.capi.proofs.judgement.txb_part.Tie as tie
 

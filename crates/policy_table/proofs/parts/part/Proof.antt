@@ -5,7 +5,7 @@ use lib.ListN.{length}
 use borrow.Author.Needs.{needs}
 use denote.Ref.{now}
 use Rattle.policy.specs.Part.{inPolicy, partSpan}
-use Rattle.policy_table.proofs.PartAnswers.{place-inside, place-held, query-held, query-part, policy-part}
+use Rattle.policy_table.proofs.PartAnswers.{span-inside, span-held, query-held, query-part, policy-part}
 use Rattle.policy_table.proofs.parts.part.Statement.{statement}
 use Rattle.policy_table.proofs.parts.part.Tie as tie
 
@@ -24,10 +24,10 @@ abbrev size : tie.After-start → ℕ
 size s = s .start .given .0 .1 .0
 
 held : (s : tie.After-start) → inPolicy (start s) (size s) ≡ partSpan (now (entry (found s) .args .policy)) (entry (found s) .args .number)
-held s = place-held _ (found s .part-span .result) (start s) (size s) (found s .part-span .ensures) (s .start .given .1)
+held s = span-held _ (found s .part-span .result) (start s) (size s) (found s .part-span .ensures) (s .start .given .1)
 
 inside : (s : tie.After-start) → start s + size s ≤ length (now (entry (found s) .args .policy))
-inside s = place-inside (now (entry (found s) .args .policy)) (entry (found s) .args .number) (start s) (size s) (held s)
+inside s = span-inside (now (entry (found s) .args .policy)) (entry (found s) .args .number) (start s) (size s) (held s)
 
 -- ---- answers
 

@@ -7,7 +7,7 @@ use denote.Ref.{now}
 use Rattle.policy.specs.Table.{table, readTable}
 use Rattle.policy_table.specs.Entries.{entriesFrom}
 use Rattle.policy_table.specs.Spans.{partSpanIs}
-use Rattle.policy_table.proofs.PartAnswers.{table-read, table-refused, Listed, listed-of, place-none, place-query, place-past, place-entry}
+use Rattle.policy_table.proofs.PartAnswers.{table-read, table-refused, Listed, listed-of, span-none, span-query, span-past, span-entry}
 use Rattle.policy_table.proofs.parts.part_span.Statement.{statement}
 use Rattle.policy_table.proofs.parts.part_span.Tie as tie
 
@@ -36,11 +36,11 @@ counted e = e .before .before .before
 
 returns : tie.Need-returns
 unfolding partSpanIs
-returns c = let k = c .before .before in place-query (policy k) (start k .args .number) (count k) (sound k) (c .if1 .taken)
+returns c = let k = c .before .before in span-query (policy k) (start k .args .number) (count k) (sound k) (c .if1 .taken)
 
 returns-2 : tie.Need-returns-2
 unfolding partSpanIs
-returns-2 c = let k = c .before .before .before in place-past (policy k) (start k .args .number) (count k) (sound k) (c .before .if1 .left) (c .if2 .taken)
+returns-2 c = let k = c .before .before .before in span-past (policy k) (start k .args .number) (count k) (sound k) (c .before .if1 .left) (c .if2 .taken)
 
 returns-3 : tie.Need-returns-3
 unfolding partSpanIs
@@ -49,7 +49,7 @@ returns-3 c =
     let read = refused .before .before in
     let a = read .before .before .args in
     let n = refused .n .given .0 .0 in
-    place-none (now (a .policy)) (a .number) n (table-refused (now (a .policy)) (read .read-table .result) n (read .read-table .ensures) (refused .n .given .1))
+    span-none (now (a .policy)) (a .number) n (table-refused (now (a .policy)) (read .read-table .result) n (read .read-table .ensures) (refused .n .given .1))
 
 -- ---- an entry
 
@@ -70,7 +70,7 @@ returns-4 c =
     let e = placed .before in
     let k = counted e in
     rw (started .wide2 .ensures, c .wide3 .ensures, placed .wide .ensures)
-    (place-entry (policy k) (start k .args .number) (count k) (sound k) (e .before .if1 .left) (e .if2 .left))
+    (span-entry (policy k) (start k .args .number) (count k) (sound k) (e .before .if1 .left) (e .if2 .left))
 
 pub part-span-spec : {M : Type 1} → statement M
 part-span-spec =

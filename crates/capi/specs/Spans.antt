@@ -23,9 +23,9 @@ handPart query wholeQuery = record { size = length query; ofQuery = 1; start = 0
 unfoldable pub wordsOfPart : List ℕ → List ℕ → HandedPart → List ℕ
 wordsOfPart policy query h = take (h .size) (drop (h .start) (elim (eqb (h .ofQuery) 1) [ true ↦ query | false ↦ policy ]))
 
--- a part: its place, and the words that it points to, which are those that `part` hands back
+-- a part: where it lies, and the words that it points to, which are those that `part` hands back
 pub record PartAt (policy query : List ℕ) (number : ℕ) (handed : HandedPart) : Type 0 where
-  pub place : handPart query (partSpan policy number) ≡ handed
+  pub span : handPart query (partSpan policy number) ≡ handed
   pub words : wordsOfPart policy query handed ≡ partWords policy query number
 
 -- what a name's certificates hand out: how many words, and the word of the store where they start
@@ -42,7 +42,7 @@ handCertificates store key name polarity = record { size = length (namePart stor
 unfoldable pub wordsOfCertificates : List ℕ → HandedCertificates → List ℕ
 wordsOfCertificates store h = take (h .size) (drop (h .start) store)
 
--- one name's part of the store: its place, and the words that it points to, which are those that `certificates_of` hands back
+-- one name's part of the store: where it lies, and the words that it points to, which are those that `certificates_of` hands back
 pub record CertificatesAt (store : List ℕ) (key name polarity : ℕ) (handed : HandedCertificates) : Type 0 where
-  pub place : handCertificates store key name polarity ≡ handed
+  pub span : handCertificates store key name polarity ≡ handed
   pub words : wordsOfCertificates store handed ≡ namePart store key name polarity
