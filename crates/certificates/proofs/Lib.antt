@@ -1,6 +1,5 @@
 pub mod RecordOrder
 pub mod Sound
-pub mod WordByWord
 pub mod Filings
 pub mod NameParts
 pub mod NameRows

@@ -41,7 +41,7 @@ unfolding soundRecord
 record-sound w s = true-and _ _ (eq-eqb (length w) recordWords (s .eight)) (true-and _ _ (s .key) (true-and _ _ (s .name) (true-and _ _ (s .polarity) (s .row))))
 
 -- its last five words are its row's, and nothing follows them
-pub row-laid : (w : List ℕ) → soundRecord w ≡ true → rowWords (recordRow w) ≡ drop 3 w
+row-laid : (w : List ℕ) → soundRecord w ≡ true → rowWords (recordRow w) ≡ drop 3 w
 row-laid w e = let s = sound-record w e in row-written (drop 3 w) (omega (arith, length-drop 3 w, s .eight)) (s .row)
 
 pub row-is-all : (v w : List ℕ) → soundRecord v ≡ true → soundRecord w ≡ true → recordName v ≡ recordName w → recordRow v ≡ recordRow w → v ≡ w

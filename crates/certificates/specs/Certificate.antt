@@ -39,8 +39,8 @@ unfoldable pub certificateOf : List ℕ → Certificate
 unfolding polarityOf rowIn
 certificateOf w = record { key = getD w 0 0; name = getD w 1 0; polarity = polarityOf (getD w 2 0); row = recordRow w }
 
--- Records are in order by key, name and polarity, then by the row, then by what follows the row. Nothing does in a sound record: there the last
--- test finds no difference, and the order is that of document 01, "word by word" (WordByWord.antt).
+-- Document 02, N1: "records within one name follow this order", that of rows. So records are in order by key, name and polarity, then by the row, then by
+-- what follows the row. Nothing does in a sound record: there the last test finds no difference.
 unfoldable pub recordBefore : List ℕ → List ℕ → Bool
 unfolding firstBy wordsBefore rowBefore rowIn
 recordBefore = firstBy recordName wordsBefore (firstBy recordRow rowBefore wordsBefore)

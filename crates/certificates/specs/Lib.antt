@@ -1,5 +1,4 @@
 pub mod Certificate
-pub mod WordByWord
 pub mod Store
 pub mod Filing
 pub mod Steps

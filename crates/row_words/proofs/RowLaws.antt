@@ -110,6 +110,7 @@ module _ (ws : List ℕ) (at : ℕ) (room : at + 5 ≤ length ws) where
 
 -- ---- which comes first
 
+-- the first words are the same, and then they differ
 pub first-differs : (x y : List ℕ) (j : ℕ) → take j x ≡ take j y → j < length x → j < length y → getD x j 0 < getD y j 0 → wordsBefore x y ≡ true
 unfolding wordsBefore
 first-differs [] y j e h k l = absurd (omega arith)
@@ -119,6 +120,26 @@ first-differs (a ∷ x) (b ∷ y) (suc j) e h k l =
     let f : a ≡ b = cc in
     let g : take j x ≡ take j y = cc in
     step-equal a b (wordsBefore x y) f ∙ first-differs x y j g (omega arith) (omega arith) l
+
+-- or one ends and the other goes on
+first-ends : (x y : List ℕ) (j : ℕ) → take j x ≡ take j y → length x ≤ j → j < length y → wordsBefore x y ≡ true
+unfolding wordsBefore
+first-ends x [] j e h k = absurd (omega arith)
+first-ends [] (b ∷ y) j e h k = refl
+first-ends (a ∷ x) (b ∷ y) zero e h k = absurd (omega arith)
+first-ends (a ∷ x) (b ∷ y) (suc j) e h k =
+    let f : a ≡ b = cc in
+    let g : take j x ≡ take j y = cc in
+    step-equal a b (wordsBefore x y) f ∙ first-ends x y j g (omega arith) (omega arith)
+
+-- of rows, too
+pub row-differs : (x y : Row) (j : ℕ) → take j x ≡ take j y → j < length x → j < length y → getD x j 0 < getD y j 0 → rowBefore x y ≡ true
+unfolding rowBefore
+row-differs = first-differs
+
+row-ends : (x y : Row) (j : ℕ) → take j x ≡ take j y → length x ≤ j → j < length y → rowBefore x y ≡ true
+unfolding rowBefore
+row-ends = first-ends
 
 -- one word more that is the same
 pub front-next : (x y : List ℕ) (j : ℕ) → take j x ≡ take j y → j < length x → j < length y → getD x j 0 ≡ getD y j 0 → take (j + 1) x ≡ take (j + 1) y
@@ -176,12 +197,6 @@ module _ {A : Type 0} {before : A → A → Bool} (laws : StrictTotal before) (x
       go (isFalse f) (isTrue g) = let h = rw (f, g, orderFor) at e in let z : _≡_ {A = ℕ} 0 1 = cc in absurd (omega arith)
       go (isFalse f) (isFalse g) = laws .total x y f g
 
-module _ (x y : Row) where
-  -- narrower, or wider
-  pub narrower : length x < length y → rowBefore x y ≡ true
-  unfolding rowBefore
-  narrower h = step-less (length x) (length y) (wordsBefore x y) h
-
 -- the first words of two lists of one length are the same, as the first atoms of two rows of one width
 pub record Agree (x y : Row) (j : ℕ) : Type 0 where
   pub width : length x ≡ length y
@@ -195,15 +210,6 @@ pub agree-next : (x y : Row) (j : ℕ) → Agree x y j → j < length x → getD
 agree-next x y j a h e =
     let w = a .width in
     record { width = w; within = omega arith; front = front-next x y j (a .front) h (omega arith) e }
-
-pub agree-before : (x y : Row) (j : ℕ) → Agree x y j → j < length x → getD x j 0 < getD y j 0 → rowBefore x y ≡ true
-unfolding rowBefore
-agree-before x y j a h l =
-    let w = a .width in
-    step-equal (length x) (length y) (wordsBefore x y) w ∙ first-differs x y j (a .front) h (omega arith) l
-
-pub agree-turned : (x y : Row) (j : ℕ) → Agree x y j → Agree y x j
-agree-turned x y j a = let w = a .width in let i = a .within in record { width = sym w; within = omega arith; front = sym (a .front) }
 
 pub agree-end : (x y : Row) (j : ℕ) → Agree x y j → length x ≤ j → x ≡ y
 agree-end x y j a h = let w = a .width in sym (take-all j x h) ∙ a .front ∙ take-all j y (omega arith)
@@ -252,40 +258,42 @@ module _ (r : Held.Row) (four : length (r .atoms) ≡ 4) (few : r .width ≤ 4) 
       ∙ getD-append-add (rowIs r) (replicate (4 - length (rowIs r)) 0) (j - 1 - length (rowIs r)) 0
       ∙ getD-replicate (4 - length (rowIs r)) (j - 1 - length (rowIs r)) 0 0 (omega arith)
 
--- against the five words at a place
-module _ (r : Held.Row) (ws : List ℕ) (at : ℕ) (room : at + 5 ≤ length ws) (four : length (r .atoms) ≡ 4) (few : r .width ≤ 4) (narrow : getD ws at 0 ≤ 4) where
-  mine-width : length (rowIs r) ≡ r .width
-  mine-width = held-length r four few
+-- a row in hand against the five words at a place, atom by atom
+pub record Against (r : Held.Row) (ws : List ℕ) (at : ℕ) : Type 0 where
+  pub room : at + 5 ≤ length ws
+  pub four : length (r .atoms) ≡ 4
+  pub few : r .width ≤ 4
+  pub narrow : getD ws at 0 ≤ 4
 
-  their-width : length (rowIn (fiveAt ws at)) ≡ getD ws at 0
-  their-width = row-at-length ws at room narrow
+module _ {r : Held.Row} {ws : List ℕ} {at : ℕ} (a : Against r ws at) where
+  mine : length (rowIs r) ≡ r .width
+  mine = held-length r (a .four) (a .few)
 
-  pub compare-narrower : r .width < getD ws at 0 → orderFor rowBefore (rowIs r) (rowIn (fiveAt ws at)) ≡ Before
-  compare-narrower h = order-before row-order _ _ (narrower _ _ (omega (arith, mine-width, their-width)))
+  theirs : length (rowIn (fiveAt ws at)) ≡ getD ws at 0
+  theirs = row-at-length ws at (a .room) (a .narrow)
 
-  pub compare-wider : getD ws at 0 < r .width → orderFor rowBefore (rowIs r) (rowIn (fiveAt ws at)) ≡ After
-  compare-wider h = order-after row-order _ _ (narrower _ _ (omega (arith, mine-width, their-width)))
+  module _ (j : ℕ) (front : take j (rowIs r) ≡ take j (rowIn (fiveAt ws at))) where
+    pub compare-ends : r .width ≤ j → j < getD ws at 0 → orderFor rowBefore (rowIs r) (rowIn (fiveAt ws at)) ≡ Before
+    compare-ends h k = order-before row-order _ _ (row-ends _ _ j front (omega (arith, mine)) (omega (arith, theirs)))
 
-  module _ (alike : r .width ≡ getD ws at 0) where
-    pub compare-start : Agree (rowIs r) (rowIn (fiveAt ws at)) 0
-    compare-start = agree-start _ _ (omega (arith, mine-width, their-width))
+    pub compare-goes-on : j < r .width → getD ws at 0 ≤ j → orderFor rowBefore (rowIs r) (rowIn (fiveAt ws at)) ≡ After
+    compare-goes-on h k = order-after row-order _ _ (row-ends _ _ j (sym front) (omega (arith, theirs)) (omega (arith, mine)))
 
-    module _ (j : ℕ) (a : Agree (rowIs r) (rowIn (fiveAt ws at)) j) where
-      pub compare-end : r .width ≤ j → orderFor rowBefore (rowIs r) (rowIn (fiveAt ws at)) ≡ Same
-      compare-end h = order-same row-order _ _ (agree-end _ _ j a (omega (arith, mine-width)))
+    pub compare-same : r .width ≤ j → getD ws at 0 ≤ j → orderFor rowBefore (rowIs r) (rowIn (fiveAt ws at)) ≡ Same
+    compare-same h k = order-same row-order _ _ (sym (take-all j _ (omega (arith, mine))) ∙ front ∙ take-all j _ (omega (arith, theirs)))
 
-      module _ (h : j < r .width) where
-        here : getD (rowIs r) j 0 ≡ getD (r .atoms) j 0
-        here = held-atom r j h
+    module _ (h : j < r .width) (k : j < getD ws at 0) where
+      here : getD (rowIs r) j 0 ≡ getD (r .atoms) j 0
+      here = held-atom r j h
 
-        there : getD (rowIn (fiveAt ws at)) j 0 ≡ getD ws (at + 1 + j) 0
-        there = row-at-atom ws at j narrow (omega arith)
+      there : getD (rowIn (fiveAt ws at)) j 0 ≡ getD ws (at + 1 + j) 0
+      there = row-at-atom ws at j (a .narrow) k
 
-        pub compare-less : getD (r .atoms) j 0 < getD ws (at + 1 + j) 0 → orderFor rowBefore (rowIs r) (rowIn (fiveAt ws at)) ≡ Before
-        compare-less l = order-before row-order _ _ (agree-before _ _ j a (omega (arith, mine-width)) (omega (arith, here, there)))
+      pub compare-less : getD (r .atoms) j 0 < getD ws (at + 1 + j) 0 → orderFor rowBefore (rowIs r) (rowIn (fiveAt ws at)) ≡ Before
+      compare-less l = order-before row-order _ _ (row-differs _ _ j front (omega (arith, mine)) (omega (arith, theirs)) (omega (arith, here, there)))
 
-        pub compare-more : getD ws (at + 1 + j) 0 < getD (r .atoms) j 0 → orderFor rowBefore (rowIs r) (rowIn (fiveAt ws at)) ≡ After
-        compare-more l = order-after row-order _ _ (agree-before _ _ j (agree-turned _ _ j a) (omega (arith, their-width)) (omega (arith, here, there)))
+      pub compare-more : getD ws (at + 1 + j) 0 < getD (r .atoms) j 0 → orderFor rowBefore (rowIs r) (rowIn (fiveAt ws at)) ≡ After
+      compare-more l = order-after row-order _ _ (row-differs _ _ j (sym front) (omega (arith, theirs)) (omega (arith, mine)) (omega (arith, here, there)))
 
-        pub compare-next : getD ws (at + 1 + j) 0 ≤ getD (r .atoms) j 0 → getD (r .atoms) j 0 ≤ getD ws (at + 1 + j) 0 → Agree (rowIs r) (rowIn (fiveAt ws at)) (j + 1)
-        compare-next l m = agree-next _ _ j a (omega (arith, mine-width)) (omega (arith, here, there))
+      pub compare-next : getD (r .atoms) j 0 ≡ getD ws (at + 1 + j) 0 → take (j + 1) (rowIs r) ≡ take (j + 1) (rowIn (fiveAt ws at))
+      compare-next e = front-next _ _ j front (omega (arith, mine)) (omega (arith, theirs)) (here ∙ e ∙ sym there)

@@ -52,30 +52,31 @@ pub fn sound(words: &[u32], at: usize) -> bool
     true
 }
 
-// Where `row` stands to the row whose five words stand at `at`: the one place that knows the order of rows.
+// Where `row` stands to the row whose five words stand at `at`: atom by atom, and where one ends and the other goes on, the shorter is first.
+// This is the one place that knows the order of rows.
 pub fn compare(row: Row, words: &[u32], at: usize) -> Order
     requires { ⌜ (at + 5 ≤ length (now words)) × (row .width ≤ 4) × (getD (now words) at 0 ≤ 4) ⌝ }
     ensures { λ r. ⌜ r ≡ orderFor rowBefore (rowIs row) (rowIn (fiveAt (now (words .entry)) at)) ⌝ }
 {
-    let width = words[at];
-    if row.width < width {
-        return Order::Before;
-    }
-    if width < row.width {
-        return Order::After;
-    }
-    let end = wide(width);
-    let mut j: usize = 0;
-    while j < end {
-        let x = row.atoms[j];
-        let y = words[at + 1 + j];
-        if x < y {
-            return Order::Before;
-        }
-        if y < x {
+    let mine = wide(row.width);
+    let theirs = wide(words[at]);
+    let mut passed: usize = 0;
+    while passed < mine {
+        if theirs <= passed {
             return Order::After;
         }
-        j += 1;
+        let x = row.atoms[passed];
+        let y = words[at + 1 + passed];
+        if x != y {
+            if x < y {
+                return Order::Before;
+            }
+            return Order::After;
+        }
+        passed += 1;
+    }
+    if passed < theirs {
+        return Order::Before;
     }
     Order::Same
 }

@@ -6,13 +6,12 @@ use mathlib.Core.Bool.{Bool, true, false, _&&_, _||_}
 use mathlib.Core.List.{List, [], _∷_}
 use native.Mathlib.Omega.{arith}
 use lib.Dec.{ltb, eqb}
-use lib.ListN.{length}
 use borrow.Author.Tests.{ltb-true, ltb-false, eqb-true, lt-ltb, le-ltb, eq-eqb}
 use Rattle.rows.specs.Ordered.{StrictTotal, tied, firstBy, wordsBefore}
 use Rattle.rows.specs.Row.{rowBefore}
 use Rattle.rows.proofs.Case.{Case, isTrue, isFalse, split, never}
 
--- first by a number, then by a test: how both orders are built
+-- first by a number, then by a test: how words are compared
 abbrev pub step : ℕ → ℕ → Bool → Bool
 step x y q = ltb x y || (eqb x y && q)
 
@@ -76,19 +75,12 @@ words-total (a ∷ x) (b ∷ y) p q =
     let t : x ≡ y = words-total x y (s .1) (s .2) in
     cc
 
--- word by word: the order of records
 pub words-order : StrictTotal wordsBefore
 words-order = record { irreflexive = words-irreflexive; transitive = words-transitive; total = words-total }
 
--- by width, then atom by atom: the order of rows
 pub row-order : StrictTotal rowBefore
 unfolding rowBefore
-row-order = record {
-  irreflexive = λ x. step-equal (length x) (length x) (wordsBefore x x) refl ∙ words-irreflexive x;
-  transitive = λ x y z p q. step-transitive (length x) (length y) (length z) _ _ _ (words-transitive x y z) p q;
-  total = λ x y p q.
-      let s = step-total (length x) (length y) (wordsBefore x y) (wordsBefore y x) p q in words-total x y (s .1) (s .2);
-}
+row-order = words-order
 
 module _ {A : Type 0} {before : A → A → Bool} (laws : StrictTotal before) where
   pub not-both : (x y : A) → before x y ≡ true → before y x ≡ false

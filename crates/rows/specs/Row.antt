@@ -1,8 +1,8 @@
--- Document 01, "Rows, sets, worlds": atoms, rows and their order.
+-- Document 01, "Rows, sets, worlds": atoms and rows. Their order is document 02's, N1.
 use Prim.Native.Nat.{ℕ, _≤_}
-use mathlib.Core.Bool.{Bool, _&&_, _||_}
+use mathlib.Core.Bool.{Bool}
 use mathlib.Core.List.{List}
-use lib.Dec.{leb, ltb, eqb}
+use lib.Dec.{leb}
 use lib.ListN.{length}
 use Rattle.rows.specs.Word.{Words}
 use Rattle.rows.specs.Ordered.{wordsBefore}
@@ -24,7 +24,7 @@ pub record IsRow (r : Row) : Type 0 where
   pub few : length r ≤ 4
   pub words : Words r
 
--- "Rows are ordered by width, then atom by atom, unsigned."
+-- "Row order becomes atom by atom first. If one row ends where the other goes on, the shorter comes first." Atoms are compared unsigned, as before.
 unfoldable pub rowBefore : Row → Row → Bool
 unfolding wordsBefore
-rowBefore x y = ltb (length x) (length y) || (eqb (length x) (length y) && wordsBefore x y)
+rowBefore = wordsBefore

@@ -17,7 +17,7 @@ use Rattle.rows.proofs.Case.{Case, isTrue, isFalse, split, true-and}
 use Rattle.rows.proofs.Scan.{zeros-next, zeros-end}
 use Rattle.rows.proofs.LayoutLaws.{sound-width, row-width}
 use Rattle.rows.proofs.Records.{record-length, behind-before}
-use Rattle.row_words.proofs.RowLaws.{front-next, row-in-atom, agree-start, agree-before}
+use Rattle.row_words.proofs.RowLaws.{front-next, row-in-atom, row-differs}
 use Rattle.certificates.specs.Certificate.{recordWords, recordRow, soundRecord, recordBefore}
 use Rattle.certificates.specs.Steps.{soundAt, pairAt, Blank, Run}
 use Rattle.certificates.proofs.RecordOrder.{row-decides}
@@ -87,9 +87,8 @@ comes-behind {a} {w} s t e h =
     let one = front-next a w 0 refl (omega arith) (omega arith) (sym (e .key)) in
     let two = front-next a w 1 one (omega arith) (omega arith) (sym (e .name)) in
     let three = front-next a w 2 two (omega arith) (omega arith) (sym (e .polarity)) in
-    let widths = row-length a s ∙ sym (e .width) ∙ sym (row-length w t) in
-    row-decides a w three (agree-before (recordRow a) (recordRow w) 0 (agree-start (recordRow a) (recordRow w) widths)
-    (omega (arith, row-length a s, some-width a s)) (omega (arith, first-atom a s, first-atom w t)))
+    row-decides a w three (row-differs (recordRow a) (recordRow w) 0 refl
+    (omega (arith, row-length a s, some-width a s)) (omega (arith, row-length w t, some-width w t)) (omega (arith, first-atom a s, first-atom w t)))
 
 -- ---- the same of the records of a store
 
