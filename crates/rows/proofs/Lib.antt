@@ -1,5 +1,6 @@
 pub mod Case
 pub mod Order
+pub mod SideBySide
 pub mod Lists
 pub mod Ordered
 pub mod Sets
