@@ -1,7 +1,7 @@
 //! The C interface as a trait, which the compiled library and the evaluator both have, so that one is asked as the other is.
 
 use crate::evaluator::{certificates_of, Answer, Areas, Evaluator, Filing, Part, Refusal, Verdict};
-use crate::faults::Fault;
+use crate::faults::{self, Fault};
 use crate::numbers::NO_PART;
 use std::ops::Range;
 use txindurbe::calls::{Judgement, Reply};
@@ -59,8 +59,9 @@ impl Engine for Evaluator {
         let answered = Evaluator::query(self, policy, query, store, lent.lengths());
         match &answered {
             Ok(answer) => {
+                let words = faults::wrong_layout(self.fault, &answer.set).unwrap_or_else(|| answer.set.words());
                 // Only a planted fault gives more words than there are.
-                for (area, word) in lent.answer.iter_mut().zip(answer.set.words()) {
+                for (area, word) in lent.answer.iter_mut().zip(words) {
                     *area = word;
                 }
             }

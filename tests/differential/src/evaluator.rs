@@ -1,4 +1,4 @@
-//! Document 01 as a plain program, section by section, to be read with document 01 beside it.
+//! Document 01, with document 02's N1, as a plain program, section by section, to be read with the documents beside it.
 //!
 //! It is slow and short on purpose: sets are `BTreeSet`s, words are parsed by recursive descent, and nothing is shared with the engine it is compared with.
 //! Places marked `planted`, and calls of [`faults`], are mistakes that are made only when asked for; without a [`Fault`] they do nothing.
@@ -19,16 +19,16 @@ pub fn is_key(atom: u32) -> bool {
     atom >= FIRST_KEY
 }
 
-/// Unused atoms are 0, so that the derived order is by width, then atom by atom.
+/// Unused atoms are 0, so that the derived order is document 02's, N1: atom by atom, and where one row ends and the other goes on, the shorter is first.
 #[derive(Clone, Copy, PartialEq, Eq, PartialOrd, Ord, Debug)]
 pub struct Row {
-    pub width: u32,
     pub atoms: [u32; MOST_WIDTH as usize],
+    pub width: u32,
 }
 
 impl Row {
     pub fn new(atoms: &[u32]) -> Row {
-        let mut row = Row { width: atoms.len() as u32, atoms: [0; MOST_WIDTH as usize] };
+        let mut row = Row { atoms: [0; MOST_WIDTH as usize], width: atoms.len() as u32 };
         row.atoms[..atoms.len()].copy_from_slice(atoms);
         row
     }
@@ -36,7 +36,7 @@ impl Row {
     /// Width and four atoms, if the width and the unused atoms keep the rules.
     pub fn from_words(words: &[u32]) -> Option<Row> {
         let &[width, a, b, c, d] = words else { return None };
-        let row = Row { width, atoms: [a, b, c, d] };
+        let row = Row { atoms: [a, b, c, d], width };
         let sound = (1..=MOST_WIDTH).contains(&width) && row.atoms[width as usize..].iter().all(|&atom| atom == 0);
         sound.then_some(row)
     }
@@ -94,9 +94,14 @@ impl Set {
 
     /// Form, count, five words a row.
     pub fn words(&self) -> Vec<u32> {
+        self.with_rows(self.listed())
+    }
+
+    /// The same with its rows in the order given.
+    pub fn with_rows<'a>(&self, rows: impl IntoIterator<Item = &'a Row>) -> Vec<u32> {
         let form = matches!(self, Set::Complement(_)) as u32;
         let mut words = vec![form, self.listed().len() as u32];
-        words.extend(self.listed().iter().flat_map(Row::words));
+        words.extend(rows.into_iter().flat_map(Row::words));
         words
     }
 
@@ -118,11 +123,27 @@ impl Set {
 
 // ---- Store and filing ----
 
-/// Key, name, polarity, width, four atoms.
-pub type Record = [u32; RECORD_WORDS];
+/// A certificate. The derived order is the store's: by key, name and polarity, then by the row.
+#[derive(Clone, Copy, PartialEq, Eq, PartialOrd, Ord, Debug)]
+pub struct Record {
+    /// Key, name, polarity.
+    pub name: [u32; 3],
+    pub row: Row,
+}
 
-fn sound_record(record: &[u32]) -> bool {
-    is_key(record[0]) && record[1] <= LAST_NAME && record[2] <= 1 && Row::from_words(&record[3..]).is_some()
+impl Record {
+    /// Key, name, polarity, width, four atoms, if they keep the rules.
+    pub fn from_words(words: &[u32]) -> Option<Record> {
+        let (&name, row) = words.split_first_chunk()?;
+        let [key, number, polarity] = name;
+        let sound = is_key(key) && number <= LAST_NAME && polarity <= 1;
+        Row::from_words(row).filter(|_| sound).map(|row| Record { name, row })
+    }
+
+    pub fn words(&self) -> [u32; RECORD_WORDS] {
+        let ([key, number, polarity], [width, a, b, c, d]) = (self.name, self.row.words());
+        [key, number, polarity, width, a, b, c, d]
+    }
 }
 
 /// The records of a sound store.
@@ -131,10 +152,9 @@ pub fn certificates(store: &[u32]) -> Option<Vec<Record>> {
         return None;
     }
     let words = &store[1..1 + RECORD_WORDS * store[0] as usize];
-    let records: Vec<Record> = words.chunks(RECORD_WORDS).map(|record| record.try_into().unwrap()).collect();
-    let sound = records.iter().all(|record| sound_record(record));
+    let records = words.chunks(RECORD_WORDS).map(Record::from_words).collect::<Option<Vec<Record>>>()?;
     let ascending = records.windows(2).all(|pair| pair[0] < pair[1]);
-    (sound && ascending).then_some(records)
+    ascending.then_some(records)
 }
 
 #[derive(Clone, Copy, PartialEq, Eq, Debug)]
@@ -147,7 +167,7 @@ pub enum Filing {
 /// The part of the store with one name's certificates, in words; empty if there is none or the store is unsound.
 pub fn certificates_of(store: &[u32], name: [u32; 3]) -> Range<usize> {
     let Some(records) = certificates(store) else { return 0..0 };
-    let of_name = |record: &Record| record[..3] == name;
+    let of_name = |record: &Record| record.name == name;
     let Some(first) = records.iter().position(of_name) else { return 0..0 };
     let count = records.iter().filter(|record| of_name(record)).count();
     1 + RECORD_WORDS * first..1 + RECORD_WORDS * (first + count)
@@ -446,7 +466,7 @@ pub fn value(term: Term, values: &[u32]) -> u32 {
 }
 
 pub fn row_of(terms: &[Term], values: &[u32]) -> Row {
-    let mut row = Row { width: terms.len() as u32, atoms: [0; MOST_WIDTH as usize] };
+    let mut row = Row { atoms: [0; MOST_WIDTH as usize], width: terms.len() as u32 };
     for (atom, &term) in row.atoms.iter_mut().zip(terms) {
         *atom = value(term, values);
     }
@@ -457,8 +477,7 @@ impl Reading {
     fn new(records: &[Record], evaluator: Evaluator) -> Reading {
         let mut held: BTreeMap<[u32; 3], BTreeSet<Row>> = BTreeMap::new();
         for record in records {
-            let row = Row::from_words(&record[3..]).expect("records are sound");
-            held.entry([record[0], record[1], record[2]]).or_default().insert(row);
+            held.entry(record.name).or_default().insert(record.row);
         }
         Reading { held, definitions: Vec::new(), draws: 0, evaluator }
     }
@@ -545,6 +564,10 @@ impl Reading {
         found: &mut BTreeSet<Row>,
     ) -> Numbered<()> {
         let Set::Finite(rows) = self.read(from, values)? else { return Err(COMPLEMENT_DRAWN) };
+        let mut rows: Vec<Row> = rows.into_iter().collect();
+        if self.evaluator.has(Fault::DrawnByWidth) {
+            rows.sort_by_key(|row| row.width); // planted
+        }
         let most = MOST_DRAWS_MADE - self.evaluator.has(Fault::MillionthDrawRefused) as u32; // planted
         let outside = values.len();
         for row in &rows {
@@ -623,7 +646,7 @@ impl Areas {
     }
 }
 
-/// Document 01, or document 01 with one fault planted.
+/// What the documents say, or that with one fault planted.
 #[derive(Clone, Copy, Default, Debug)]
 pub struct Evaluator {
     pub fault: Option<Fault>,
@@ -637,20 +660,21 @@ impl Evaluator {
     /// 8, 9, Held, 10.
     pub fn file(&self, store: &mut [u32], certificate: &[u32]) -> Filing {
         let Some(records) = certificates(store) else { return Filing::Refused(BAD_STORE) };
-        let Ok(record) = Record::try_from(certificate) else { return Filing::Refused(BAD_CERTIFICATE) };
-        if !sound_record(&record) {
-            return Filing::Refused(BAD_CERTIFICATE);
-        }
+        let Some(record) = Record::from_words(certificate) else { return Filing::Refused(BAD_CERTIFICATE) };
         if self.has(Fault::FullBeforeHeld) && records.len() == MOST_CERTIFICATES {
             return Filing::Refused(STORE_FULL); // planted
         }
-        let Err(place) = records.binary_search(&record) else { return Filing::Held };
+        let Err(mut place) = records.binary_search(&record) else { return Filing::Held };
+        if self.has(Fault::FiledByWidth) {
+            place = records.iter().filter(|held| held.words() < record.words()).count();
+            // planted
+        }
         if records.len() == MOST_CERTIFICATES {
             return Filing::Refused(STORE_FULL);
         }
         let (start, end) = (1 + RECORD_WORDS * place, 1 + RECORD_WORDS * records.len());
         store.copy_within(start..end, start + RECORD_WORDS);
-        store[start..start + RECORD_WORDS].copy_from_slice(&record);
+        store[start..start + RECORD_WORDS].copy_from_slice(&record.words());
         store[0] += 1;
         if self.has(Fault::FilingClearsPastTheEnd) {
             store[end + RECORD_WORDS..].iter_mut().take(1).for_each(|word| *word = 0);

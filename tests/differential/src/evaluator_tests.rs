@@ -31,12 +31,11 @@ fn empty_store() -> Vec<u32> {
 }
 
 fn certificate(key: u32, name: u32, polarity: u32, row: &[u32]) -> Record {
-    let row = Row::new(row).words();
-    [key, name, polarity, row[0], row[1], row[2], row[3], row[4]]
+    Record { name: [key, name, polarity], row: Row::new(row) }
 }
 
 fn file(store: &mut [u32], record: Record) -> Filing {
-    Evaluator::default().file(store, &record)
+    Evaluator::default().file(store, &record.words())
 }
 
 fn store_of(records: impl IntoIterator<Item = Record>) -> Vec<u32> {
@@ -174,14 +173,38 @@ fn filing_keeps_the_order_and_the_words_past_the_end() {
     assert_eq!(certificates_of(&store, [K1, 9, 1]), 0..0);
 }
 
+/// The order as it is derived, and that of the rows' atoms as lists.
+#[test]
+fn rows_of_one_observation_are_side_by_side() {
+    let ascending: [&[u32]; 11] = [&[7], &[7, 0], &[7, 0, 0], &[7, 0, 1], &[7, 1], &[7, 1, 2], &[7, K1], &[8], &[8, 7, 0, 0], &[K1], &[K1, 3]];
+    for (place, atoms) in ascending.iter().enumerate() {
+        for (other_place, other) in ascending.iter().enumerate() {
+            assert_eq!(Row::new(atoms).cmp(&Row::new(other)), place.cmp(&other_place), "{atoms:?} and {other:?}");
+            assert_eq!(atoms.cmp(other), place.cmp(&other_place));
+        }
+    }
+}
+
+#[test]
+fn a_store_by_width_first_gets_8() {
+    let rows: [&[u32]; 4] = [&[8], &[7, 1, 2], &[7, 1], &[7]];
+    let mut store = store_of(rows.map(|row| certificate(K1, 1, 0, row)));
+    let widths = |store: &[u32]| [0, 1, 2, 3].map(|place| store[4 + RECORD_WORDS * place]);
+    assert_eq!(widths(&store), [1, 2, 3, 1]);
+    let [first, last] = [1 + RECORD_WORDS, 1 + 4 * RECORD_WORDS];
+    store[first..last].rotate_right(RECORD_WORDS);
+    assert_eq!(widths(&store), [1, 1, 2, 3]);
+    assert_eq!(ask(NOTHING, &[1, 0], &store), refusal(8, NO_PART));
+}
+
 #[test]
 fn unsound_certificates_get_9() {
-    let sound = certificate(K1, 1, 0, &[7, 8]);
+    let sound = certificate(K1, 1, 0, &[7, 8]).words();
     let damage: [(usize, u32); 6] = [(0, 5), (1, 65_536), (2, 2), (3, 0), (3, 5), (7, 1)];
     for (place, word) in damage {
         let mut record = sound;
         record[place] = word;
-        assert_eq!(file(&mut empty_store(), record), Filing::Refused(9), "{record:?}");
+        assert_eq!(Evaluator::default().file(&mut empty_store(), &record), Filing::Refused(9), "{record:?}");
     }
     for length in [0, 7, 9] {
         let words = [sound.as_slice(), &[0]].concat();
@@ -463,12 +486,12 @@ fn parts_are_handed_back() {
 
 #[test]
 fn sets_handed_in() {
-    let set = Finite(rows([&[7], &[8], &[1, 2]]));
+    let set = Finite(rows([&[8], &[7, 1], &[7]]));
     let words = set.words();
-    assert_eq!(words, [0, 3, 1, 7, 0, 0, 0, 1, 8, 0, 0, 0, 2, 1, 2, 0, 0]);
+    assert_eq!(words, [0, 3, 1, 7, 0, 0, 0, 2, 7, 1, 0, 0, 1, 8, 0, 0, 0]);
     assert_eq!(Set::from_words(&words), Some(set));
     assert_eq!(Set::from_words(&words[..16]), None);
-    for (place, word) in [(0, 2), (1, 129), (2, 0), (2, 5), (4, 1), (3, 8)] {
+    for (place, word) in [(0, 2), (1, 129), (2, 0), (2, 5), (4, 1), (3, 8), (13, 7)] {
         let mut broken = words.clone();
         broken[place] = word;
         assert_eq!(Set::from_words(&broken), None, "{broken:?}");

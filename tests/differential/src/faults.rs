@@ -1,7 +1,8 @@
 //! Mistakes that can be planted in the evaluator, to see that the comparison notices each of them.
 
-use crate::evaluator::{is_key, limited, value, Numbered, Set, Term};
+use crate::evaluator::{is_key, limited, value, Numbered, Row, Set, Term};
 use crate::numbers::{MOST_ROWS, TOO_MANY_ROWS};
+use std::cmp::{Ordering, Reverse};
 use std::collections::BTreeSet;
 
 /// One mistake. Document 01's "Curators' errors" come first.
@@ -37,11 +38,17 @@ pub enum Fault {
     ParsedBeforeJudged,
     QueryLengthFirst,
     OperandReadOnce,
+    LaidOutByWidth,
+    LongerRowFirst,
+    AtomsComparedSigned,
+    AtomsFromTheLast,
+    FiledByWidth,
+    DrawnByWidth,
 }
 
 impl Fault {
     /// Every fault; `--plant K` plants the one at K, counted from 1.
-    pub const ALL: [Fault; 30] = [
+    pub const ALL: [Fault; 36] = [
         Fault::UnknownListTakenAsEmpty,
         Fault::ComparedTermsCounted,
         Fault::AbsentNotTurnedRound,
@@ -72,6 +79,12 @@ impl Fault {
         Fault::ParsedBeforeJudged,
         Fault::QueryLengthFirst,
         Fault::OperandReadOnce,
+        Fault::LaidOutByWidth,
+        Fault::LongerRowFirst,
+        Fault::AtomsComparedSigned,
+        Fault::AtomsFromTheLast,
+        Fault::FiledByWidth,
+        Fault::DrawnByWidth,
     ];
 
     pub fn meaning(self) -> &'static str {
@@ -106,6 +119,12 @@ impl Fault {
             Fault::ParsedBeforeJudged => "all definitions are parsed before any is judged",
             Fault::QueryLengthFirst => "the query's length is tested before the definitions",
             Fault::OperandReadOnce => "the draws of an absent guard's operand are counted the first time only",
+            Fault::LaidOutByWidth => "an answer's rows are laid out by width first",
+            Fault::LongerRowFirst => "an answer has a longer row before its own beginning",
+            Fault::AtomsComparedSigned => "an answer's rows are compared by signed atoms",
+            Fault::AtomsFromTheLast => "an answer's rows are compared from the last atom on",
+            Fault::FiledByWidth => "a record's place is found by its words as they stand, by width first",
+            Fault::DrawnByWidth => "rows are drawn by width first",
         }
     }
 }
@@ -141,4 +160,22 @@ pub fn wrong_difference(fault: Option<Fault>, left: &Set, right: &Set) -> Option
         (Fault::ComplementsSubtractedStraight, Set::Complement(a), Set::Complement(b)) => Some(Ok(Set::Finite(a - b))),
         _ => None,
     }
+}
+
+/// An answer's words with its rows in a wrong order.
+pub fn wrong_layout(fault: Option<Fault>, set: &Set) -> Option<Vec<u32>> {
+    let mut rows: Vec<&Row> = set.listed().iter().collect();
+    match fault? {
+        Fault::LaidOutByWidth => rows.sort_by_key(|row| row.width),
+        Fault::LongerRowFirst => rows.sort_by(longer_first),
+        Fault::AtomsComparedSigned => rows.sort_by_key(|row| row.used().iter().map(|&atom| atom as i32).collect::<Vec<i32>>()),
+        Fault::AtomsFromTheLast => rows.sort_by_key(|row| row.used().iter().rev().collect::<Vec<&u32>>()),
+        _ => return None,
+    }
+    Some(set.with_rows(rows))
+}
+
+fn longer_first(a: &&Row, b: &&Row) -> Ordering {
+    let shared = a.width.min(b.width) as usize;
+    a.used()[..shared].cmp(&b.used()[..shared]).then_with(|| Reverse(a.width).cmp(&Reverse(b.width)))
 }

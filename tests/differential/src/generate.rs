@@ -283,7 +283,7 @@ pub fn lay_out(records: &BTreeSet<Record>, length: usize, random: &mut Random) -
     let junk = random.word() | 1;
     let mut store = Vec::with_capacity(length);
     store.push(records.len() as u32);
-    store.extend(records.iter().flatten());
+    store.extend(records.iter().flat_map(Record::words));
     store.extend((store.len() as u32..length as u32).map(|n| n.wrapping_mul(junk)));
     store
 }
@@ -304,12 +304,7 @@ impl Generator {
         let width = self.random.pick(self.universe.widths) as usize;
         let atoms: Vec<u32> = (0..width).map(|_| self.random.pick(self.universe.atoms)).collect();
         let name = [self.random.pick(self.universe.keys), self.random.pick(self.universe.names), self.random.between(0, 1)];
-        self.of_name(name, &atoms)
-    }
-
-    fn of_name(&self, [key, name, polarity]: [u32; 3], atoms: &[u32]) -> Record {
-        let [width, a, b, c, d] = Row::new(atoms).words();
-        [key, name, polarity, width, a, b, c, d]
+        Record { name, row: Row::new(&atoms) }
     }
 
     fn records(&mut self, count: usize) -> BTreeSet<Record> {
@@ -321,9 +316,9 @@ impl Generator {
         let mut records = self.records(20);
         for polarity in [0, 1] {
             let name = [self.universe.keys[0], CROWD, polarity];
-            records.retain(|record| record[..3] != name);
+            records.retain(|record| record.name != name);
             let count = self.random.between(126, 130);
-            records.extend((0..count).map(|n| self.of_name(name, &[n])));
+            records.extend((0..count).map(|n| Record { name, row: Row::new(&[n]) }));
         }
         records
     }
@@ -334,7 +329,7 @@ impl Generator {
         let mut n = 0;
         while records.len() < MOST_CERTIFICATES - missing {
             let name = [self.random.pick(self.universe.keys), n / 64, self.random.between(0, 1)];
-            records.insert(self.of_name(name, &[n]));
+            records.insert(Record { name, row: Row::new(&[n]) });
             n += 1;
         }
         records
@@ -396,7 +391,7 @@ impl Generator {
 
     /// Words to file: mostly sound, often there already, sometimes any at all.
     fn filed(&mut self, store: &[u32]) -> Vec<u32> {
-        let mut words = self.record().to_vec();
+        let mut words = self.record().words().to_vec();
         let records = store.len().saturating_sub(1) / RECORD_WORDS;
         if records > 0 && self.random.chance(150) {
             let start = 1 + RECORD_WORDS * self.random.below(records.min(store[0] as usize).max(1));
@@ -412,7 +407,7 @@ impl Generator {
 
     pub fn case(&mut self) -> Case {
         if self.random.chance(1) {
-            return self.many_draws_made();
+            return if self.random.chance(700) { self.many_draws_made() } else { self.many_draws_by_width() };
         }
         let (policy, declared) = self.policy();
         let query = self.query(&declared);
@@ -421,8 +416,8 @@ impl Generator {
 
     fn asked(&mut self, policy: Vec<u32>, query: Vec<u32>) -> Case {
         let number = if self.random.chance(900) { self.random.between(0, 18) } else { self.random.word() };
-        let [key, name, polarity, ..] = self.record();
-        Case { policy, query, areas: self.areas(), number, name: [key, name, polarity] }
+        let name = self.record().name;
+        Case { policy, query, areas: self.areas(), number, name }
     }
 
     /// A policy and a query over this universe alone, without damage.
@@ -628,6 +623,22 @@ impl Generator {
         let part = if self.random.chance(500) { [vec![5], numbers(1, 1_000, 100), comprehension].concat() } else { comprehension };
         let policy = assemble(&[(1, 0, part), (2, 0, numbers(1, 0, 1))]);
         let query = self.random.pick(&[&[3, 0][..], &[1, 0], &[7, 1, 1, 3, 1, 1, 2, 0, 1, 1, 0]]).to_vec();
+        self.asked(policy, query)
+    }
+
+    /// 201 draws are left to the query, which draws rows of one atom and of two: 129 of its heads differ before that or later, as the other rows lie between.
+    fn many_draws_by_width(&mut self) -> Case {
+        let policy = assemble(&[(1, 0, draws_from(&[101, 98, 100].map(|size| numbers(1, 0, size)), &[1, 0, 7]))]);
+        let pairs = self.random.pick(&[2, 40, 100, 126]);
+        let mut mixed = numbers(1, 0, 128 - pairs);
+        mixed[1] = 128;
+        mixed.extend((0..pairs).flat_map(|n| [2, 0, 0, 0, n]));
+        let second = [vec![1], numbers(1, 0, 100)].concat();
+        let query = if self.random.chance(500) {
+            [vec![7, 2, 1], mixed, vec![1, 2, 0], second, vec![1, 2, 1], vec![2, 1, 0, 1, 1]].concat()
+        } else {
+            [vec![7, 2, 1], mixed, vec![2, 2, 0, 2, 1], second, vec![1, 2, 2], vec![3, 1, 0, 1, 1, 1, 2]].concat()
+        };
         self.asked(policy, query)
     }
 

@@ -87,8 +87,7 @@ fn minimal_model(names: &BTreeSet<Name>, universe: &BTreeSet<Row>, accepted: &BT
 }
 
 fn certified(accepted: &BTreeSet<Record>, name: &Name) -> BTreeSet<Row> {
-    let of_name = accepted.iter().filter(|record| record[..3] == *name);
-    of_name.map(|record| Row::from_words(&record[3..]).expect("accepted ones are sound")).collect()
+    accepted.iter().filter(|record| record.name == *name).map(|record| record.row).collect()
 }
 
 /// What no certificate decides: rows of the universe, and for − names the rest (`None`).
@@ -270,7 +269,7 @@ fn points(engine: &dyn Engine, generator: &mut Generator, names: &BTreeSet<Name>
         for _ in 0..generator.random.between(1, 4) {
             let record = filed(generator, names);
             if engine.file(&mut store, &record) == 0 {
-                accepted.insert(Record::try_from(record).map_err(|words| format!("{words:?} was accepted"))?);
+                accepted.insert(Record::from_words(&record).ok_or_else(|| format!("{record:?} was accepted"))?);
             }
         }
         points.push(point(engine, policy, query, &store, &accepted)?);
@@ -283,12 +282,13 @@ fn filed(generator: &mut Generator, names: &BTreeSet<Name>) -> Vec<u32> {
     let mut record = generator.record();
     if !names.is_empty() && generator.random.chance(800) {
         let name = names.iter().nth(generator.random.below(names.len())).expect("it is one of them");
-        record[..3].copy_from_slice(name);
+        record.name = *name;
     }
+    let words = record.words();
     match generator.random.below(10) {
-        0 => record[..7].to_vec(),
+        0 => words[..7].to_vec(),
         1 => [5, 1, 0, 1, 5, 0, 0, 0].to_vec(), // a number as key
-        _ => record.to_vec(),
+        _ => words.to_vec(),
     }
 }
 
@@ -325,7 +325,7 @@ fn names_asked(judged: &Judged) -> BTreeSet<Name> {
 /// All certified rows, and some of `ROWS`.
 fn universe(points: &[Point], random: &mut Random) -> BTreeSet<Row> {
     let accepted = &points.last().expect("there is a first point").accepted;
-    let mut universe: BTreeSet<Row> = accepted.iter().filter_map(|record| Row::from_words(&record[3..])).collect();
+    let mut universe: BTreeSet<Row> = accepted.iter().map(|record| record.row).collect();
     universe.extend(ROWS.iter().filter(|_| random.chance(400)).map(|row| Row::new(row)));
     universe
 }
