@@ -17,10 +17,10 @@ fn pair(first: u32, second: u32) -> u64 {
     u64::from(first) << 32 | u64::from(second)
 }
 
-/// A certificate as four numbers, likewise.
+/// A certificate as four numbers, which compare as certificates do: the width decides last, where one row ends and the other goes on with zeros.
 fn packed(record: &Record) -> [u64; 4] {
     let [key, name, polarity, width, a, b, c, d] = *record;
-    [pair(key, name), pair(polarity, width), pair(a, b), pair(c, d)]
+    [pair(key, name), pair(polarity, a), pair(b, c), pair(d, width)]
 }
 
 /// Spelled out, which is quicker than the order of arrays.
@@ -120,9 +120,9 @@ fn row_of_atom(atom: u32) -> RowWords {
     [1, atom, 0, 0, 0]
 }
 
-/// Those of the rows that have one atom, which come first.
+/// Those of the rows that have one atom.
 fn atoms(rows: &[Record]) -> impl Iterator<Item = u32> + '_ {
-    rows.iter().take_while(|record| record[3] == 1).map(|record| record[4])
+    rows.iter().filter(|record| record[3] == 1).map(|record| record[4])
 }
 
 /// The atoms drawn that are among the others, or those that are not. All are in order, so that one pass is enough.
@@ -202,14 +202,14 @@ pub fn join(asked: &Asked, answer: &mut [u32]) -> Option<u32> {
     Some(draws)
 }
 
-/// The right rows are in order of the shared atom.
+/// The right rows are in order of the shared atom, their first.
 pub fn join_free(asked: &Asked, answer: &mut [u32]) -> Option<u32> {
     let [left, right] = left_and_right(asked)?;
     let mut pairs = Vec::with_capacity(MOST_ROWS);
     for l in left.iter().filter(|l| l[3] == 2) {
-        let shared = pair(2, l[5]);
-        let start = right.partition_point(|r| pair(r[3], r[4]) < shared);
-        pairs.extend(right[start..].iter().take_while(|r| pair(r[3], r[4]) == shared).map(|r| [l[4], r[5]]));
+        let shared = l[5];
+        let start = right.partition_point(|r| r[4] < shared);
+        pairs.extend(right[start..].iter().take_while(|r| r[4] == shared).filter(|r| r[3] == 2).map(|r| [l[4], r[5]]));
     }
     sorted(pairs, answer);
     Some((left.len() * (1 + right.len())) as u32)

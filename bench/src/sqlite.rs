@@ -77,7 +77,7 @@ impl Database {
         let database = Database::open();
         database.run(
             "CREATE TABLE certificate (key INTEGER, name INTEGER, polarity INTEGER, width INTEGER, a INTEGER, b INTEGER, c INTEGER, d INTEGER,
-             PRIMARY KEY (key, name, polarity, width, a, b, c, d)) WITHOUT ROWID",
+             PRIMARY KEY (key, name, polarity, a, b, c, d, width)) WITHOUT ROWID",
         );
         let mut insert = database.insert();
         for record in certificates {
@@ -156,7 +156,7 @@ impl Database {
 
     pub fn small(&self) -> Statement<'_> {
         self.prepare(&format!(
-            "SELECT a, b, c, d FROM certificate WHERE key = {OBSERVATORY} AND name = {SMALL} AND polarity = 0 ORDER BY width, a, b, c, d"
+            "SELECT a, b, c, d FROM certificate WHERE key = {OBSERVATORY} AND name = {SMALL} AND polarity = 0 ORDER BY a, b, c, d, width"
         ))
     }
 }
