@@ -2,7 +2,7 @@
 //!
 //!     bash run
 //!
-//! What it prints is in `portal.expected`, which was worked out from document 01 by hand.
+//! What it prints is in `portal.expected`, which was worked out from the documents by hand.
 
 use txindurbe::{
     key, Certificate, Definition, Engine, Expression, Filing, Guard, Polarity, Policy, Query, Refusal, Row, Rows, Slot, Store, Table, Term, Verdict,
@@ -153,7 +153,10 @@ fn main() -> Result<(), Refusal> {
     portal.arrives(Certificate::listed(5, RELEASED, [8]))?;
     portal.arrives(Certificate::listed(OBSERVATORY, RELEASED, [8]))?;
     portal.arrives(Certificate::not_listed(OBSERVATORY, WITHDRAWN, [8]))?;
-    let answer = portal.engine.query(&portal.policy, &Query::new(&withdrawn()), &portal.store)?;
-    println!("Now k1's withdrawn list has, {}", table(&answer.table));
+    portal.arrives(Certificate::listed(OBSERVATORY, RELEASED, [7, 1]))?;
+    for (name, list) in [("released", released()), ("withdrawn", withdrawn())] {
+        let answer = portal.engine.query(&portal.policy, &Query::new(&list), &portal.store)?;
+        println!("Now k1's {name} list has, {}", table(&answer.table));
+    }
     Ok(())
 }

@@ -22,7 +22,7 @@ extern "C" {
 
 /* The version of this interface, and the same as one number that grows with it. */
 #define TXINDURBE_VERSION_MAJOR 0
-#define TXINDURBE_VERSION_MINOR 2
+#define TXINDURBE_VERSION_MINOR 3
 #define TXINDURBE_VERSION_PATCH 0
 #define TXINDURBE_VERSION (TXINDURBE_VERSION_MAJOR * 1000000 + TXINDURBE_VERSION_MINOR * 1000 + TXINDURBE_VERSION_PATCH)
 
@@ -35,6 +35,10 @@ enum {
     TXB_PLUS = 0,                    /* a certificate says that its row is in the list; with none held, no row is known to be */
     TXB_MINUS = 1                    /* a certificate says that its row is not in the list; with none held, any row may be */
 };
+
+/* A row is one to four atoms. The rows of a table, and the certificates of one name in a store, ascend strictly: atom by atom, unsigned; where one row ends
+ * and the other goes on, the shorter comes first: 7, 7/1, 7/1/2, 8. A store from before version 0.3, where rows were in order by width first, may be refused
+ * with TXB_BAD_STORE: each eight words behind its count are a certificate, to be filed again into an empty store. */
 
 /* Lengths. A longer store or area is fine. A store starts empty if its first word is 0, whatever the others are. */
 enum {

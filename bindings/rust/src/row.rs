@@ -15,10 +15,10 @@ pub struct Row {
 }
 
 impl Ord for Row {
-    /// Mirrors the engine's order of rows, `rowBefore` in `crates/rows/specs/Row.antt`: by width, then atom by atom. All that compares rows here comes
-    /// to this function, the search in answers too, which the engine lays out in that order.
+    /// Mirrors the engine's order of rows, `rowBefore` in `crates/rows/specs/Row.antt`: atom by atom, and where one row ends and the other goes on, the
+    /// shorter is first. All that compares rows here comes to this function, the search in answers too, which the engine lays out in that order.
     fn cmp(&self, other: &Row) -> Ordering {
-        self.width.cmp(&other.width).then_with(|| self.atoms().cmp(other.atoms()))
+        self.atoms().cmp(other.atoms())
     }
 }
 
@@ -100,22 +100,25 @@ mod tests {
 
     /// Each row is before all that follow it.
     #[test]
-    fn rows_are_ordered_by_width_then_atom_by_atom_unsigned() {
+    fn rows_are_ordered_atom_by_atom_unsigned_the_shorter_first() {
         let ascending = [
             Row::from([0]),
-            Row::from([7]),
-            Row::from([key(0)]), // as a signed number it would come first
-            Row::from([u32::MAX]),
             Row::from([0, 0]),
+            Row::from([0, 0, 0, 0]),
             Row::from([0, key(1)]),
+            Row::from([7]),
             Row::from([7, 0]),
-            Row::from([7, 1]),
-            Row::from([8, 0]),
             Row::from([7, 0, 0]),
             Row::from([7, 0, 9]),
-            Row::from([0, 0, 0, 0]),
             Row::from([7, 0, 9, 1]),
             Row::from([7, 0, 9, key(1)]),
+            Row::from([7, 1]),
+            Row::from([7, 1, 2]),
+            Row::from([8]),
+            Row::from([8, 0]),
+            Row::from([key(0)]), // as a signed number it would come first
+            Row::from([key(0), 7]),
+            Row::from([u32::MAX]),
         ];
         for (place, row) in ascending.iter().enumerate() {
             for (other_place, other) in ascending.iter().enumerate() {
@@ -127,9 +130,9 @@ mod tests {
 
     #[test]
     fn answers_are_searched_in_that_order() {
-        // form, count; the rows 9, then 7/0, then 7/0/0
-        let mut answer = vec![0, 3, 1, 9, 0, 0, 0, 2, 7, 0, 0, 0, 3, 7, 0, 0, 0];
-        let listed = [Row::from([9]), Row::from([7, 0]), Row::from([7, 0, 0])];
+        // form, count; the rows 7, then 7/1, then 7/1/2, then 8: by width first, a search would miss the two in the middle
+        let mut answer = vec![0, 4, 1, 7, 0, 0, 0, 2, 7, 1, 0, 0, 3, 7, 1, 2, 0, 1, 8, 0, 0, 0];
+        let listed = [Row::from([7]), Row::from([7, 1]), Row::from([7, 1, 2]), Row::from([8])];
         let only = Rows::from_words(&answer);
         assert_eq!(only, Rows::Only(listed.to_vec()));
         answer[0] = 1;
@@ -138,7 +141,7 @@ mod tests {
         for row in listed {
             assert!(only.contains(row) && !all_but.contains(row), "{row:?}");
         }
-        for row in [Row::from([7]), Row::from([0]), Row::from([9, 0]), Row::from([7, 0, 0, 0])] {
+        for row in [Row::from([0]), Row::from([7, 0]), Row::from([7, 1, 0]), Row::from([7, 1, 2, 0]), Row::from([8, 0])] {
             assert!(!only.contains(row) && all_but.contains(row), "{row:?}");
         }
     }

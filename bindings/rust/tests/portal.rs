@@ -53,6 +53,33 @@ fn portal_cases_a_to_e() {
     assert_eq!(store.certificates_of(OBSERVATORY, WITHDRAWN, Polarity::Plus).count(), 0);
 }
 
+/// 7, 7/1, 7/1/2, 8: by width first, 8 would come second.
+#[test]
+fn rows_of_one_observation_are_side_by_side() {
+    let ascending = [Row::from([7]), Row::from([7, 1]), Row::from([7, 1, 2]), Row::from([8])];
+    let mut store = Store::new();
+    for row in ascending.iter().rev() {
+        assert_eq!(store.file(&Certificate::listed(OBSERVATORY, RELEASED, *row)), Ok(Filing::Filed));
+    }
+    assert_eq!(store.certificates_of(OBSERVATORY, RELEASED, Polarity::Plus).collect::<Vec<_>>(), ascending);
+    let query = Query::new(&Expression::list(OBSERVATORY, RELEASED, Polarity::Plus));
+    let ask = |store: &Store| Engine::new().query(&Policy::new(&[]), &query, store).map(|answer| answer.table);
+    let table = ask(&store).unwrap();
+    assert_eq!(table, Table::Lower(Rows::Only(ascending.to_vec())));
+    assert!(ascending.iter().all(|row| table.rows().contains(*row)));
+
+    // Kept by width first it is unsound, and its certificates are filed again.
+    let mut words = store.words().to_vec();
+    words[9..33].rotate_right(8);
+    let kept = Store::from_words(words);
+    assert_eq!(ask(&kept), Err(Refusal { kind: RefusalKind::BadStore, part: None }));
+    let mut again = Store::new();
+    for certificate in kept.words()[1..33].chunks(8) {
+        assert_eq!(again.file_words(certificate), Ok(Filing::Filed));
+    }
+    assert_eq!(again, store);
+}
+
 #[test]
 fn verdicts_without_a_store() {
     let policy = released_and_not_withdrawn();
