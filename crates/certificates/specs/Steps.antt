@@ -1,6 +1,7 @@
 -- What the code's inner functions find in the store's words. A portal's calls promise nothing by these.
 use Prim.Native.Nat.{ℕ, _+_, _*_, _≤_, _<_}
 use mathlib.Core.Path.{_≡_}
+use mathlib.Core.Logic.{_⊎_}
 use mathlib.Core.Bool.{Bool, true, _&&_}
 use mathlib.Core.List.{List}
 use lib.ListN.{getD}
@@ -13,13 +14,11 @@ soundAt store i = soundRecord (recordAt recordWords store i) && behindAt recordW
 
 -- two words as one number
 abbrev pub pairAt : List ℕ → ℕ → ℕ
-pairAt store at = getD store at 0 + getD store (at + 1) 0 * 4294967296
+pairAt words at = getD words at 0 + getD words (at + 1) 0 * 4294967296
 
--- three words are 0, the first of them if the row is narrow
-pub record Blank (store : List ℕ) (at : ℕ) (narrow : Bool) : Type 0 where
-  pub one : narrow ≡ true → getD store at 0 ≡ 0
-  pub two : getD store (at + 1) 0 ≡ 0
-  pub three : getD store (at + 2) 0 ≡ 0
+-- the first two atoms of a record come before those of another: by the first, or by the second where the first are the same
+abbrev pub AtomsBefore : List ℕ → List ℕ → Type 0
+AtomsBefore v w = (getD v 4 0 < getD w 4 0) ⊎ ((getD v 4 0 ≡ getD w 4 0) × (getD v 5 0 < getD w 5 0))
 
 -- the records after `start` and before `end`, of `count`: each is sound and comes behind the one before
 pub record Run (store : List ℕ) (count start end : ℕ) : Type 0 where

@@ -137,7 +137,7 @@ pub row-differs : (x y : Row) (j : ℕ) → take j x ≡ take j y → j < length
 unfolding rowBefore
 row-differs = first-differs
 
-row-ends : (x y : Row) (j : ℕ) → take j x ≡ take j y → length x ≤ j → j < length y → rowBefore x y ≡ true
+pub row-ends : (x y : Row) (j : ℕ) → take j x ≡ take j y → length x ≤ j → j < length y → rowBefore x y ≡ true
 unfolding rowBefore
 row-ends = first-ends
 

@@ -1,172 +1,188 @@
--- A run: records of one name that follow each other plainly. Each is sound, since the first is, and comes behind the one before.
-use Prim.Native.Nat.{ℕ, zero, suc, _+_, _-_, _*_, _≤_, _<_}
+-- A run: records of one name that follow each other plainly. Each has a short row, which is sound, and comes behind the one before by its first two atoms.
+use Prim.Native.Nat.{ℕ, _+_, _-_, _*_, _≤_, _<_}
 use mathlib.Core.Path.{_≡_, refl, sym, _∙_, ap}
-use mathlib.Core.Bool.{Bool, true}
+use mathlib.Core.Logic.{inl, inr}
+use mathlib.Core.Bool.{true}
 use mathlib.Core.List.{List}
 use native.Mathlib.Omega.{arith}
 use lib.Dec.{ltb}
-use lib.ListN.{length, getD, drop, length-drop}
+use lib.ListN.{length, getD, take, drop, length-drop}
 use lib.Seq.{getD-take, getD-drop, drop-drop}
 use borrow.Author.Count.{below-more}
-use borrow.Author.Tests.{lt-ltb, ltb-true, ltb-false, le-leb}
-use Rattle.rows.specs.Row.{isKey}
+use borrow.Author.Tests.{ltb-true, ltb-false}
+use Rattle.rows.specs.Row.{isKey, rowBefore}
 use Rattle.rows.specs.Name.{isName, isPolarity}
-use Rattle.rows.specs.Layout.{zeros, soundRow}
+use Rattle.rows.specs.Layout.{rowIn, zeros, soundRow}
 use Rattle.rows.specs.Records.{recordAt}
-use Rattle.rows.proofs.Case.{Case, isTrue, isFalse, split, true-and}
-use Rattle.rows.proofs.Scan.{zeros-next, zeros-end}
+use Rattle.rows.proofs.Case.{Case, isTrue, isFalse, split, never, true-and}
+use Rattle.rows.proofs.Scan.{zeros-next, zeros-fails, zeros-end}
 use Rattle.rows.proofs.LayoutLaws.{sound-width, row-width}
 use Rattle.rows.proofs.Records.{record-length, behind-before}
-use Rattle.row_words.proofs.RowLaws.{front-next, row-in-atom, row-differs}
-use Rattle.certificates.specs.Certificate.{recordWords, recordRow, soundRecord, recordBefore}
-use Rattle.certificates.specs.Steps.{soundAt, pairAt, Blank, Run}
+use Rattle.row_words.proofs.RowLaws.{front-next, row-in-atom, row-differs, row-ends}
+use Rattle.certificates.specs.Certificate.{recordWords, recordName, recordRow, soundRecord, recordBefore}
+use Rattle.certificates.specs.Steps.{soundAt, pairAt, AtomsBefore, Run}
 use Rattle.certificates.proofs.RecordOrder.{row-decides}
 use Rattle.certificates.proofs.Sound.{sound-record, record-sound}
 
--- ---- a record that follows plainly
+-- ---- a short row
 
--- the same key, name, polarity and width
-pub record Alike (a w : List ℕ) : Type 0 where
-  key : getD w 0 0 ≡ getD a 0 0
-  name : getD w 1 0 ≡ getD a 1 0
-  polarity : getD w 2 0 ≡ getD a 2 0
-  width : getD w 3 0 ≡ getD a 3 0
+-- what is unused is 0
+module _ (ws : List ℕ) (five : length ws ≡ 5) (three : getD ws 3 0 ≡ 0) (four : getD ws 4 0 ≡ 0) where
+  zeros-behind : zeros (drop 3 ws) ≡ true
+  zeros-behind = zeros-next ws 3 (omega arith) three ∙ zeros-next ws 4 (omega arith) four ∙ zeros-end ws 5 (omega arith)
 
--- the five words of a row, whose width is in range, are sound if what is unused is 0
-module _ (ws : List ℕ) (five : length ws ≡ 5) where
-  unused-zeros : (width : ℕ) → 1 ≤ width → width ≤ 4 → Blank ws 2 (ltb width 2) → zeros (drop (1 + width) ws) ≡ true
-  unused-zeros width some few b = go width some few (λ h. b .one (lt-ltb width 2 h))
-    where
-      last : zeros (drop 4 ws) ≡ true
-      last = zeros-next ws 4 (omega arith) (b .three) ∙ zeros-end ws 5 (omega arith)
-
-      two : zeros (drop 3 ws) ≡ true
-      two = zeros-next ws 3 (omega arith) (b .two) ∙ last
-
-      go : (n : ℕ) → 1 ≤ n → n ≤ 4 → (n < 2 → getD ws 2 0 ≡ 0) → zeros (drop (1 + n) ws) ≡ true
-      go zero s f h = absurd (omega arith)
-      go (suc zero) s f h = zeros-next ws 2 (omega arith) (h (omega arith)) ∙ two
-      go (suc (suc zero)) s f h = two
-      go (suc (suc (suc zero))) s f h = last
-      go (suc (suc (suc (suc zero)))) s f h = zeros-end ws 5 (omega arith)
-      go (suc (suc (suc (suc (suc n))))) s f h = absurd (omega arith)
-
-  row-sound : 1 ≤ getD ws 0 0 → getD ws 0 0 ≤ 4 → Blank ws 2 (ltb (getD ws 0 0) 2) → soundRow ws ≡ true
+  two-atoms : getD ws 0 0 ≡ 2 → soundRow ws ≡ true
   unfolding soundRow
-  row-sound some few b =
-      true-and _ _ (le-leb 1 (getD ws 0 0) some) (true-and _ _ (le-leb (getD ws 0 0) 4 few) (rw (drop-drop (getD ws 0 0) 1 ws) (unused-zeros (getD ws 0 0) some few b)))
+  two-atoms e = rw e (rw (drop-drop 2 1 ws) zeros-behind)
 
--- an alike record with 0 in what is unused is sound
-is-sound : {a w : List ℕ} → soundRecord a ≡ true → length w ≡ recordWords → Alike a w → Blank (drop 3 w) 2 (ltb (getD w 3 0) 2) → soundRecord w ≡ true
-is-sound {a} {w} e l s b =
-    let f = sound-record a e in
-    let width = sound-width (drop 3 a) (f .row) in
-    let same : getD (drop 3 w) 0 0 ≡ getD (drop 3 a) 0 0 = getD-drop 3 w 0 0 ∙ s .width ∙ sym (getD-drop 3 a 0 0) in
-    record-sound w (record {
-      eight = l;
-      key = ap isKey (s .key) ∙ f .key;
-      name = ap isName (s .name) ∙ f .name;
-      polarity = ap isPolarity (s .polarity) ∙ f .polarity;
-      row = row-sound (drop 3 w) (omega (arith, length-drop 3 w)) (omega (arith, width .some)) (omega (arith, width .few)) (rw (getD-drop 3 w 0 0) b);
-    })
+  one-atom : getD ws 0 0 ≡ 1 → getD ws 2 0 ≡ 0 → soundRow ws ≡ true
+  unfolding soundRow
+  one-atom e b = rw e (rw (drop-drop 1 1 ws) (zeros-next ws 2 (omega arith) b ∙ zeros-behind))
 
--- and one with a greater first atom comes behind
-row-length : (w : List ℕ) → soundRecord w ≡ true → length (recordRow w) ≡ getD w 3 0
-row-length w s = let r = sound-record w s in row-width (drop 3 w) (omega (arith, length-drop 3 w, r .eight)) (r .row) ∙ getD-drop 3 w 0 0
-
-some-width : (w : List ℕ) → soundRecord w ≡ true → 1 ≤ getD w 3 0
-some-width w s = omega (arith, sound-width (drop 3 w) (sound-record w s .row) .some, getD-drop 3 w 0 0)
-
-first-atom : (w : List ℕ) → soundRecord w ≡ true → getD (recordRow w) 0 0 ≡ getD w 4 0
-first-atom w s = row-in-atom (drop 3 w) 0 (omega (arith, some-width w s, getD-drop 3 w 0 0)) ∙ getD-drop 3 w 1 0
-
-comes-behind : {a w : List ℕ} → soundRecord a ≡ true → soundRecord w ≡ true → Alike a w → getD a 4 0 < getD w 4 0 → recordBefore a w ≡ true
-comes-behind {a} {w} s t e h =
-    let k = sound-record a s .eight in
-    let l = sound-record w t .eight in
-    let one = front-next a w 0 refl (omega arith) (omega arith) (sym (e .key)) in
-    let two = front-next a w 1 one (omega arith) (omega arith) (sym (e .name)) in
-    let three = front-next a w 2 two (omega arith) (omega arith) (sym (e .polarity)) in
-    row-decides a w three (row-differs (recordRow a) (recordRow w) 0 refl
-    (omega (arith, row-length a s, some-width a s)) (omega (arith, row-length w t, some-width w t)) (omega (arith, first-atom a s, first-atom w t)))
-
--- ---- the same of the records of a store
-
-word-at : (store : List ℕ) (i k : ℕ) → k < recordWords → {n : ℕ} → n ≡ 1 + recordWords * i + k → getD (recordAt recordWords store i) k 0 ≡ getD store n 0
-unfolding recordAt
-word-at store i k h e = rw (getD-take recordWords (drop (1 + recordWords * i) store) k 0 h, getD-drop (1 + recordWords * i) store k 0, e)
-
+-- two words compared as one number
 same-pair : {x y u v : ℕ} → x < 4294967296 → u < 4294967296 → x + y * 4294967296 ≡ u + v * 4294967296 → (x ≡ u) × (y ≡ v)
 same-pair h k e = (omega arith, omega arith)
 
-pub blank-pair : {store : List ℕ} {at : ℕ} {narrow : Bool} → (narrow ≡ true → getD store at 0 ≡ 0) → pairAt store (at + 1) ≡ 0 → Blank store at narrow
-blank-pair {at = at} f e = let n : at + 1 + 1 ≡ at + 2 = omega arith in record { one = f; two = omega arith; three = rw (← n) (omega arith) }
+-- a record's words, its polarity and its width so compared
+module _ (w : List ℕ) (polarity : ℕ) (eight : length w ≡ recordWords) (words : (k : ℕ) → getD w k 0 < 4294967296) (fits : polarity < 4294967296) (unused : pairAt w 6 ≡ 0) where
+  word-of : (k n : ℕ) → n ≡ 3 + k → getD (drop 3 w) k 0 ≡ getD w n 0
+  word-of k n e = getD-drop 3 w k 0 ∙ ap (λ (m : ℕ). getD w m 0) (sym e)
 
--- the run so far; the record before i is sound and alike, and has the first atom `last`
-pub record Going (store : List ℕ) (count start i last : ℕ) : Type 0 where
+  pub short-one : pairAt w 2 ≡ polarity + 4294967296 → getD w 5 0 ≡ 0 → (getD w 2 0 ≡ polarity) × (soundRow (drop 3 w) ≡ true)
+  short-one e b =
+      let kind = same-pair {y = getD w 3 0} {v = 1} (words 2) fits (omega arith) in
+      (kind .0, one-atom (drop 3 w) (omega (arith, length-drop 3 w)) (omega (arith, word-of 3 6 refl)) (omega (arith, word-of 4 7 refl)) (word-of 0 3 refl ∙ kind .1) (word-of 2 5 refl ∙ b))
+
+  pub short-two : pairAt w 2 ≡ polarity + 4294967296 + 4294967296 → (getD w 2 0 ≡ polarity) × (soundRow (drop 3 w) ≡ true)
+  short-two e =
+      let kind = same-pair {y = getD w 3 0} {v = 2} (words 2) fits (omega arith) in
+      (kind .0, two-atoms (drop 3 w) (omega (arith, length-drop 3 w)) (omega (arith, word-of 3 6 refl)) (omega (arith, word-of 4 7 refl)) (word-of 0 3 refl ∙ kind .1))
+
+-- ---- which of two sound rows comes first
+
+-- a second atom that is not 0 is used
+second-used : (ws : List ℕ) → length ws ≡ 5 → soundRow ws ≡ true → 0 < getD ws 2 0 → 1 < getD ws 0 0
+second-used ws five s h = go (split (ltb 1 (getD ws 0 0)))
+  where
+    go : Case (ltb 1 (getD ws 0 0)) → 1 < getD ws 0 0
+    go (isTrue t) = ltb-true 1 (getD ws 0 0) t
+    go (isFalse t) =
+        let e : getD ws 0 0 ≡ 1 = omega (arith, ltb-false 1 (getD ws 0 0) t, sound-width ws s .some) in
+        let f = getD-drop 1 ws 1 0 in
+        never (ap (λ (k : ℕ). zeros (drop k (drop 1 ws))) (sym e) ∙ sound-width ws s .unused)
+        (zeros-fails (drop 1 ws) 1 (omega (arith, length-drop 1 ws)) (λ n. omega arith))
+
+module _ (vs ws : List ℕ) (five-v : length vs ≡ 5) (five-w : length ws ≡ 5) (sound-v : soundRow vs ≡ true) (sound-w : soundRow ws ≡ true) where
+  wide-v : length (rowIn vs) ≡ getD vs 0 0
+  wide-v = row-width vs five-v sound-v
+
+  wide-w : length (rowIn ws) ≡ getD ws 0 0
+  wide-w = row-width ws five-w sound-w
+
+  some-v : 1 ≤ getD vs 0 0
+  some-v = sound-width vs sound-v .some
+
+  some-w : 1 ≤ getD ws 0 0
+  some-w = sound-width ws sound-w .some
+
+  by-first : getD vs 1 0 < getD ws 1 0 → rowBefore (rowIn vs) (rowIn ws) ≡ true
+  by-first h =
+      row-differs (rowIn vs) (rowIn ws) 0 refl (omega (arith, wide-v, some-v)) (omega (arith, wide-w, some-w))
+      (omega (arith, row-in-atom vs 0 (omega (arith, some-v)), row-in-atom ws 0 (omega (arith, some-w))))
+
+  by-second : getD vs 1 0 ≡ getD ws 1 0 → getD vs 2 0 < getD ws 2 0 → rowBefore (rowIn vs) (rowIn ws) ≡ true
+  by-second e h = go (split (ltb 1 (getD vs 0 0)))
+    where
+      used : 1 < getD ws 0 0
+      used = second-used ws five-w sound-w (omega arith)
+
+      front : take 1 (rowIn vs) ≡ take 1 (rowIn ws)
+      front =
+          front-next (rowIn vs) (rowIn ws) 0 refl (omega (arith, wide-v, some-v)) (omega (arith, wide-w, some-w))
+          (row-in-atom vs 0 (omega (arith, some-v)) ∙ e ∙ sym (row-in-atom ws 0 (omega (arith, some-w))))
+
+      go : Case (ltb 1 (getD vs 0 0)) → rowBefore (rowIn vs) (rowIn ws) ≡ true
+      go (isTrue t) =
+          let both = ltb-true 1 (getD vs 0 0) t in
+          row-differs (rowIn vs) (rowIn ws) 1 front (omega (arith, wide-v)) (omega (arith, wide-w, used)) (omega (arith, row-in-atom vs 1 both, row-in-atom ws 1 used))
+      go (isFalse t) = row-ends (rowIn vs) (rowIn ws) 1 front (omega (arith, wide-v, ltb-false 1 (getD vs 0 0) t)) (omega (arith, wide-w, used))
+
+-- ---- a record that follows plainly
+
+-- the same key, name and polarity
+record Alike (v w : List ℕ) : Type 0 where
+  key : getD w 0 0 ≡ getD v 0 0
+  name : getD w 1 0 ≡ getD v 1 0
+  polarity : getD w 2 0 ≡ getD v 2 0
+
+alike-names : {v w : List ℕ} → length v ≡ recordWords → length w ≡ recordWords → Alike v w → recordName v ≡ recordName w
+alike-names {v} {w} l m a =
+    let one = front-next v w 0 refl (omega arith) (omega arith) (sym (a .key)) in
+    let two = front-next v w 1 one (omega arith) (omega arith) (sym (a .name)) in
+    front-next v w 2 two (omega arith) (omega arith) (sym (a .polarity))
+
+alike-sound : {v w : List ℕ} → soundRecord v ≡ true → length w ≡ recordWords → Alike v w → soundRow (drop 3 w) ≡ true → soundRecord w ≡ true
+alike-sound {v} {w} s l a r =
+    let f = sound-record v s in
+    record-sound w (record { eight = l; key = ap isKey (a .key) ∙ f .key; name = ap isName (a .name) ∙ f .name; polarity = ap isPolarity (a .polarity) ∙ f .polarity; row = r })
+
+comes-behind : (v w : List ℕ) → soundRecord v ≡ true → soundRecord w ≡ true → recordName v ≡ recordName w → AtomsBefore v w → recordBefore v w ≡ true
+comes-behind v w s t named b = row-decides v w named (go b)
+  where
+    five : (u : List ℕ) → soundRecord u ≡ true → length (drop 3 u) ≡ 5
+    five u e = omega (arith, length-drop 3 u, sound-record u e .eight)
+
+    go : AtomsBefore v w → rowBefore (recordRow v) (recordRow w) ≡ true
+    go (inl h) = by-first (drop 3 v) (drop 3 w) (five v s) (five w t) (sound-record v s .row) (sound-record w t .row) (omega (arith, getD-drop 3 v 1 0, getD-drop 3 w 1 0))
+    go (inr h) =
+        by-second (drop 3 v) (drop 3 w) (five v s) (five w t) (sound-record v s .row) (sound-record w t .row) (getD-drop 3 v 1 0 ∙ h .0 ∙ sym (getD-drop 3 w 1 0))
+        (omega (arith, getD-drop 3 v 2 0, getD-drop 3 w 2 0, h .1))
+
+-- a slice that is one of the records
+pub slice-length : (store : List ℕ) (count i : ℕ) (t : List ℕ) → 1 + recordWords * count ≤ length store → i < count → t ≡ recordAt recordWords store i → length t ≡ recordWords
+slice-length store count i t room more e = rw e (record-length recordWords store i (omega arith))
+
+-- the run so far; the record before i is sound and of the name
+pub record Going (store : List ℕ) (count start i : ℕ) : Type 0 where
   pub run : Run store count start i
   pub sound : soundRecord (recordAt recordWords store (i - 1)) ≡ true
-  pub alike : Alike (recordAt recordWords store start) (recordAt recordWords store (i - 1))
-  pub greatest : last ≡ getD (recordAt recordWords store (i - 1)) 4 0
+  pub named : recordName (recordAt recordWords store (i - 1)) ≡ recordName (recordAt recordWords store start)
 
-module _ (store : List ℕ) (count start : ℕ) where
-  pub going-first : start < count → soundRecord (recordAt recordWords store start) ≡ true → Going store count start (start + 1) (getD store (1 + recordWords * start + 4) 0)
-  going-first h s =
+module _ (store : List ℕ) (count start : ℕ) (first : soundRecord (recordAt recordWords store start) ≡ true) where
+  pub going-first : start < count → Going store count start (start + 1)
+  going-first h =
       let e : start + 1 - 1 ≡ start = omega arith in
-      record {
-        run = record { some = omega arith; few = omega arith; each = λ k h l. absurd (omega arith) };
-        sound = rw e s;
-        alike = rw e (record { key = refl; name = refl; polarity = refl; width = refl });
-        greatest = rw e (sym (word-at store start 4 (omega arith) refl));
-      }
+      record { run = record { some = omega arith; few = omega arith; each = λ k h l. absurd (omega arith) }; sound = rw e first; named = rw e refl }
 
-  module _ (words : (k : ℕ) → getD store k 0 < 4294967296) (i : ℕ) where
-    row-word : (k : ℕ) → k < 5 → {n : ℕ} → n ≡ 1 + recordWords * i + (3 + k) → getD (drop 3 (recordAt recordWords store i)) k 0 ≡ getD store n 0
-    row-word k h e = getD-drop 3 (recordAt recordWords store i) k 0 ∙ word-at store i (3 + k) (omega arith) e
+  module _ (words : (k : ℕ) → getD store k 0 < 4294967296) (room : 1 + recordWords * count ≤ length store) (i : ℕ) (more : i < count) where
+    word-at : (n : ℕ) → getD (recordAt recordWords store n) 0 0 < 4294967296
+    unfolding recordAt
+    word-at n = omega (arith, getD-take recordWords (drop (1 + recordWords * n) store) 0 0 (omega arith), getD-drop (1 + recordWords * n) store 0 0, words (1 + recordWords * n + 0))
 
-    alike-at : pairAt store (1 + recordWords * i) ≡ pairAt store (1 + recordWords * start) → pairAt store (1 + recordWords * i + 2) ≡ pairAt store (1 + recordWords * start + 2) → Alike (recordAt recordWords store start) (recordAt recordWords store i)
-    alike-at p q =
-        let s = same-pair (words _) (words _) p in
-        let t = same-pair (words _) (words _) q in
-        record {
-          key = word-at store i 0 (omega arith) (omega arith) ∙ s .0 ∙ sym (word-at store start 0 (omega arith) (omega arith));
-          name = word-at store i 1 (omega arith) refl ∙ s .1 ∙ sym (word-at store start 1 (omega arith) refl);
-          polarity = word-at store i 2 (omega arith) refl ∙ t .0 ∙ sym (word-at store start 2 (omega arith) refl);
-          width = word-at store i 3 (omega arith) (omega arith) ∙ t .1 ∙ sym (word-at store start 3 (omega arith) (omega arith));
-        }
-
-    pub going-next : {last : ℕ} → soundRecord (recordAt recordWords store start) ≡ true → 1 + recordWords * count ≤ length store → i < count → Going store count start i last →
-        pairAt store (1 + recordWords * i) ≡ pairAt store (1 + recordWords * start) →
-        pairAt store (1 + recordWords * i + 2) ≡ pairAt store (1 + recordWords * start + 2) →
-        last < getD store (1 + recordWords * i + 4) 0 →
-        Blank store (1 + recordWords * i + 4 + 1) (ltb (getD store (1 + recordWords * start + 3) 0) 2) →
-        Going store count start (i + 1) (getD store (1 + recordWords * i + 4) 0)
-    going-next first room more g p q h b =
-        let e : i + 1 - 1 ≡ i = omega arith in
-        let r = g .run in
-        let s = alike-at p q in
-        let a = g .alike in
-        let atom = word-at store i 4 (omega arith) refl in
-        let width : getD store (1 + recordWords * start + 3) 0 ≡ getD (recordAt recordWords store i) 3 0 = sym (s .width ∙ word-at store start 3 (omega arith) refl) in
-        let long = record-length recordWords store i (omega arith) in
-        let unused : Blank (drop 3 (recordAt recordWords store i)) 2 (ltb (getD (recordAt recordWords store i) 3 0) 2) = record {
-          one = λ t. row-word 2 (omega arith) (omega arith) ∙ b .one (ap (λ (n : ℕ). ltb n 2) width ∙ t);
-          two = row-word 3 (omega arith) (omega arith) ∙ b .two;
-          three = row-word 4 (omega arith) (omega arith) ∙ b .three;
-        } in
-        let sound : soundRecord (recordAt recordWords store i) ≡ true = is-sound first long s unused in
-        let behind : recordBefore (recordAt recordWords store (i - 1)) (recordAt recordWords store i) ≡ true =
-        comes-behind (g .sound) sound (record { key = cc; name = cc; polarity = cc; width = cc }) (omega (arith, g .greatest)) in
-        record {
-          run = record {
-            some = omega arith;
-            few = omega arith;
-            each = below-more _ i (r .each) (λ l. true-and _ _ sound (behind-before recordWords store recordBefore i (λ z. omega arith) _ _ refl refl ∙ behind));
-          };
-          sound = rw e sound;
-          alike = rw e s;
-          greatest = rw e (sym atom);
-        }
+    -- the slices that the code compares are these records
+    module _ (f t l : List ℕ) (its-first : f ≡ recordAt recordWords store start) (this : t ≡ recordAt recordWords store i) (last : l ≡ recordAt recordWords store (i - 1)) where
+      pub going-next : Going store count start i → pairAt t 0 ≡ pairAt f 0 → (getD t 2 0 ≡ getD f 2 0) × (soundRow (drop 3 t) ≡ true) → AtomsBefore l t → Going store count start (i + 1)
+      going-next g p q b =
+          let e : i + 1 - 1 ≡ i = omega arith in
+          let go = g .run in
+          let pair = same-pair (rw this (word-at i)) (rw its-first (word-at start)) p in
+          let alike : Alike f t = record { key = pair .0; name = pair .1; polarity = q .0 } in
+          let sound-f : soundRecord f ≡ true = rw its-first first in
+          let long = slice-length store count i t room more this in
+          let named = sym (alike-names (sound-record f sound-f .eight) long alike) in
+          let sound : soundRecord t ≡ true = alike-sound sound-f long alike (q .1) in
+          let sound-i : soundRecord (recordAt recordWords store i) ≡ true = rw (← this) sound in
+          let before-t : recordName l ≡ recordName t = rw (last, named, its-first) (g .named) in
+          let behind = comes-behind l t (rw last (g .sound)) sound before-t b in
+          record {
+            run = record {
+              some = omega arith;
+              few = omega arith;
+              each = below-more _ i (go .each) (λ z. true-and _ _ sound-i (behind-before recordWords store recordBefore i (λ n. omega arith) t l last this ∙ behind));
+            };
+            sound = rw e sound-i;
+            named = rw (e, ← this, ← its-first) named;
+          }
 
 -- ---- a store, run by run
 

@@ -4,11 +4,12 @@ pub mod record;
 ghost use Prim.Native.Nat.{_+_, _-_, _*_, _≤_, _<_};
 ghost use mathlib.Core.Path.{_≡_};
 ghost use mathlib.Core.Bool.{true};
-ghost use lib.ListN.{length};
+ghost use lib.ListN.{length, getD, drop};
+ghost use Rattle.rows.specs.Layout.{soundRow};
 ghost use Rattle.rows.specs.Records.{recordAt, placeIn, heldAt};
 ghost use Rattle.certificates.specs.Certificate.{recordWords, soundRecord, recordBefore};
 ghost use Rattle.certificates.specs.Store.{records, soundStore};
-ghost use Rattle.certificates.specs.Steps.{soundAt, pairAt, Blank, Run};
+ghost use Rattle.certificates.specs.Steps.{soundAt, pairAt, AtomsBefore, Run};
 use crate::record::record_before;
 use crate::record::sound_record;
 use certificates::CAPACITY;
@@ -37,54 +38,70 @@ fn sound_at(store: &[u32], i: usize) -> bool
 }
 
 // Two words as one number, which one load reads: pairs are equal just if both words are.
-fn pair(store: &[u32], at: usize) -> usize
-    requires { ⌜ at + 2 ≤ length (now store) ⌝ }
-    ensures { λ r. ⌜ r ≡ pairAt (now (store .entry)) at ⌝ }
+fn pair(words: &[u32], at: usize) -> usize
+    requires { ⌜ at + 2 ≤ length (now words) ⌝ }
+    ensures { λ r. ⌜ r ≡ pairAt (now (words .entry)) at ⌝ }
 {
-    wide(store[at]) + wide(store[at + 1]) * 4294967296
+    wide(words[at]) + wide(words[at + 1]) * 4294967296
 }
 
-// Are the last three atoms 0? The first of them need be only in a narrow row, one of a single atom; the others always, though a wide row may use them.
-fn blank(store: &[u32], at: usize, narrow: bool) -> bool
-    requires { ⌜ at + 3 ≤ length (now store) ⌝ }
-    ensures { λ r. ⌜ (r ≡ true → Blank (now (store .entry)) at narrow) ⌝ }
+// Is the record of this polarity, with a sound row of one atom or two? The longer rows are left to `sound_at`.
+fn short_row(words: &[u32], polarity: u32) -> bool
+    requires { ⌜ length (now words) ≡ recordWords ⌝ }
+    ensures { λ r. ⌜ (r ≡ true → (getD (now (words .entry)) 2 0 ≡ polarity) × (soundRow (drop 3 (now (words .entry))) ≡ true)) ⌝ }
 {
-    if narrow {
-        if store[at] != 0 {
+    // Polarity and width as one number: this is that of a row of one atom, the next that of two.
+    let one = wide(polarity) + 4294967296;
+    let kind = pair(words, 2);
+    if kind == one {
+        if words[FIRST_ATOM + 1] != 0 {
             return false;
         }
+        return pair(words, FIRST_ATOM + 2) == 0;
     }
-    pair(store, at + 1) == 0
+    if kind != one + 4294967296 {
+        return false;
+    }
+    pair(words, FIRST_ATOM + 2) == 0
 }
 
-// The first record after a sound one that does not follow plainly: with the same key, name, polarity and width, a greater first atom, and blank.
+// Are the first two atoms of `a` before those of `b`?
+fn atoms_before(a: &[u32], b: &[u32]) -> bool
+    requires { ⌜ (length (now a) ≡ recordWords) × (length (now b) ≡ recordWords) ⌝ }
+    ensures { λ r. ⌜ (r ≡ true → AtomsBefore (now (a .entry)) (now (b .entry))) ⌝ }
+{
+    let x = a[FIRST_ATOM];
+    let y = b[FIRST_ATOM];
+    if x < y {
+        return true;
+    }
+    if y < x {
+        return false;
+    }
+    a[FIRST_ATOM + 1] < b[FIRST_ATOM + 1]
+}
+
+// The first record after a sound one that does not follow plainly: with the same key, name and polarity, a short row, and greater first two atoms.
 // Those that do are sound and in order, so that a record is tested whole only where a run begins.
 fn run_end(store: &[u32], count: usize, start: usize) -> usize
     requires { ⌜ (start < count) × (1 + recordWords * count ≤ length (now store)) × (soundRecord (recordAt recordWords (now store) start) ≡ true) ⌝ }
     ensures { λ r. ⌜ Run (now (store .entry)) count start r ⌝ }
 {
-    let first = 1 + RECORD_WORDS * start;
-    let owner = pair(store, first);
-    let kind = pair(store, first + 2);
-    let narrow = store[first + ROW_IN_RECORD] < 2;
-    let mut last = store[first + FIRST_ATOM];
+    let first = record_at(store, RECORD_WORDS, start);
+    let owner = pair(first, 0);
+    let polarity = first[2];
     let mut i = start + 1;
     while i < count {
-        let at = 1 + RECORD_WORDS * i;
-        if pair(store, at) != owner {
+        let this = record_at(store, RECORD_WORDS, i);
+        if pair(this, 0) != owner {
             return i;
         }
-        if pair(store, at + 2) != kind {
+        if !short_row(this, polarity) {
             return i;
         }
-        let atom = store[at + FIRST_ATOM];
-        if atom <= last {
+        if !atoms_before(record_at(store, RECORD_WORDS, i - 1), this) {
             return i;
         }
-        if !blank(store, at + FIRST_ATOM + 1, narrow) {
-            return i;
-        }
-        last = atom;
         i += 1;
     }
     i
