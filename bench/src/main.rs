@@ -1,4 +1,4 @@
-//! The library beside a straightforward evaluator, hand-tuned programs and SQLite, on eight tasks.
+//! The library beside a straightforward evaluator, hand-tuned programs and SQLite, on nine tasks.
 //!
 //!     cargo run --release --offline [-- ROUNDS]
 //!     cargo run --release --offline -- --check
@@ -19,10 +19,9 @@ use hand::Program;
 use measure::{measure, Measured};
 #[cfg(sqlite)]
 use sqlite::{Database, Statement};
-use std::collections::BTreeSet;
 use std::process::ExitCode;
 use std::rc::Rc;
-use tasks::{Asked, Record};
+use tasks::{Asked, Certificates, Record};
 use txindurbe::sizes::{ANSWER_WORDS, DEFINITIONS_WORDS, ROW_WORDS, SCRATCH_WORDS, STORE_WORDS};
 
 /// What a run found: how many rows, and the sum of their atoms.
@@ -170,7 +169,7 @@ fn filing_task(records: &[Record]) -> Task {
 }
 
 fn tasks() -> Vec<Task> {
-    let (certificates, delegations) = (tasks::certificates(), tasks::delegations());
+    let (certificates, delegations, observations) = (tasks::certificates(), tasks::delegations(), tasks::observations());
     let filed = tasks::in_random_order(&certificates);
     let asked = |policy: &[u32], query: Vec<u32>| Asked { policy: policy.to_vec(), query, store: tasks::store_of(&certificates) };
     let alone = |query: Vec<u32>| asked(tasks::EMPTY_POLICY, query);
@@ -207,8 +206,15 @@ fn tasks() -> Vec<Task> {
             hand::embargo,
             hand::embargo,
         ),
+        query_task(
+            "i: a small query on a full store, rows of one to three atoms",
+            Asked { store: tasks::store_of(&observations), ..alone(tasks::small_query()) },
+            0,
+            hand::small,
+            hand::small,
+        ),
     ];
-    for (task, run) in tasks.iter_mut().zip(sqlite_runs(certificates, delegations, filed)) {
+    for (task, run) in tasks.iter_mut().zip(sqlite_runs([&certificates, &delegations, &observations], filed)) {
         task.contestants.push(Contestant { name: SQLITE, run });
     }
     tasks
@@ -216,10 +222,10 @@ fn tasks() -> Vec<Task> {
 
 /// In the order of the tasks. The databases live as long as the program.
 #[cfg(sqlite)]
-fn sqlite_runs(certificates: BTreeSet<Record>, delegations: BTreeSet<Record>, filed: Vec<Record>) -> [Run; 8] {
+fn sqlite_runs(stores: [&Certificates; 3], filed: Vec<Record>) -> [Run; 9] {
     let kept = |database: Database| -> &'static Database { Box::leak(Box::new(database)) };
-    let (held, delegations, empty) = (kept(Database::holding(certificates)), kept(Database::holding(delegations)), kept(Database::holding([])));
-    let literals = kept(Database::of_literals());
+    let [held, delegations, observations] = stores.map(|certificates| kept(Database::holding(tasks::words_of(certificates))));
+    let (empty, literals) = (kept(Database::holding([])), kept(Database::of_literals()));
     held.hold("embargoed", tasks::embargoed());
     let answered = |mut statement: Statement<'static>, columns| -> Run { Box::new(move || Some(statement.run(&[], columns))) };
     let (mut insert, mut transaction) = (empty.insert(), empty.transaction());
@@ -232,11 +238,12 @@ fn sqlite_runs(certificates: BTreeSet<Record>, delegations: BTreeSet<Record>, fi
         answered(literals.draws_last(), 1),
         answered(delegations.delegation(), 1),
         answered(held.embargo(), 1),
+        answered(observations.small(), 4),
     ]
 }
 
 #[cfg(not(sqlite))]
-fn sqlite_runs(_: BTreeSet<Record>, _: BTreeSet<Record>, _: Vec<Record>) -> [Run; 0] {
+fn sqlite_runs(_: [&Certificates; 3], _: Vec<Record>) -> [Run; 0] {
     []
 }
 

@@ -1,6 +1,6 @@
 //! What is measured: the words of each task, the same for all.
 
-use differential::evaluator::Row;
+use differential::evaluator::{self, Row};
 use differential::random::Random;
 use std::collections::BTreeSet;
 use txindurbe::key;
@@ -20,6 +20,8 @@ pub const TRUSTED: u32 = 6;
 
 /// A certificate's words.
 pub type Record = [u32; CERTIFICATE_WORDS];
+/// Certificates in the order of a store.
+pub type Certificates = BTreeSet<evaluator::Record>;
 
 /// What a query is asked of.
 pub struct Asked {
@@ -90,15 +92,14 @@ pub fn embargo_query() -> Vec<u32> {
     vec![7, 2, 1, 4, 0, OBSERVATORY, RELEASED, 0, 1, 2, 0, 4, 1, 1, 0, 3, 0, 1, 1, 0]
 }
 
-fn certificate(issuer: u32, name: u32, polarity: u32, row: &[u32]) -> Record {
-    let [width, a, b, c, d] = Row::new(row).words();
-    [issuer, name, polarity, width, a, b, c, d]
+fn certificate(issuer: u32, name: u32, polarity: u32, row: &[u32]) -> evaluator::Record {
+    evaluator::Record { name: [issuer, name, polarity], row: Row::new(row) }
 }
 
 /// 2,000 certificates: 128 released rows, 100 of them not withdrawn, 100 left and 100 right, four of a small name, and others.
-pub fn certificates() -> BTreeSet<Record> {
+pub fn certificates() -> Certificates {
     let certificate = |name, polarity, row: &[u32]| certificate(OBSERVATORY, name, polarity, row);
-    let mut all: BTreeSet<Record> = (0..128).map(|n| certificate(RELEASED, 0, &[7 * n])).collect();
+    let mut all: Certificates = (0..128).map(|n| certificate(RELEASED, 0, &[7 * n])).collect();
     all.extend((14..114).map(|n| certificate(WITHDRAWN, 1, &[7 * n])));
     all.extend((0..100).map(|n| certificate(LEFT, 0, &[n, 1_000 + (37 * n) % 100])));
     all.extend((0..100).map(|n| certificate(RIGHT, 0, &[1_000 + n, 2_000 + n])));
@@ -110,7 +111,7 @@ pub fn certificates() -> BTreeSet<Record> {
 }
 
 /// 1,640 certificates: 40 trusted observatories, each with 20 of 100 observations released and 20 not withdrawn, 10 in both lists.
-pub fn delegations() -> BTreeSet<Record> {
+pub fn delegations() -> Certificates {
     let mut all = BTreeSet::new();
     for n in 0..40 {
         let observatory = key(1 + n);
@@ -123,15 +124,28 @@ pub fn delegations() -> BTreeSet<Record> {
     all
 }
 
-pub fn store_of(certificates: &BTreeSet<Record>) -> Vec<u32> {
+/// 2,000 certificates: of each observation a row of one, of two and of three atoms, side by side; and four of the small name.
+pub fn observations() -> Certificates {
+    let rows = (0..).flat_map(|n| [vec![n], vec![n, 1], vec![n, 1, 2]]);
+    let mut all: Certificates = (0..4).map(|n| certificate(OBSERVATORY, SMALL, 0, &[n])).collect();
+    let missing = MOST_CERTIFICATES - all.len();
+    all.extend(rows.take(missing).map(|row| certificate(OBSERVATORY, 100 + row[0] / 16, 0, &row)));
+    all
+}
+
+pub fn store_of(certificates: &Certificates) -> Vec<u32> {
     let mut store = vec![certificates.len() as u32];
-    store.extend(certificates.iter().flatten());
+    store.extend(words_of(certificates).flatten());
     store.resize(STORE_WORDS, 0);
     store
 }
 
-pub fn in_random_order(certificates: &BTreeSet<Record>) -> Vec<Record> {
-    let mut filed: Vec<Record> = certificates.iter().copied().collect();
+pub fn words_of(certificates: &Certificates) -> impl Iterator<Item = Record> + '_ {
+    certificates.iter().map(evaluator::Record::words)
+}
+
+pub fn in_random_order(certificates: &Certificates) -> Vec<Record> {
+    let mut filed: Vec<Record> = words_of(certificates).collect();
     Random::new(1).shuffle(&mut filed);
     filed
 }
