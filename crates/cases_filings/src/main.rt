@@ -1,5 +1,5 @@
 // Files into a real store what the lines of its input say, and prints what it found. Each line of `stdout` was checked by hand against
-// document 01, "Store and filing". How words are written is said in the crate `cases`. A line is one of these:
+// document 01, "Store and filing", and document 02, N1. How words are written is said in the crate `cases`. A line is one of these:
 //
 //     NAME|WORDS                   files the words, and prints the reply with the count that the store has then
 //     NAME|WORDS|LENGTH            the same with a store of so many words, not 16001

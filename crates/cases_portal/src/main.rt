@@ -1,5 +1,5 @@
 // Asks the engine what the lines of its input ask, by real calls on areas full of other words, and prints what it replied. Each line of `stdout`
-// was checked by hand against document 01. How words are written is said in the crate `cases`. A line is one of these:
+// was checked by hand against the documents. How words are written is said in the crate `cases`. A line is one of these:
 //
 //     NAME|POLICY|QUERY            asks the query under the policy, over the store as it is
 //     NAME|POLICY|QUERY|AREAS      the same with an answer, a definition and a scratch area of so many words, not 642 10272 16384

@@ -63,7 +63,7 @@ pub fn compare(row: Row, words: &[u32], at: usize) -> Order
     let mut passed: usize = 0;
     while passed < mine {
         if theirs <= passed {
-            return Order::After;
+            return Order::After; // the other row ends, this one goes on
         }
         let x = row.atoms[passed];
         let y = words[at + 1 + passed];
@@ -76,7 +76,7 @@ pub fn compare(row: Row, words: &[u32], at: usize) -> Order
         passed += 1;
     }
     if passed < theirs {
-        return Order::Before;
+        return Order::Before; // this row ends, the other one goes on
     }
     Order::Same
 }
