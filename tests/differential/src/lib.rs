@@ -1,4 +1,4 @@
-//! The compiled library beside an independent evaluator, written from document 01 alone.
+//! The compiled library beside an independent evaluator, written from the documents alone.
 
 pub mod compare;
 pub mod engine;
