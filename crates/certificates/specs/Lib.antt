@@ -1,4 +1,5 @@
 pub mod Certificate
+pub mod StoreOrder
 pub mod Store
 pub mod Filing
 pub mod Steps

@@ -6,7 +6,7 @@ use Rattle.rows.specs.Records.{recordsIn, soundRecords}
 use Rattle.certificates.specs.Certificate.{Certificate, recordWords, soundRecord, certificateOf, recordBefore}
 
 -- "A store is at least 16,001 words [1 + 8 × 2,000]: a count of 0 to 2,000, then eight words a certificate .., strictly ascending": what is laid out so is
--- defined over any width in rows/specs/Records.antt
+-- defined over any width in rows/specs/Records.antt. The order is that of Certificate.antt, where document 01 has "word by word".
 abbrev pub capacity : ℕ
 capacity = 2000
 

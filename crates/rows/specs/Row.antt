@@ -1,4 +1,4 @@
--- Document 01, "Rows, sets, worlds": atoms and rows. Their order is document 02's, N1.
+-- Document 01, "Rows, sets, worlds": atoms and rows. The order of rows is document 02's, N1.
 use Prim.Native.Nat.{ℕ, _≤_}
 use mathlib.Core.Bool.{Bool}
 use mathlib.Core.List.{List}
@@ -24,7 +24,8 @@ pub record IsRow (r : Row) : Type 0 where
   pub few : length r ≤ 4
   pub words : Words r
 
--- "Row order becomes atom by atom first. If one row ends where the other goes on, the shorter comes first." Atoms are compared unsigned, as before.
+-- "Row order becomes atom by atom first. If one row ends where the other goes on, the shorter comes first." Atoms are compared "unsigned", as document 01
+-- has it: a key comes after every number.
 unfoldable pub rowBefore : Row → Row → Bool
 unfolding wordsBefore
 rowBefore = wordsBefore
