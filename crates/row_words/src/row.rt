@@ -52,8 +52,8 @@ pub fn sound(words: &[u32], at: usize) -> bool
     true
 }
 
-// Where `row` stands to the row whose five words stand at `at`: atom by atom, and where one ends and the other goes on, the shorter is first.
-// This is the one place that knows the order of rows.
+// Where `row` stands to the row whose five words stand at `at`: atom by atom, and where one ends and the other goes on, the shorter comes first.
+// All that orders rows asks this; only a run of records in the store (`run_end` in `store_records`) goes by its first two atoms alone.
 pub fn compare(row: Row, words: &[u32], at: usize) -> Order
     requires { ⌜ (at + 5 ≤ length (now words)) × (row .width ≤ 4) × (getD (now words) at 0 ≤ 4) ⌝ }
     ensures { λ r. ⌜ r ≡ orderFor rowBefore (rowIs row) (rowIn (fiveAt (now (words .entry)) at)) ⌝ }

@@ -45,27 +45,23 @@ fn pair(words: &[u32], at: usize) -> usize
     wide(words[at]) + wide(words[at + 1]) * 4294967296
 }
 
-// Is the record of this polarity, with a sound row of one atom or two? The longer rows are left to `sound_at`.
+// Is the record of this polarity, with a sound row of one atom or two? The longer rows are left to `sound_at`. Polarity and width are compared as one number.
 fn short_row(words: &[u32], polarity: u32) -> bool
     requires { ⌜ length (now words) ≡ recordWords ⌝ }
     ensures { λ r. ⌜ (r ≡ true → (getD (now (words .entry)) 2 0 ≡ polarity) × (soundRow (drop 3 (now (words .entry))) ≡ true)) ⌝ }
 {
-    // Polarity and width as one number: this is that of a row of one atom, the next that of two.
-    let one = wide(polarity) + 4294967296;
-    let kind = pair(words, 2);
-    if kind == one {
-        if words[FIRST_ATOM + 1] != 0 {
-            return false;
-        }
-        return pair(words, FIRST_ATOM + 2) == 0;
-    }
-    if kind != one + 4294967296 {
+    if pair(words, FIRST_ATOM + 2) != 0 {
         return false;
     }
-    pair(words, FIRST_ATOM + 2) == 0
+    let one_atom = wide(polarity) + 4294967296;
+    let kind = pair(words, 2);
+    if kind == one_atom {
+        return words[FIRST_ATOM + 1] == 0;
+    }
+    kind == one_atom + 4294967296
 }
 
-// Are the first two atoms of `a` before those of `b`?
+// Are the first two atoms of `a` before those of `b`? An unused second one is 0, and so comes before every other, as the shorter row does.
 fn atoms_before(a: &[u32], b: &[u32]) -> bool
     requires { ⌜ (length (now a) ≡ recordWords) × (length (now b) ≡ recordWords) ⌝ }
     ensures { λ r. ⌜ (r ≡ true → AtomsBefore (now (a .entry)) (now (b .entry))) ⌝ }
@@ -81,8 +77,8 @@ fn atoms_before(a: &[u32], b: &[u32]) -> bool
     a[FIRST_ATOM + 1] < b[FIRST_ATOM + 1]
 }
 
-// The first record after a sound one that does not follow plainly: with the same key, name and polarity, a short row, and greater first two atoms.
-// Those that do are sound and in order, so that a record is tested whole only where a run begins.
+// The first record after a sound one that does not follow plainly. One follows plainly that has the same key, name and polarity, a short row, and first two
+// atoms greater than those before. It is sound and in order, so that a record is tested whole only where a run begins.
 fn run_end(store: &[u32], count: usize, start: usize) -> usize
     requires { ⌜ (start < count) × (1 + recordWords * count ≤ length (now store)) × (soundRecord (recordAt recordWords (now store) start) ≡ true) ⌝ }
     ensures { λ r. ⌜ Run (now (store .entry)) count start r ⌝ }
