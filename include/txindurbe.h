@@ -38,7 +38,7 @@ enum {
 
 /* A row is one to four atoms. The rows of a table, and the certificates of one name in a store, ascend strictly: atom by atom, unsigned; where one row ends
  * and the other goes on, the shorter comes first: 7, 7/1, 7/1/2, 8. A store from before version 0.3, where rows were in order by width first, may be refused
- * with TXB_BAD_STORE: each eight words behind its count are a certificate, to be filed again into an empty store. */
+ * with TXB_BAD_STORE: every eight words behind its count are a certificate, to be filed again into an empty store. */
 
 /* Lengths. A longer store or area is fine. A store starts empty if its first word is 0, whatever the others are. */
 enum {

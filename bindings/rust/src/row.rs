@@ -16,7 +16,7 @@ pub struct Row {
 
 impl Ord for Row {
     /// Mirrors the engine's order of rows, `rowBefore` in `crates/rows/specs/Row.antt`: atom by atom, and where one row ends and the other goes on, the
-    /// shorter is first. All that compares rows here comes to this function, the search in answers too, which the engine lays out in that order.
+    /// shorter comes first. All that compares rows here comes to this function, the search in answers too, which the engine lays out in that order.
     fn cmp(&self, other: &Row) -> Ordering {
         self.atoms().cmp(other.atoms())
     }
@@ -130,7 +130,7 @@ mod tests {
 
     #[test]
     fn answers_are_searched_in_that_order() {
-        // form, count; the rows 7, then 7/1, then 7/1/2, then 8: by width first, a search would miss the two in the middle
+        // form, count; the rows 7, then 7/1, then 7/1/2, then 8: a search by width first would miss some of them
         let mut answer = vec![0, 4, 1, 7, 0, 0, 0, 2, 7, 1, 0, 0, 3, 7, 1, 2, 0, 1, 8, 0, 0, 0];
         let listed = [Row::from([7]), Row::from([7, 1]), Row::from([7, 1, 2]), Row::from([8])];
         let only = Rows::from_words(&answer);

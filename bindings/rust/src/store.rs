@@ -47,8 +47,8 @@ impl Store {
         Store { words: vec![0; STORE_WORDS] }
     }
 
-    /// From words kept earlier. Any words at all: an unsound store is refused with 8 when it is used. One kept by a version before 0.3 may be, since its
-    /// rows are in order by width first: each eight words behind its count are a certificate, for [`file_words`](Store::file_words) into a new store.
+    /// From words kept earlier. Any words at all: an unsound store is refused with 8 when it is used. A store kept by a version before 0.3 may be unsound,
+    /// since its rows are in order by width first: every eight words behind its count are a certificate, for [`file_words`](Store::file_words) into a new store.
     pub fn from_words(words: Vec<u32>) -> Store {
         Store { words }
     }

@@ -19,7 +19,7 @@ pub fn is_key(atom: u32) -> bool {
     atom >= FIRST_KEY
 }
 
-/// Unused atoms are 0, so that the derived order is document 02's, N1: atom by atom, and where one row ends and the other goes on, the shorter is first.
+/// Unused atoms are 0, so that the derived order is document 02's, N1: atom by atom, and where one row ends and the other goes on, the shorter comes first.
 #[derive(Clone, Copy, PartialEq, Eq, PartialOrd, Ord, Debug)]
 pub struct Row {
     pub atoms: [u32; MOST_WIDTH as usize],

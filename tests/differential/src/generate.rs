@@ -407,7 +407,7 @@ impl Generator {
 
     pub fn case(&mut self) -> Case {
         if self.random.chance(1) {
-            return if self.random.chance(700) { self.many_draws_made() } else { self.many_draws_by_width() };
+            return if self.random.chance(700) { self.many_draws_made() } else { self.many_draws_of_two_widths() };
         }
         let (policy, declared) = self.policy();
         let query = self.query(&declared);
@@ -626,8 +626,9 @@ impl Generator {
         self.asked(policy, query)
     }
 
-    /// 201 draws are left to the query, which draws rows of one atom and of two: 129 of its heads differ before that or later, as the other rows lie between.
-    fn many_draws_by_width(&mut self) -> Case {
+    /// 201 draws are left to the query, which draws rows of one atom and of two and matches those of one width. Where the others lie decides whether its 129th
+    /// head (13) comes before the draws are made (14).
+    fn many_draws_of_two_widths(&mut self) -> Case {
         let policy = assemble(&[(1, 0, draws_from(&[101, 98, 100].map(|size| numbers(1, 0, size)), &[1, 0, 7]))]);
         let pairs = self.random.pick(&[2, 40, 100, 126]);
         let mut mixed = numbers(1, 0, 128 - pairs);
