@@ -2,10 +2,11 @@
 use Prim.Native.Nat.{ℕ}
 use mathlib.Core.Path.{_≡_, refl, sym, _∙_, ap}
 use mathlib.Core.Bool.{true}
-use mathlib.Core.List.{List, [], _∷_}
+use mathlib.Core.List.{List, map}
 use Rattle.rows.specs.Ordered.{wordsBefore, firstBy, tied, ascending}
 use Rattle.rows.specs.Row.{rowBefore}
-use Rattle.rows.specs.Layout.{rowIn}
+use Rattle.rows.specs.Layout.{rowIn, rowWords}
+use Rattle.rows.specs.SideBySide.{example}
 use Rattle.rows.proofs.Case.{Case, isTrue, isFalse, split}
 use Rattle.rows.proofs.Order.{words-order, row-order}
 use Rattle.certificates.specs.Certificate.{recordName, recordRow, soundRecord, recordBefore}
@@ -31,8 +32,8 @@ by-row v w sound-v sound-w named = go (split (rowBefore (recordRow v) (recordRow
         let same = row-is-all v w sound-v sound-w named (row-order .total (recordRow v) (recordRow w) a b) in
         ap (recordBefore v) (sym same) ∙ record-order .irreflexive v ∙ sym a
 
-shown : ascending recordBefore (inList (1 ∷ 7 ∷ 0 ∷ 0 ∷ 0 ∷ []) ∷ inList (2 ∷ 7 ∷ 1 ∷ 0 ∷ 0 ∷ []) ∷ inList (3 ∷ 7 ∷ 1 ∷ 2 ∷ 0 ∷ []) ∷ inList (1 ∷ 8 ∷ 0 ∷ 0 ∷ 0 ∷ []) ∷ []) ≡ true
-unfolding recordBefore firstBy tied wordsBefore rowBefore rowIn ascending
+shown : ascending recordBefore (map inList example) ≡ true
+unfolding recordBefore firstBy tied wordsBefore rowBefore rowIn rowWords ascending
 shown = refl
 
 pub holds : Theorem

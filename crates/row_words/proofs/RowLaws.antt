@@ -1,11 +1,11 @@
 -- A row in words and in hand, and which of two comes first.
-use Prim.Native.Nat.{ℕ, zero, suc, _+_, _-_, _≤_, _<_}
+use Prim.Native.Nat.{ℕ, suc, _+_, _-_, _≤_, _<_}
 use mathlib.Core.Path.{_≡_, refl, sym, _∙_, ap}
 use mathlib.Core.Bool.{Bool, true, false}
 use mathlib.Core.List.{List, [], _∷_, _++_}
 use native.Mathlib.Omega.{arith}
 use lib.ListN.{length, getD, take, drop, replicate, length-drop, getD-replicate, List·getD-append}
-use lib.Seq.{drop-cons, getD-take, getD-drop, getD-append-add, take-suc, take-all, length-take-le}
+use lib.Seq.{split-at, drop-cons, getD-take, getD-drop, getD-append-add, take-suc, take-all, length-take-le}
 use borrow.Author.Tests.{le-leb, lt-leb}
 use Rattle.rows.specs.Ordered.{StrictTotal, wordsBefore}
 use Rattle.rows.specs.Row.{Row, rowBefore}
@@ -16,7 +16,7 @@ use Rattle.row_words.specs.declared.row.Order.the-variants.{Before, Same
 use Rattle.rows.proofs.Case.{Case, isTrue, isFalse, split, never}
 use Rattle.rows.proofs.LayoutLaws.{row-length, sound-width}
 use Rattle.rows.proofs.Scan.{and-true-left, and-false-left, zeros-next, zeros-fails, zeros-end}
-use Rattle.rows.proofs.Order.{step-less, step-equal, row-order}
+use Rattle.rows.proofs.Order.{word-by-word, shorter-first, row-order}
 
 -- ---- five words
 
@@ -112,25 +112,19 @@ module _ (ws : List ℕ) (at : ℕ) (room : at + 5 ≤ length ws) where
 
 -- the first words are the same, and then they differ
 pub first-differs : (x y : List ℕ) (j : ℕ) → take j x ≡ take j y → j < length x → j < length y → getD x j 0 < getD y j 0 → wordsBefore x y ≡ true
-unfolding wordsBefore
-first-differs [] y j e h k l = absurd (omega arith)
-first-differs (a ∷ x) [] j e h k l = absurd (omega arith)
-first-differs (a ∷ x) (b ∷ y) zero e h k l = step-less a b (wordsBefore x y) l
-first-differs (a ∷ x) (b ∷ y) (suc j) e h k l =
-    let f : a ≡ b = cc in
-    let g : take j x ≡ take j y = cc in
-    step-equal a b (wordsBefore x y) f ∙ first-differs x y j g (omega arith) (omega arith) l
+first-differs x y j e h k l =
+    let a = split-at x j 0 h in
+    let b = split-at y j 0 k in
+    let f = word-by-word (take j x) (getD x j 0) (getD y j 0) (drop (suc j) x) (drop (suc j) y) l in
+    cc
 
 -- or one ends and the other goes on
 first-ends : (x y : List ℕ) (j : ℕ) → take j x ≡ take j y → length x ≤ j → j < length y → wordsBefore x y ≡ true
-unfolding wordsBefore
-first-ends x [] j e h k = absurd (omega arith)
-first-ends [] (b ∷ y) j e h k = refl
-first-ends (a ∷ x) (b ∷ y) zero e h k = absurd (omega arith)
-first-ends (a ∷ x) (b ∷ y) (suc j) e h k =
-    let f : a ≡ b = cc in
-    let g : take j x ≡ take j y = cc in
-    step-equal a b (wordsBefore x y) f ∙ first-ends x y j g (omega arith) (omega arith)
+first-ends x y j e h k =
+    let a = take-all j x h in
+    let b = split-at y j 0 k in
+    let f = shorter-first (take j x) (getD y j 0) (drop (suc j) y) in
+    cc
 
 -- of rows, too
 pub row-differs : (x y : Row) (j : ℕ) → take j x ≡ take j y → j < length x → j < length y → getD x j 0 < getD y j 0 → rowBefore x y ≡ true

@@ -3,7 +3,7 @@ use Prim.Native.Nat.{ℕ, _<_, _≤_}
 use mathlib.Core.Path.{_≡_, refl, sym, _∙_, ap}
 use mathlib.Core.Logic.{_⊎_, inl, inr}
 use mathlib.Core.Bool.{Bool, true, false, _&&_, _||_}
-use mathlib.Core.List.{List, [], _∷_}
+use mathlib.Core.List.{List, [], _∷_, _++_}
 use native.Mathlib.Omega.{arith}
 use lib.Dec.{ltb, eqb}
 use borrow.Author.Tests.{ltb-true, ltb-false, eqb-true, lt-ltb, le-ltb, eq-eqb}
@@ -12,13 +12,13 @@ use Rattle.rows.specs.Row.{rowBefore}
 use Rattle.rows.proofs.Case.{Case, isTrue, isFalse, split, never}
 
 -- first by a number, then by a test: how words are compared
-abbrev pub step : ℕ → ℕ → Bool → Bool
+abbrev step : ℕ → ℕ → Bool → Bool
 step x y q = ltb x y || (eqb x y && q)
 
-pub step-less : (x y : ℕ) (q : Bool) → x < y → step x y q ≡ true
+step-less : (x y : ℕ) (q : Bool) → x < y → step x y q ≡ true
 step-less x y q h = rw (lt-ltb x y h)
 
-pub step-equal : (x y : ℕ) (q : Bool) → x ≡ y → step x y q ≡ q
+step-equal : (x y : ℕ) (q : Bool) → x ≡ y → step x y q ≡ q
 step-equal x y q e = rw (le-ltb x y (omega arith), eq-eqb x y e)
 
 open-step : (x y : ℕ) (q : Bool) → step x y q ≡ true → Case (ltb x y) → Case (eqb x y) → (x < y) ⊎ ((x ≡ y) × (q ≡ true))
@@ -77,6 +77,17 @@ words-total (a ∷ x) (b ∷ y) p q =
 
 pub words-order : StrictTotal wordsBefore
 words-order = record { irreflexive = words-irreflexive; transitive = words-transitive; total = words-total }
+
+-- which of two lists that begin alike comes first: the first word that differs decides, or the shorter comes first
+pub word-by-word : (front : List ℕ) (a b : ℕ) (x y : List ℕ) → a < b → wordsBefore (front ++ (a ∷ x)) (front ++ (b ∷ y)) ≡ true
+unfolding wordsBefore
+word-by-word [] a b x y h = step-less a b (wordsBefore x y) h
+word-by-word (c ∷ front) a b x y h = step-equal c c (wordsBefore (front ++ (a ∷ x)) (front ++ (b ∷ y))) refl ∙ word-by-word front a b x y h
+
+pub shorter-first : (front : List ℕ) (a : ℕ) (x : List ℕ) → wordsBefore front (front ++ (a ∷ x)) ≡ true
+unfolding wordsBefore
+shorter-first [] a x = refl
+shorter-first (b ∷ front) a x = step-equal b b (wordsBefore front (front ++ (a ∷ x))) refl ∙ shorter-first front a x
 
 pub row-order : StrictTotal rowBefore
 unfolding rowBefore

@@ -1,25 +1,15 @@
 -- Rows with the same first atoms stand together in the order of rows.
 use Prim.Native.Nat.{ℕ, _<_}
-use mathlib.Core.Path.{_≡_, refl, _∙_}
+use mathlib.Core.Path.{_≡_, refl}
 use mathlib.Core.Logic.{_⊎_, inl, inr}
 use mathlib.Core.Bool.{Bool, true}
-use mathlib.Core.List.{List, [], _∷_, _++_}
+use mathlib.Core.List.{List, [], _∷_}
 use native.Mathlib.Omega.{arith}
 use Rattle.rows.specs.Ordered.{wordsBefore, ascending}
-use Rattle.rows.specs.Row.{Row, firstKey, rowBefore}
-use Rattle.rows.specs.SideBySide.{Begins, Theorem}
+use Rattle.rows.specs.Row.{Row, rowBefore}
+use Rattle.rows.specs.SideBySide.{Begins, example, Theorem}
 use Rattle.rows.proofs.Case.{never}
-use Rattle.rows.proofs.Order.{step-less, step-equal, step-opens}
-
-atom-by-atom : (front : List ℕ) (a b : ℕ) (x y : List ℕ) → a < b → rowBefore (front ++ (a ∷ x)) (front ++ (b ∷ y)) ≡ true
-unfolding rowBefore wordsBefore
-atom-by-atom [] a b x y h = step-less a b (wordsBefore x y) h
-atom-by-atom (c ∷ front) a b x y h = step-equal c c (wordsBefore (front ++ (a ∷ x)) (front ++ (b ∷ y))) refl ∙ atom-by-atom front a b x y h
-
-shorter-first : (r : Row) (a : ℕ) (x : List ℕ) → rowBefore r (r ++ (a ∷ x)) ≡ true
-unfolding rowBefore wordsBefore
-shorter-first [] a x = refl
-shorter-first (b ∷ r) a x = step-equal b b (wordsBefore r (r ++ (a ∷ x))) refl ∙ shorter-first r a x
+use Rattle.rows.proofs.Order.{step-opens, word-by-word, shorter-first}
 
 -- neither before an atom nor behind it: the same, and the rest decides
 between : (a b : ℕ) (p q : Bool) → (a < b) ⊎ ((a ≡ b) × (p ≡ true)) → (b < a) ⊎ ((b ≡ a) × (q ≡ true)) → (a ≡ b) × (p ≡ true) × (q ≡ true)
@@ -42,9 +32,10 @@ together (a ∷ front) (b ∷ x) (d ∷ y) (c ∷ z) e f p q =
     let l = together front x y z g h (m .1) (m .2) in
     cc
 
-shown : ascending rowBefore ((7 ∷ []) ∷ (7 ∷ 1 ∷ []) ∷ (7 ∷ 1 ∷ 2 ∷ []) ∷ (8 ∷ []) ∷ (firstKey ∷ []) ∷ []) ≡ true
+shown : ascending rowBefore example ≡ true
 unfolding rowBefore wordsBefore ascending
 shown = refl
 
 pub holds : Theorem
-holds = record { atom-by-atom = atom-by-atom; shorter-first = shorter-first; together = together; shown = shown }
+unfolding rowBefore
+holds = record { atom-by-atom = word-by-word; shorter-first = shorter-first; together = together; shown = shown }
