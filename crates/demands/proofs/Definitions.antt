@@ -28,7 +28,7 @@ use Rattle.policy.proofs.Judging.{Accepted, none, one, entry-words}
 use Rattle.meaning.specs.Evidence.{Evidence}
 use Rattle.meaning.specs.Reading.{Result, done, refused, read}
 use Rattle.meaning.specs.World.{World}
-use Rattle.meaning.specs.Belonging.{Meanings, Belongs, meanings}
+use Rattle.meaning.specs.Belonging.{Meanings, Belongs, meaningsBy, meanings}
 use Rattle.meaning.specs.Faithful.{Tidy, ProperNames, TidySets, Shows, Agree}
 use Rattle.meaning.specs.Monotone.{Below, Along, Ways}
 use Rattle.meaning.specs.Closed.{IsFinite, FiniteNames, FiniteSets}
@@ -82,7 +82,7 @@ ways-snoc (l ∷ ks) (x ∷ D) (y ∷ E) m n w k P Q a (suc d) r = ways-snoc ks 
 -- from world to world, through the definitions
 pub ways : (W U : World) → Below W U → {policy : List ℕ} {xs : List Entry} {ks ls : List Known} {es : List Expr} → Accepted policy xs ks es ls →
     (D E : Meanings) → length ks ≡ length D → length ks ≡ length E → Ways ks D E → Ways ls (meanings W es D) (meanings U es E)
-unfolding meanings
+unfolding meaningsBy
 ways W U b none D E m n w = w
 ways W U b (one {x = x} {ks = ks} {e = e} a rest) D E m n w =
     ways W U b rest (D ++ (Belongs W D e [] ∷ [])) (E ++ (Belongs U E e [] ∷ []))
@@ -106,7 +106,7 @@ end-reached v w j S (refused n) e = let z : _≡_ {A = ℕ} 0 1 = cc in absurd (
 module _ (names : Evidence) (W : World) (shows : Shows names W) (proper : ProperNames names) (policy : List ℕ) (words : Words policy) (q : Expr) (v : Verdict) where
   pub reached : {xs : List Entry} {ks ls : List Known} {es : List Expr} → Accepted policy xs ks es ls → (sets : List RowSet) (D : Meanings) (k : ℕ) → length sets ≡ length D →
       Agree sets D → TidySets sets → (w : Verdict) (j : ℕ) (S : RowSet) → readFrom names es q v sets k ≡ answered w j S → Reached names (meanings W es D) q S j
-  unfolding readFrom meanings
+  unfolding readFrom meaningsBy
   reached none sets D k m g t w j S h =
       record { sets = sets; draws = k; last = end-reached v w j S (read names sets q [] k) h; agree = g; tidy = t }
   reached (one {x = x} {ks = ks} {e = e} {es = es} a rest) sets D k m g t w j S h =

@@ -40,6 +40,10 @@ give-steady a k k′ j j′ b b′ e e′ = sym (done-value e) ∙ done-value e�
 pub small-steady : (s : RowSet) → Steady (small s)
 small-steady s k k′ j j′ a a′ e e′ = sym (small-done s a k j e .value) ∙ small-done s a′ k′ j′ e′ .value
 
+pub either-steady : {A : Type 0} (b : Bool) (m n : Reading A) → Steady m → Steady n → Steady (either b m n)
+either-steady true m n s t = s
+either-steady false m n s t = t
+
 pub give-not : {A : Type 0} (a : A) → Not12 (λ k. done a k)
 give-not a k e = not-refused e
 

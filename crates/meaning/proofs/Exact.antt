@@ -18,7 +18,7 @@ use Rattle.meaning.specs.Evidence.{Evidence}
 use Rattle.meaning.specs.Reading.{done, Reading, after, within, drawable, tick, match, onMatch, drawEach, read, gather}
 use Rattle.meaning.specs.Exact.{Steady, ReadAlike, Theorem}
 use Rattle.meaning.proofs.Steps.{after-done, after-same, either, within-done, drawable-done}
-use Rattle.meaning.proofs.Claims.{give-steady, small-steady}
+use Rattle.meaning.proofs.Claims.{give-steady, small-steady, either-steady}
 use Rattle.meaning.proofs.Leaf.{leaf-same, leaf-steady}
 
 -- two ways to read the guards that follow, the same on every row
@@ -82,10 +82,6 @@ after-steady m f s t k k′ j j′ b b′ e e′ =
     let x′ = after-done (m k′) f b′ j′ e′ in
     let v : x .value ≡ x′ .value = s k k′ (x .draws) (x′ .draws) (x .value) (x′ .value) (x .first) (x′ .first) in
     t (x′ .value) (x .draws) (x′ .draws) j j′ b b′ (subst (λ a. f a (x .draws) ≡ done b j) v (x .rest)) (x′ .rest)
-
-either-steady : {A : Type 0} (b : Bool) (m n : Reading A) → Steady m → Steady n → Steady (either b m n)
-either-steady true m n s t = s
-either-steady false m n s t = t
 
 within-steady : (xs : List Row) → Steady (within xs)
 within-steady xs k k′ j j′ a a′ e e′ = sym (within-done xs a k j e .value) ∙ within-done xs a′ k′ j′ e′ .value

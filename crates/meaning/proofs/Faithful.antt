@@ -25,7 +25,7 @@ use Rattle.meaning.specs.Values.{Values, value, rowOf}
 use Rattle.meaning.specs.Evidence.{Evidence}
 use Rattle.meaning.specs.Reading.{done, Reading, drawable, tick, match, onMatch, drawEach, read, gather}
 use Rattle.meaning.specs.World.{World}
-use Rattle.meaning.specs.Belonging.{fill, Matches, Meanings, Belongs, Passes}
+use Rattle.meaning.specs.Belonging.{fill, Matches, Meanings, BelongsBy, Belongs, PassesBy, Passes}
 use Rattle.meaning.specs.Faithful.{Tidy, ProperNames, TidySets, Shows, Agree, WheneverRead, JustThose, Theorem}
 use Rattle.meaning.proofs.Steps.{done-value, after-done, either, small-done, within-done, drawable-done}
 use Rattle.meaning.proofs.Rows.{row-of-terms, match-words}
@@ -148,7 +148,7 @@ module _ (names : Evidence) (W : World) (shows : Shows names W) (properNames : P
   -- what a draw finds is what passes
   drawn-iff : (e : Expr) (p : List Slot) (rest : Body) (vs : Values) (xs : List Row) → All IsRow xs → JustThose W D e vs (only xs) → (r : Row) →
       Drawn (Passes W D rest) p vs xs r ↔ Passes W D (draw e p rest) vs r
-  unfolding Passes
+  unfolding PassesBy
   drawn-iff e p rest vs xs rows h r = (to, from)
     where
       to : Drawn (Passes W D rest) p vs xs r → Passes W D (draw e p rest) vs r
@@ -162,10 +162,10 @@ module _ (names : Evidence) (W : World) (shows : Shows names W) (properNames : P
           (x, vs ++ own, only-iff xs x .0 (h x isRow .1 i), subst (λ (y : Row). match p vs y ≡ some (vs ++ own)) (sym (m .filled)) (bound-match p vs own (m .enough)), t)
 
   mutual
-    unfolding read Belongs Fit exprWords bodyWords All
+    unfolding read BelongsBy Fit exprWords bodyWords All
 
     pub read-rows : (e : Expr) → WheneverRead names sets e (JustThose W D e)
-    read-rows (leaf x) m n f t vs w k s j q r i = leaf-rows names W shows sets D agree x vs k s j q r i
+    read-rows (leaf x) m n f t vs w k s j q r i = leaf-rows names W shows sets D agree x m n f t vs w k s j q r i
     read-rows (union a b) m n f t vs w k s j q r i =
         let x = after-done (read names sets a vs k) _ s j q in
         let y = after-done (read names sets b vs (x .draws)) _ s j (x .rest) in

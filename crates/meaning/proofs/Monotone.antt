@@ -9,7 +9,7 @@ use Rattle.policy.specs.Syntax.{Slot, Expr, leaf, union, difference, comprehens
 use Rattle.policy.specs.Polarity.{Known, hasPolarity, guardsHave}
 use Rattle.meaning.specs.Values.{Values, rowOf}
 use Rattle.meaning.specs.World.{World}
-use Rattle.meaning.specs.Belonging.{Meanings, Belongs, Passes}
+use Rattle.meaning.specs.Belonging.{Meanings, BelongsBy, Belongs, PassesBy, Passes}
 use Rattle.meaning.specs.Monotone.{Below, Along, Ways, Follows, Theorem}
 use Rattle.meaning.proofs.Claims.{along-same}
 use Rattle.meaning.proofs.Leaf.{leaf-along}
@@ -30,12 +30,12 @@ module _ (W U : World) (below : Below W U) (ks : List Known) (D E : Meanings) (k
   along-draw : (p : Polarity) (e : Expr) (s : List Slot) (rest : Body) (vs : Values) (r : Row) →
       ((x : Row) → Along p (Belongs W D e vs x) (Belongs U E e vs x)) → ((ws : Values) → Along p (Passes W D rest ws r) (Passes U E rest ws r)) →
       Along p (Passes W D (draw e s rest) vs r) (Passes U E (draw e s rest) vs r)
-  unfolding Passes
+  unfolding PassesBy
   along-draw plus e s rest vs r f g = record { go = λ (own, (x, i, m, b), t). (own, (x, i, m, f x .go b), g (vs ++ own) .go t) }
   along-draw minus e s rest vs r f g = record { go = λ (own, (x, i, m, b), t). (own, (x, i, m, f x .go b), g (vs ++ own) .go t) }
 
   mutual
-    unfolding hasPolarity Belongs
+    unfolding hasPolarity BelongsBy
 
     pub monotone : (e : Expr) → Follows W U ks D E e
     monotone (leaf x) p t vs r = leaf-along W U below ks D E known x p t vs r

@@ -22,7 +22,7 @@ word-at [] w i = lit< tt
 word-at (v ∷ vs) w zero = w .0
 word-at (v ∷ vs) w (suc i) = word-at vs (w .1) i
 
-value-word : (vs : Values) → Words vs → (t : Term) → Words (termWords t) → IsWord (value vs t)
+pub value-word : (vs : Values) → Words vs → (t : Term) → Words (termWords t) → IsWord (value vs t)
 unfolding value termWords All
 value-word vs w (atom a) t = t .1 .0
 value-word vs w (var i) t = word-at vs w i

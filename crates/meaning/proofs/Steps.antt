@@ -65,6 +65,10 @@ after-same m n f g e h = ap (λ (l : Result _). after l f) e ∙ go n
 abbrev pub either : {A : Type 0} → Bool → Reading A → Reading A → Reading A
 either b m n = elim b as (λ c. Reading _) [ true ↦ m | false ↦ n ]
 
+pub either-done : {A : Type 0} (P : A → Type 0) (b : Bool) (m n : Reading A) {k j : ℕ} {a : A} → (m k ≡ done a j → P a) → (n k ≡ done a j → P a) → either b m n k ≡ done a j → P a
+either-done P true m n f g e = f e
+either-done P false m n f g e = g e
+
 -- a value that is done is small, and is the one given
 pub record Small (s : RowSet) (k : ℕ) (t : RowSet) (j : ℕ) : Type 0 where
   pub value : s ≡ t

@@ -9,7 +9,7 @@ use lib.ListN.{length, getD}
 use Rattle.rows.specs.Ordered.{_∈_}
 use Rattle.rows.specs.Row.{Row, IsRow, isKey}
 use Rattle.rows.specs.Name.{Polarity, plus, minus}
-use Rattle.policy.specs.Leaf.{Leaf, finite, cofinite, definition, listed}
+use Rattle.policy.specs.Leaf.{Leaf, finite, cofinite, definition, listed, vetted}
 use Rattle.policy.specs.Syntax.{Slot, old, new, Expr, leaf, union, difference, comprehension, Body, head, draw, same, different, absent}
 use Rattle.policy.specs.Words.{fresh}
 use Rattle.meaning.specs.Values.{Values, value, rowOf}
@@ -19,6 +19,10 @@ use Rattle.meaning.specs.World.{World}
 unfoldable pub InList : World → ℕ → ℕ → Polarity → Row → Type 0
 InList W k n plus r = T (isKey k) × (r ∈ W .finiteList k n)
 InList W k n minus r = T (isKey k) → W .anyList k n r
+
+-- the rows that each key, name and polarity is read as; a world's lists are one such reading
+abbrev pub Lists : Type 1
+Lists = ℕ → ℕ → Polarity → Row → Type 0
 
 -- the pattern with values for its new variables: the row that it then matches
 unfoldable pub fill : List Slot → Values → List ℕ → Row
@@ -37,39 +41,51 @@ pub record Matches (p : List Slot) (vs : Values) (own : List ℕ) (x : Row) : Ty
 abbrev pub Meanings : Type 1
 Meanings = List (Row → Type 0)
 
-module _ (W : World) (defs : Meanings) where
+module _ (lists : Lists) (defs : Meanings) where
   unfoldable pub BelongsLeaf : Leaf → Values → Row → Type 0
-  unfolding InList rowOf value
+  unfolding rowOf value
   BelongsLeaf (finite rs) vs r = r ∈ map (rowOf vs) rs
   BelongsLeaf (cofinite rs) vs r = ¬ (r ∈ map (rowOf vs) rs)
   BelongsLeaf (definition d) vs r = getD defs d (λ x. ⊥) r
-  BelongsLeaf (listed t n p) vs r = InList W (value vs t) n p r
+  BelongsLeaf (listed t n p) vs r = lists (value vs t) n p r
+  -- document 02, N2: "that key's list if the one-atom row of the issuer is absent from that definition, and no rows otherwise"
+  BelongsLeaf (vetted t n d) vs r = (¬ getD defs d (λ x. ⊥) (value vs t ∷ [])) × lists (value vs t) n plus r
 
   unfoldable mutual
     unfolding BelongsLeaf rowOf value
 
-    pub Belongs : Expr → Values → Row → Type 0
-    Belongs (leaf x) vs r = BelongsLeaf x vs r
-    Belongs (union a b) vs r = Belongs a vs r ⊎ Belongs b vs r
-    Belongs (difference a b) vs r = Belongs a vs r × (¬ Belongs b vs r)
-    Belongs (comprehension b) vs r = Passes b vs r
+    pub BelongsBy : Expr → Values → Row → Type 0
+    BelongsBy (leaf x) vs r = BelongsLeaf x vs r
+    BelongsBy (union a b) vs r = BelongsBy a vs r ⊎ BelongsBy b vs r
+    BelongsBy (difference a b) vs r = BelongsBy a vs r × (¬ BelongsBy b vs r)
+    BelongsBy (comprehension b) vs r = PassesBy b vs r
 
     -- "some values of the comprehension's own variables pass every guard and make the head this row": guard by guard, the values of the
     -- variables that a draw brings stand with that draw
-    pub Passes : Body → Values → Row → Type 0
-    Passes (head h) vs r = r ≡ rowOf vs h
-    Passes (draw e p rest) vs r = (own : List ℕ) × ((x : Row) × IsRow x × Matches p vs own x × Belongs e vs x) × Passes rest (vs ++ own) r
-    Passes (same x y rest) vs r = (value vs x ≡ value vs y) × Passes rest vs r
-    Passes (different x y rest) vs r = (¬ (value vs x ≡ value vs y)) × Passes rest vs r
-    Passes (absent h e rest) vs r = (¬ Belongs e vs (rowOf vs h)) × Passes rest vs r
+    pub PassesBy : Body → Values → Row → Type 0
+    PassesBy (head h) vs r = r ≡ rowOf vs h
+    PassesBy (draw e p rest) vs r = (own : List ℕ) × ((x : Row) × IsRow x × Matches p vs own x × BelongsBy e vs x) × PassesBy rest (vs ++ own) r
+    PassesBy (same x y rest) vs r = (value vs x ≡ value vs y) × PassesBy rest vs r
+    PassesBy (different x y rest) vs r = (¬ (value vs x ≡ value vs y)) × PassesBy rest vs r
+    PassesBy (absent h e rest) vs r = (¬ BelongsBy e vs (rowOf vs h)) × PassesBy rest vs r
+
+-- in a world, its own lists are read
+abbrev pub Belongs : World → Meanings → Expr → Values → Row → Type 0
+Belongs W = BelongsBy (InList W)
+
+abbrev pub Passes : World → Meanings → Body → Values → Row → Type 0
+Passes W = PassesBy (InList W)
 
 -- "it belongs to that definition's expression, with no variables": each definition in terms of those before it
-unfoldable pub meanings : World → List Expr → Meanings → Meanings
-unfolding Belongs
-meanings W [] defs = defs
-meanings W (e ∷ es) defs = meanings W es (defs ++ (Belongs W defs e [] ∷ []))
+unfoldable pub meaningsBy : Lists → List Expr → Meanings → Meanings
+unfolding BelongsBy
+meaningsBy lists [] defs = defs
+meaningsBy lists (e ∷ es) defs = meaningsBy lists es (defs ++ (BelongsBy lists defs e [] ∷ []))
+
+abbrev pub meanings : World → List Expr → Meanings → Meanings
+meanings W = meaningsBy (InList W)
 
 -- "A query starts with no variables."
 unfoldable pub BelongsTo : World → List Expr → Expr → Row → Type 0
-unfolding meanings Belongs
+unfolding meaningsBy BelongsBy InList
 BelongsTo W es q r = Belongs W (meanings W es []) q [] r

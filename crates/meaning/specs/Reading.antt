@@ -8,8 +8,9 @@ use lib.ListN.{length, getD}
 use Rattle.refusals.specs.RefusalTable.{complementDrawn, tooManyRows, tooManyDraws}
 use Rattle.rows.specs.Ordered.{insert}
 use Rattle.rows.specs.Row.{Row, rowBefore}
+use Rattle.rows.specs.Name.{plus}
 use Rattle.rows.specs.Sets.{RowSet, only, allBut, listing, mostRows, has, unite, subtract}
-use Rattle.policy.specs.Leaf.{Leaf, finite, cofinite, definition, listed}
+use Rattle.policy.specs.Leaf.{Leaf, finite, cofinite, definition, listed, vetted}
 use Rattle.policy.specs.Syntax.{Term, Slot, old, new, Expr, leaf, union, difference, comprehension, Body, head, draw, same, different, absent}
 use Rattle.meaning.specs.Values.{Values, value, rowOf}
 use Rattle.meaning.specs.Evidence.{Evidence}
@@ -89,11 +90,13 @@ drawEach rest p vs (x ∷ xs) found = do
 -- `names` is the evidence, `sets` are the sets read for the earlier definitions
 module _ (names : Evidence) (sets : List RowSet) where
   unfoldable pub readLeaf : Leaf → Values → Reading RowSet
-  unfolding rowsOf value small
+  unfolding rowsOf value small has
   readLeaf (finite rs) vs = small (only (rowsOf vs rs))
   readLeaf (cofinite rs) vs = small (allBut (rowsOf vs rs))
   readLeaf (definition d) vs = give (getD sets d (only []))
   readLeaf (listed t n p) vs = small (names (value vs t) n p)
+  -- document 02, N2: "that key's list if the one-atom row of the issuer is absent from that definition, and no rows otherwise"
+  readLeaf (vetted t n d) vs = elim (has (getD sets d (only [])) (value vs t ∷ [])) [ true ↦ give (only []) | false ↦ small (names (value vs t) n plus) ]
 
   unfoldable mutual
     unfolding readLeaf rowOf value small within drawable after drawEach has unite subtract insert rowBefore

@@ -13,6 +13,7 @@ table = record {
   guards = (refl, refl);
   issuers = (refl, refl, refl, refl);
   definitions = (refl, refl);
+  vetted = (refl, refl, refl, refl, refl, refl);
   leftOver = refl;
   noneAtFirst = (refl, refl);
   earlierInPattern = (refl, refl);

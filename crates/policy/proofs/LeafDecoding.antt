@@ -4,12 +4,12 @@ use mathlib.Core.Path.{_≡_, refl}
 use mathlib.Core.Bool.{false, _&&_}
 use mathlib.Core.List.{List}
 use native.Mathlib.Omega.{arith}
-use lib.Dec.{T, leb, ltb, ltb→lt, lt→ltb}
+use lib.Dec.{T, leb, ltb, eqb, ltb→lt, lt→ltb}
 use borrow.Author.Tests.{le-leb, lt-leb, leb-true}
 use Rattle.refusals.specs.RefusalTable.{badWord, notInScope}
-use Rattle.rows.specs.Name.{isName}
-use Rattle.rows.proofs.Case.{Case, isTrue, isFalse, split, iff-refl, never}
-use Rattle.policy.specs.Leaf.{Leaf, finite, cofinite, definition, listed, leafCode, leafRest, FitLeaf, LeafCode, isFinite, isCofinite, isDefinition, isListed, noLeaf, leafOf, lastCode, someLeaf, leafAs}
+use Rattle.rows.specs.Name.{isName, polarityWord}
+use Rattle.rows.proofs.Case.{Case, isTrue, isFalse, split, T-eqb, iff-refl, never}
+use Rattle.policy.specs.Leaf.{Leaf, finite, cofinite, definition, listed, vetted, leafCode, leafRest, FitLeaf, LeafCode, isFinite, isCofinite, isDefinition, isListed, isVetted, noLeaf, leafOf, lastCode, someLeaf, leafAs}
 use Rattle.policy.specs.Syntax.{Expr}
 use Rattle.policy.specs.Decode.{refused, Reader, wordWhere, Code, isLeaf, isUnion, isDifference, isComprehension, codeOf, isNode, someCode, isCode, exprAs}
 use Rattle.policy.proofs.Basics.{impossible}
@@ -26,8 +26,11 @@ name-reads = where-reads badWord isName (λ m. iff-refl)
 definition-reads : (known : ℕ) → Reads (wordWhere notInScope (λ d. ltb d known)) (oneWord (λ d. d < known))
 definition-reads known = where-reads notInScope (λ d. ltb d known) (λ d. (ltb→lt d known, lt→ltb d known))
 
+plus-reads : Reads (wordWhere badWord (λ w. eqb w 0)) (oneWord (λ w. w ≡ 0))
+plus-reads = where-reads badWord (λ w. eqb w 0) (λ w. T-eqb w 0)
+
 pub leafAs-reads : (known n w : ℕ) → Reads (leafAs known n (leafOf w)) (leavesOf known n w)
-unfolding leafAs leafOf leafCode leafRest FitLeaf
+unfolding leafAs leafOf leafCode leafRest FitLeaf polarityWord
 leafAs-reads known n w = record { takes = taking w; returns = λ x g. rw (g .1) at (returning x (g .0)) }
   where
     taking : (w : ℕ) → Takes (leafAs known n (leafOf w)) (Made (leavesOf known n w))
@@ -36,13 +39,21 @@ leafAs-reads known n w = record { takes = taking w; returns = λ x g. rw (g .1) 
     taking (suc (suc zero)) = last-takes cofinite (rows-reads n) (λ rs g. made (g, refl))
     taking (suc (suc (suc zero))) = last-takes definition (definition-reads known) (λ d g. made (g, refl))
     taking (suc (suc (suc (suc zero)))) = then-takes (issuer-reads n) (λ t f. then-takes name-reads (λ m g. last-takes (listed t m) polarity-reads (λ p h. made ((f, g), refl))))
-    taking (suc (suc (suc (suc (suc w))))) = refuse-takes badWord
+    taking (suc (suc (suc (suc (suc zero))))) = refuse-takes badWord
+    taking (suc (suc (suc (suc (suc (suc zero)))))) = refuse-takes badWord
+    taking (suc (suc (suc (suc (suc (suc (suc zero))))))) = refuse-takes badWord
+    taking (suc (suc (suc (suc (suc (suc (suc (suc zero)))))))) =
+        then-takes (issuer-reads n) (λ t f. then-takes name-reads (λ m g. then-takes plus-reads (λ w e.
+        last-takes (vetted t m) (definition-reads known) (λ d h. rw e (made ((f, g, h), refl))))))
+    taking (suc (suc (suc (suc (suc (suc (suc (suc (suc w))))))))) = refuse-takes badWord
 
     returning : (x : Leaf) → FitLeaf known n x → Returns (leafAs known n (leafOf (leafCode x))) x (leafRest x) 0
     returning (finite rs) f = last-returns finite (rows-reads n) rs f
     returning (cofinite rs) f = last-returns cofinite (rows-reads n) rs f
     returning (definition d) f = last-returns definition (definition-reads known) d f
     returning (listed t m p) f = then-returns _ (issuer-reads n) t (f .0) (then-returns _ name-reads m (f .1) (last-returns (listed t m) polarity-reads p tt))
+    returning (vetted t m d) f =
+        then-returns _ (issuer-reads n) t (f .0) (then-returns _ name-reads m (f .1) (then-returns _ plus-reads 0 refl (last-returns (vetted t m) (definition-reads known) d (f .2))))
 
 -- a leaf's code is no node's
 pub leaf-coded : (x : Leaf) → codeOf (leafCode x) ≡ isLeaf (leafOf (leafCode x))
@@ -51,6 +62,7 @@ leaf-coded (finite rs) = refl
 leaf-coded (cofinite rs) = refl
 leaf-coded (definition d) = refl
 leaf-coded (listed t m p) = refl
+leaf-coded (vetted t m d) = refl
 
 -- a code that is no node's is a leaf's, or none
 pub no-node : (c : ℕ) → isNode c ≡ false → codeOf c ≡ isLeaf (leafOf c)
@@ -88,7 +100,8 @@ code-bounds (suc (suc (suc (suc zero)))) = refl
 code-bounds (suc (suc (suc (suc (suc zero))))) = refl
 code-bounds (suc (suc (suc (suc (suc (suc zero)))))) = refl
 code-bounds (suc (suc (suc (suc (suc (suc (suc zero))))))) = refl
-code-bounds (suc (suc (suc (suc (suc (suc (suc (suc c)))))))) = past-last (suc (suc (suc (suc (suc (suc (suc (suc c)))))))) (omega arith)
+code-bounds (suc (suc (suc (suc (suc (suc (suc (suc zero)))))))) = refl
+code-bounds (suc (suc (suc (suc (suc (suc (suc (suc (suc c))))))))) = past-last (suc (suc (suc (suc (suc (suc (suc (suc (suc c))))))))) (omega arith)
 
 -- any other is refused
 module _ (known n : ℕ) (us : List ℕ) (k : ℕ) where
@@ -98,6 +111,7 @@ module _ (known n : ℕ) (us : List ℕ) (k : ℕ) where
   no-leaf isCofinite e = impossible cc
   no-leaf isDefinition e = impossible cc
   no-leaf isListed e = impossible cc
+  no-leaf isVetted e = impossible cc
   no-leaf noLeaf e = refl
 
   pub no-code : (inner : ℕ → Reader Expr) (c : Code) → someCode c ≡ false → exprAs known inner n c us k ≡ refused badWord

@@ -40,10 +40,10 @@ pub record AllHold : Type 0 where
       × Decodes (1 ∷ []) badWord
       × Decodes (1 ∷ 1 ∷ 1 ∷ 0 ∷ []) badWord
       × Decodes (5 ∷ 1 ∷ 0 ∷ []) badWord
-  -- a code is 1 to 7
+  -- a code is 1 to 8
   pub codes :
       Decodes (0 ∷ []) badWord
-      × Decodes (8 ∷ []) badWord
+      × Decodes (9 ∷ []) badWord
   -- at most 128 rows, at most 8 guards
   pub counts :
       Decodes (1 ∷ 128 ∷ again 128 (1 ∷ 0 ∷ 5 ∷ []) []) 0
@@ -75,6 +75,14 @@ pub record AllHold : Type 0 where
   pub definitions :
       Decodes (3 ∷ 1 ∷ []) 0
       × Decodes (3 ∷ 2 ∷ []) notInScope
+  -- code 8: an issuer and a name as in code 4, then polarity +, then one of the two definitions
+  pub vetted :
+      Decodes (8 ∷ 0 ∷ 2147483648 ∷ 65535 ∷ 0 ∷ 1 ∷ []) 0
+      × Decodes (8 ∷ 0 ∷ 2147483647 ∷ 65535 ∷ 0 ∷ 1 ∷ []) badWord
+      × Decodes (8 ∷ 0 ∷ 2147483648 ∷ 65536 ∷ 0 ∷ 1 ∷ []) badWord
+      × Decodes (8 ∷ 0 ∷ 2147483648 ∷ 65535 ∷ 1 ∷ 2 ∷ []) badWord
+      × Decodes (8 ∷ 0 ∷ 2147483648 ∷ 65535 ∷ 0 ∷ 2 ∷ []) notInScope
+      × Decodes (8 ∷ 0 ∷ 2147483648 ∷ 65535 ∷ 0 ∷ []) badWord
   -- words left over
   pub leftOver :
       Decodes (3 ∷ 1 ∷ 0 ∷ []) badWord

@@ -3,7 +3,7 @@
 ghost use mathlib.Core.Path.{_≡_};
 ghost use Rattle.policy.specs.Decode.{isNode};
 
-// The codes of expressions. 1 to 4 are those of the leaves, which hold no other expression.
+// The codes of expressions. 1 to 4 and 8 are those of the leaves, which hold no other expression.
 pub const CODE_FINITE: u32 = 1;
 
 pub const CODE_COFINITE: u32 = 2;
@@ -18,7 +18,9 @@ pub const CODE_DIFFERENCE: u32 = 6;
 
 pub const CODE_COMPREHENSION: u32 = 7;
 
-pub const LAST_CODE: u32 = CODE_COMPREHENSION;
+pub const CODE_VETTED: u32 = 8;
+
+pub const LAST_CODE: u32 = CODE_VETTED;
 
 pub const GUARD_DRAW: u32 = 1;
 

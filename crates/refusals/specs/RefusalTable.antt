@@ -58,6 +58,10 @@ tooManyRows = 13
 abbrev pub tooManyDraws : ℕ
 tooManyDraws = 14
 
+-- 15 (document 02, N2): an external rule is broken or the output would pass 8,192 words
+abbrev pub notExternal : ℕ
+notExternal = 15
+
 -- With a query's refusal comes its part: 0 to 15 a definition, 16 the query, 17 neither.
 abbrev pub queryPart : ℕ
 queryPart = 16

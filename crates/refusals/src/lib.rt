@@ -27,6 +27,8 @@ pub const TOO_MANY_ROWS: u32 = 13;
 
 pub const TOO_MANY_DRAWS: u32 = 14;
 
+pub const NOT_EXTERNAL: u32 = 15;
+
 // The parts that are no definition.
 pub const QUERY_PART: u32 = 16;
 
