@@ -14,14 +14,14 @@ use Rattle.policy.specs.Words.{fresh}
 use Rattle.meaning.specs.Values.{Values}
 use Rattle.meaning.specs.Reading.{Result, done, refused, drawable, drawEach, read}
 use Rattle.read_values.specs.Values.{Bound, Unchanged}
-use Rattle.read_values.specs.Places.{StandsPattern, StandsBody, SomeExpr, SomePattern, PastExpr, PastPattern}
+use Rattle.policy_places.specs.Places.{StandsPattern, StandsBody, SomeExpr, SomePattern, PastExpr, PastPattern}
 use Rattle.read_values.specs.Answers.{Filled, IfDone}
 use Rattle.read_values.specs.From.{From}
 use Rattle.read_steps.specs.Areas.{Gathering, Kept}
 use Rattle.read_steps.specs.Steps.{rowsReadIs, SayDrawn}
 use Rattle.read_expressions.specs.Readers.{gathering, MeansBody, MeansEach, AskExpr, AskBody, AskDraw, AskEach, SayExpr, SayBody, SayDraw, SayEach}
-use Rattle.read_values.proofs.Places.{expr-some, inside, slots-scope}
-use Rattle.read_values.proofs.Past.{pattern-here, rest-is, rest-here}
+use Rattle.policy_places.proofs.Places.{expr-some, inside, slots-scope}
+use Rattle.policy_places.proofs.Past.{pattern-here, rest-is, rest-here}
 use Rattle.read_values.proofs.Lent.{unchanged-self, unchanged-then, unchanged-less, bound-after}
 use Rattle.sets.proofs.Front.{SameFront, rows-same}
 use Rattle.read_steps.proofs.Areas.{filled-same, gathering-same, finite-set, kept-self, kept-less, kept-then, kept-part, givenBack, back-kept, part-length}

@@ -16,7 +16,7 @@ use Rattle.policy.specs.Syntax.{Expr, leaf, union, difference, comprehension}
 use Rattle.meaning.specs.Values.{Values, rowOf}
 use Rattle.meaning.specs.Reading.{Result, done, refused, Reading, after, small, read}
 use Rattle.read_values.specs.Values.{Unchanged}
-use Rattle.read_values.specs.Places.{Stands, SomeRow, SomeExpr, PastExpr}
+use Rattle.policy_places.specs.Places.{Stands, SomeRow, SomeExpr, PastExpr}
 use Rattle.read_values.specs.Answers.{Filled, Empty, setReadIs, testedIs, IfDone}
 use Rattle.read_values.specs.From.{From}
 use Rattle.read_steps.specs.Areas.{Gathering}
@@ -24,8 +24,8 @@ use Rattle.read_steps.specs.Steps.{rowsReadIs, combined, SayCombined, SayHas}
 use Rattle.read_leaves.specs.Leaves.{AskLeaf, SayLeaf, SayLeafHas}
 use Rattle.read_expressions.specs.Room.{roomOf}
 use Rattle.read_expressions.specs.Readers.{reading, gathering, Means, AskExpr, AskHas, AskTwo, AskBody, SayExpr, SayExprHas, SayTwo, SayBody}
-use Rattle.read_values.proofs.Places.{on-leaf, on-union, on-difference, on-comprehension, in-leaf, in-union, in-difference, in-comprehension, expr-some}
-use Rattle.read_values.proofs.Past.{right-here}
+use Rattle.policy_places.proofs.Places.{on-leaf, on-union, on-difference, on-comprehension, in-leaf, in-union, in-difference, in-comprehension, expr-some}
+use Rattle.policy_places.proofs.Past.{right-here}
 use Rattle.read_values.proofs.Lent.{unchanged-self, unchanged-then, bound-after}
 use Rattle.sets.proofs.Front.{SameFront, set-same}
 use Rattle.read_steps.proofs.Areas.{filled-same, finite-set, givenBack, back-part, back-front, part-length}

@@ -19,16 +19,16 @@ use Rattle.meaning.specs.Values.{Values, value, rowOf}
 use Rattle.meaning.specs.Reading.{Result, done, refused, Reading, after, read}
 use Rattle.meaning.proofs.Steps.{either}
 use Rattle.read_values.specs.Values.{Unchanged, passing}
-use Rattle.read_values.specs.Places.{StandsBody, StandsAbsent, SomeRow, SomeExpr, SomeGuard, PastRow, PastExpr, IsGuard}
+use Rattle.policy_places.specs.Places.{StandsBody, StandsAbsent, SomeRow, SomeExpr, SomeGuard, PastRow, PastExpr, IsGuard}
 use Rattle.read_values.specs.Answers.{Filled, testedIs, IfDone}
 use Rattle.read_values.specs.From.{From}
 use Rattle.read_steps.specs.Areas.{Gathering, Kept}
 use Rattle.read_steps.specs.Steps.{rowsReadIs, SayHead}
 use Rattle.read_expressions.specs.Room.{roomOf, bodyRoom}
 use Rattle.read_expressions.specs.Readers.{reading, gathering, Means, MeansBody, AskHas, AskBody, AskDraw, AskAbsent, SayExpr, SayExprHas, SayBody, SayDraw, SayAbsent}
-use Rattle.read_values.proofs.Places.{on-head, on-draw, on-same, on-different, on-absent, in-head, in-draw, in-same, in-different, in-absent, expr-some, inside, row-length}
+use Rattle.policy_places.proofs.Places.{on-head, on-draw, on-same, on-different, on-absent, in-head, in-draw, in-same, in-different, in-absent, expr-some, inside, row-length}
 use Rattle.read_values.proofs.Held.{same-passes, different-passes}
-use Rattle.read_values.proofs.Past.{operand-here, over-is, over-here}
+use Rattle.policy_places.proofs.Past.{operand-here, over-is, over-here}
 use Rattle.read_values.proofs.Lent.{unchanged-self, unchanged-then, bound-after}
 use Rattle.sets.proofs.Front.{SameFront, rows-same}
 use Rattle.read_steps.proofs.Areas.{gathering-same, kept-self, kept-then, givenBack, back-length, back-part, back-front, back-kept, part-length}

@@ -9,7 +9,7 @@ use Rattle.policy.specs.Words.{exprWords}
 use Rattle.policy.specs.WellFormed.{depth, bodyDepth, drawCount, bodyDraws}
 use Rattle.policy.specs.Parse.{parse, parsed}
 use Rattle.policy.proofs.Decoding.{parse-words, parse-fits}
-use Rattle.read_values.specs.Places.{Stands}
+use Rattle.policy_places.specs.Places.{Stands}
 use Rattle.read_values.specs.From.{From}
 use Rattle.read_expressions.specs.Room.{roomOf, bodyRoom, Theorem}
 use Rattle.read_expressions.specs.Readers.{AskExpr, SayExpr, AskWhole, SayWhole}

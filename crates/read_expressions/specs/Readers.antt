@@ -14,7 +14,7 @@ use Rattle.policy.specs.Parse.{parse, parsed}
 use Rattle.meaning.specs.Values.{Values, rowOf}
 use Rattle.meaning.specs.Reading.{Result, done, Reading, after, small, drawEach, read, gather}
 use Rattle.read_values.specs.Values.{Bound, Unchanged}
-use Rattle.read_values.specs.Places.{Stands, StandsRow, StandsPattern, StandsBody, StandsTwo, StandsDraw, StandsAbsent}
+use Rattle.policy_places.specs.Places.{Stands, StandsRow, StandsPattern, StandsBody, StandsTwo, StandsDraw, StandsAbsent}
 use Rattle.read_values.specs.Answers.{Filled, setReadIs, testedIs, IfDone}
 use Rattle.read_values.specs.From.{From, names, sets, SoundFrom}
 use Rattle.read_steps.specs.Areas.{Gathering, Kept}

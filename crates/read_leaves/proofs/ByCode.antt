@@ -12,14 +12,14 @@ use Rattle.sets.proofs.Standing.{copied-stands}
 use Rattle.policy.specs.Leaf.{Leaf, leafCode, leafWords}
 use Rattle.meaning.specs.Values.{Values, rowOf}
 use Rattle.meaning.specs.Reading.{Result, done, after, small, rowsOf, readLeaf}
-use Rattle.read_values.specs.Places.{StandsLeaf, SomeLeaf}
+use Rattle.policy_places.specs.Places.{StandsLeaf, SomeLeaf}
 use Rattle.read_values.specs.Answers.{Filled, setReadIs, testedIs, IfDone}
 use Rattle.read_values.specs.From.{From, setsIn, names, sets}
 use Rattle.read_values.specs.declared.Read as Read
 use Rattle.read_values.specs.declared.Read.the-variants.{Done, Refused}
 use Rattle.read_values.specs.declared.Tested as Tested
-use Rattle.read_values.proofs.Places.{at-word}
-use Rattle.read_values.proofs.Leaves.{on-definition, on-listed, on-rows, in-finite, in-cofinite, in-definition, in-listed}
+use Rattle.policy_places.proofs.Places.{at-word}
+use Rattle.policy_places.proofs.Leaves.{on-definition, on-listed, on-rows, in-finite, in-cofinite, in-definition, in-listed}
 use Rattle.read_values.proofs.Answers.{stands-filled}
 use Rattle.read_steps.specs.Steps.{SayHas}
 use Rattle.read_steps.proofs.Areas.{part-whole}

@@ -19,11 +19,11 @@ use Rattle.sets.proofs.SetWords.{sound-ascending}
 use Rattle.policy.specs.Syntax.{Term}
 use Rattle.meaning.specs.Values.{Values, rowOf}
 use Rattle.meaning.specs.Reading.{small, rowsOf}
-use Rattle.read_values.specs.Places.{SomeRow, SomeRows, PastRow}
+use Rattle.policy_places.specs.Places.{SomeRow, SomeRows, PastRow}
 use Rattle.read_values.specs.Rows.{SayRow}
 use Rattle.read_values.specs.Answers.{Filled, Empty}
 use Rattle.read_leaves.specs.Leaves.{SayRows}
-use Rattle.read_values.proofs.Past.{RowsLeft, RowsNext, rows-inside, rows-next, rows-none}
+use Rattle.policy_places.proofs.Past.{RowsLeft, RowsNext, rows-inside, rows-next, rows-none}
 use Rattle.read_values.proofs.Answers.{small-few}
 use Rattle.read_steps.proofs.Inserting.{Listed}
 

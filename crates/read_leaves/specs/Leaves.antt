@@ -10,7 +10,7 @@ use Rattle.policy.specs.Syntax.{Term}
 use Rattle.meaning.specs.Values.{Values, rowOf}
 use Rattle.meaning.specs.Reading.{done, after, small, rowsOf, readLeaf}
 use Rattle.read_values.specs.Values.{Bound}
-use Rattle.read_values.specs.Places.{StandsLeaf, StandsRow, StandsRows}
+use Rattle.policy_places.specs.Places.{StandsLeaf, StandsRow, StandsRows}
 use Rattle.read_values.specs.Answers.{Filled, setReadIs, testedIs, IfDone}
 use Rattle.read_values.specs.From.{From, setsIn, names, sets, SoundFrom}
 use Rattle.read_values.specs.declared.Read.{Read}

@@ -42,11 +42,11 @@ use Rattle.meaning.specs.Values as values
 use Rattle.meaning.specs.Values.{Values, value}
 use Rattle.meaning.specs.Evidence.{isOf, certified, namesHeld}
 use Rattle.meaning.specs.Reading.{Result, done, refused, after, small}
-use Rattle.read_values.specs.Places.{At, nameWords, SomeName, IsTerm}
+use Rattle.policy_places.specs.Places.{At, nameWords, SomeName, IsTerm}
 use Rattle.read_values.specs.Rows.{SayRow}
 use Rattle.read_values.specs.Answers.{Empty, setReadIs, testedIs, IfDone}
 use Rattle.read_names.specs.Names.{Records, recordRows, SayName, SayListed, SayBelongs, SayNameHas}
-use Rattle.read_values.proofs.Places.{at-word, at-next, at-skip, at-front, at-long, term-length}
+use Rattle.policy_places.proofs.Places.{at-word, at-next, at-skip, at-front, at-long, term-length}
 use Rattle.read_values.proofs.Answers.{stands-filled, small-few, small-many}
 use Rattle.read_values.specs.declared.Read.the-variants.{Done, Refused}
 use Rattle.read_values.specs.declared.Tested as Tested

@@ -14,7 +14,7 @@ use Rattle.policy.specs.Syntax.{Term}
 use Rattle.meaning.specs.Values.{Values, value, rowOf}
 use Rattle.meaning.specs.Evidence.{heldIn}
 use Rattle.meaning.specs.Reading.{done, after, small}
-use Rattle.read_values.specs.Places.{At, nameWords, StandsRow}
+use Rattle.policy_places.specs.Places.{At, nameWords, StandsRow}
 use Rattle.read_values.specs.Answers.{Filled, setReadIs, testedIs, IfDone}
 use Rattle.read_values.specs.declared.Read.{Read}
 use Rattle.read_values.specs.declared.Tested.{Tested}

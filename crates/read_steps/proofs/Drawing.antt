@@ -17,7 +17,7 @@ use Rattle.policy.specs.Words.{fresh}
 use Rattle.meaning.specs.Values.{Values}
 use Rattle.meaning.specs.Reading.{Result, done, refused, Reading, after, tick, match, onMatch, drawEach}
 use Rattle.read_values.specs.Values.{Unchanged}
-use Rattle.read_values.specs.Places.{StandsPattern}
+use Rattle.policy_places.specs.Places.{StandsPattern}
 use Rattle.read_values.specs.Answers.{Filled}
 use Rattle.read_values.proofs.Lent.{unchanged-self, unchanged-then}
 use Rattle.read_steps.specs.Steps.{matchedIs, drawnIs, Among, InScope, SayMatch, SayDrawn}

@@ -17,11 +17,11 @@ use Rattle.sets.proofs.SetWords.{size, sound-ascending}
 use Rattle.policy.specs.Syntax.{Term}
 use Rattle.meaning.specs.Values.{Values, rowOf}
 use Rattle.meaning.specs.Reading.{within}
-use Rattle.read_values.specs.Places.{StandsRow}
+use Rattle.policy_places.specs.Places.{StandsRow}
 use Rattle.read_values.specs.Rows.{SayAtom}
 use Rattle.read_values.specs.Answers.{Filled, IfDone}
 use Rattle.read_values.specs.declared.Read.the-variants.{Done}
-use Rattle.read_values.proofs.Places.{row-wide}
+use Rattle.policy_places.proofs.Places.{row-wide}
 use Rattle.read_values.proofs.Rows.{row-of-length}
 use Rattle.read_steps.specs.Areas.{Gathering}
 use Rattle.read_steps.specs.Steps.{rowsReadIs, IsLast, SayIs, SayLast, SayHead}

@@ -21,9 +21,9 @@ use Rattle.policy.specs.declared.Slot.the-variants.{Old, New}
 use Rattle.meaning.specs.Values.{Values, value}
 use Rattle.meaning.specs.Reading.{match}
 use Rattle.read_values.specs.Values.{Bound, Unchanged}
-use Rattle.read_values.specs.Places.{At, StandsPattern, SomePattern, IsSlot}
+use Rattle.policy_places.specs.Places.{At, StandsPattern, SomePattern, IsSlot}
 use Rattle.read_steps.specs.Steps.{matchedIs, SayMatch}
-use Rattle.read_values.proofs.Places.{at-word, at-next, at-skip, at-long, term-length, slots-length, slots-scope, pattern-wide}
+use Rattle.policy_places.proofs.Places.{at-word, at-next, at-skip, at-long, term-length, slots-length, slots-scope, pattern-wide}
 use Rattle.read_values.proofs.Lent.{unchanged-self, unchanged-then, unchanged-less, unchanged-bind, take-bind, bound-bind}
 
 -- a pattern and a row of another width

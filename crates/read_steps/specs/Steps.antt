@@ -15,7 +15,7 @@ use Rattle.policy.specs.Words.{fresh}
 use Rattle.meaning.specs.Values.{Values, rowOf}
 use Rattle.meaning.specs.Reading.{Result, done, refused, Reading, after, within, small, match, drawEach}
 use Rattle.read_values.specs.Values.{Unchanged}
-use Rattle.read_values.specs.Places.{StandsRow, StandsPattern}
+use Rattle.policy_places.specs.Places.{StandsRow, StandsPattern}
 use Rattle.read_values.specs.Answers.{Filled, setReadIs, IfDone}
 use Rattle.read_values.specs.declared.Read.{Read}
 use Rattle.read_values.specs.declared.Read.the-variants.{Done, Refused}

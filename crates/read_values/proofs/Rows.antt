@@ -12,9 +12,9 @@ use Rattle.policy.specs.Syntax.{Term, atom}
 use Rattle.policy.specs.Words.{termWords, each, termRowWords}
 use Rattle.meaning.specs.Values.{Values, value, rowOf}
 use Rattle.policy.specs.Held.{termIs}
-use Rattle.read_values.specs.Places.{At, StandsRow, SomeRow, IsTerm}
+use Rattle.policy_places.specs.Places.{At, StandsRow, SomeRow, IsTerm}
 use Rattle.read_values.specs.Rows.{SayAtom, SayRow}
-use Rattle.read_values.proofs.Places.{at-next, at-skip, at-front, term-length, row-wide, row-width}
+use Rattle.policy_places.proofs.Places.{at-next, at-skip, at-front, term-length, row-wide, row-width}
 use Rattle.policy.specs.declared.Term as Held-term
 
 nth-term : {ws : List ℕ} (at : ℕ) (ts : List Term) (j : ℕ) → At ws at (each termWords ts) → j < length ts → At ws (at + 2 * j) (termWords (getD ts j (atom 0)))

@@ -7,7 +7,7 @@ use Rattle.row_words.specs.Values as held
 use Rattle.row_words.specs.declared.row.Row as Held-row
 use Rattle.policy.specs.Syntax.{Term}
 use Rattle.meaning.specs.Values.{Values, rowOf}
-use Rattle.read_values.specs.Places.{StandsRow}
+use Rattle.policy_places.specs.Places.{StandsRow}
 
 -- atom j of the row that the terms written there come to; 0 behind the last
 pub record SayAtom (ws : List ℕ) (at : ℕ) (vs : Values) (j r : ℕ) : Type 0 where

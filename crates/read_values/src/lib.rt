@@ -1,26 +1,18 @@
-// Terms, slots, guards and rows of terms that stand in the words, and what they come to. The values of the variables in scope are the first `count` of the
-// sixteen that the readers lend each other, variable 0 first.
-pub mod skip;
-
+// What the terms and rows of terms that stand in the words come to. The values of the variables in scope are the first `count` of the sixteen that the
+// readers lend each other, variable 0 first.
 ghost use mathlib.Core.Path.{_≡_};
-ghost use Prim.Native.Nat.{_+_, _≤_};
-ghost use lib.ListN.{length, take};
+ghost use lib.ListN.{take};
 ghost use Rattle.policy.specs.Held.{termIs};
 ghost use Rattle.meaning.specs.Reading.{tick};
 ghost use Rattle.meaning.specs.Values.{value};
 ghost use Rattle.read_values.specs.Values.{Bound, passing};
-ghost use Rattle.read_values.specs.Places.{IsTerm, IsSlot, IsGuard, SomeRow, SomeGuard};
+ghost use Rattle.policy_places.specs.Places.{SomeRow};
 ghost use Rattle.read_values.specs.Rows.{SayAtom, SayRow};
 ghost use Rattle.read_values.specs.Answers.{tickIs, testedIs};
 ghost use Rattle.meaning.specs.Reading.{done};
-use policy::GUARD_ABSENT;
-use policy::GUARD_DRAW;
-use policy::GUARD_SAME;
 use policy::Guard;
-use policy::Slot;
-use policy::TAG_ATOM;
-use policy::TAG_NEW;
 use policy::Term;
+use policy_places::term_at;
 use refusals::TOO_MANY_DRAWS;
 use row_words::row::Row;
 use row_words::wide;
@@ -62,49 +54,6 @@ pub fn told(has: bool, draws: u32) -> Tested
         Tested::Has(draws)
     } else {
         Tested::Lacks(draws)
-    }
-}
-
-pub fn term_at(words: &[u32], at: usize) -> Term
-    requires { ⌜ at + 2 ≤ length (now words) ⌝ }
-    ensures { λ r. ⌜ IsTerm (now (words .entry)) at r ⌝ }
-{
-    let word = words[at + 1];
-    if words[at] == TAG_ATOM {
-        Term::Atom(word)
-    } else {
-        Term::Variable(word)
-    }
-}
-
-pub fn slot_at(words: &[u32], at: usize) -> Slot
-    requires { ⌜ at + 2 ≤ length (now words) ⌝ }
-    ensures { λ r. ⌜ IsSlot (now (words .entry)) at r ⌝ }
-{
-    if words[at] == TAG_NEW {
-        return Slot::New;
-    }
-    let term = term_at(words, at);
-    Slot::Old(term)
-}
-
-pub fn guard_at(words: &[u32], at: usize) -> Guard
-    requires { ⌜ SomeGuard (now words) at ⌝ }
-    ensures { λ r. ⌜ IsGuard (now (words .entry)) at r ⌝ }
-{
-    let code = words[at];
-    if code == GUARD_DRAW {
-        return Guard::Draw;
-    }
-    if code == GUARD_ABSENT {
-        return Guard::Absent;
-    }
-    let x = term_at(words, at + 1);
-    let y = term_at(words, at + 3);
-    if code == GUARD_SAME {
-        Guard::Same(x, y)
-    } else {
-        Guard::Different(x, y)
     }
 }
 

@@ -1,6 +1,6 @@
 -- A name's row and a definition's are looked up where they stand; of any other leaf the set is read.
 use native.Mathlib.Omega.{arith}
-use Rattle.read_values.proofs.Leaves.{inside-leaf, definition-inside, some-name}
+use Rattle.policy_places.proofs.Leaves.{inside-leaf, definition-inside, some-name}
 use Rattle.read_leaves.proofs.ByCode.{some-here, known-here, leaf-name-has, leaf-definition-has, leaf-filled, leaf-refused, leaf-looked}
 use borrow.Author.Needs.{needs}
 use Rattle.read_leaves.proofs.leaf_has.Statement.{statement}

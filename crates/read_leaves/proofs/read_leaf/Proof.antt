@@ -1,6 +1,6 @@
 -- Each leaf by its code; what it says goes to whichever leaf has that code.
 use native.Mathlib.Omega.{arith}
-use Rattle.read_values.proofs.Leaves.{inside-leaf, definition-inside, some-name, some-rows}
+use Rattle.policy_places.proofs.Leaves.{inside-leaf, definition-inside, some-name, some-rows}
 use Rattle.read_leaves.proofs.ByCode.{some-here, known-here, literal-code, leaf-rows, leaf-name, leaf-definition}
 use borrow.Author.Needs.{needs}
 use Rattle.read_leaves.proofs.read_leaf.Statement.{statement}

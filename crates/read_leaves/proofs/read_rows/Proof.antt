@@ -3,7 +3,7 @@ use Prim.Native.Nat.{_-_}
 use mathlib.Core.Path.{_≡_, refl, _∙_}
 use native.Mathlib.Omega.{arith}
 use lib.ListN.{length, take}
-use Rattle.read_values.proofs.Past.{literal-inside}
+use Rattle.policy_places.proofs.Past.{literal-inside}
 use Rattle.read_values.proofs.Answers.{cleared}
 use Rattle.read_steps.proofs.Inserting.{row-is-wide, listed}
 use Rattle.read_leaves.proofs.Literals.{Filling, literal-few, filling-start, filling-row, filling-next, filling-end}

@@ -6,7 +6,7 @@ use lib.ListN.{length, take, getD}
 use borrow.Author.Needs.{needs}
 use Rattle.rows.specs.Layout.{rowIn, fiveAt}
 use Rattle.read_values.specs.Rows.{SayAtom}
-use Rattle.read_values.proofs.Places.{row-width}
+use Rattle.policy_places.proofs.Places.{row-width}
 use Rattle.read_steps.proofs.Last.{ComesTo, other-width, other-atom, comes-start, comes-next, comes-end}
 use Rattle.read_steps.proofs.is_row.Statement.{statement}
 use Rattle.read_steps.proofs.is_row.Tie as tie

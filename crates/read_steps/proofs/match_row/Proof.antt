@@ -5,9 +5,9 @@ use native.Mathlib.Omega.{arith}
 use lib.ListN.{length, getD}
 use borrow.Author.Needs.{needs}
 use Rattle.policy.specs.declared.Slot.the-variants.{Old, New}
-use Rattle.read_values.specs.Places.{IsSlot}
-use Rattle.read_values.proofs.Places.{pattern-width}
-use Rattle.read_values.proofs.Held.{slot-told}
+use Rattle.policy_places.specs.Places.{IsSlot}
+use Rattle.policy_places.proofs.Places.{pattern-width}
+use Rattle.policy_places.proofs.Held.{slot-told}
 use Rattle.read_steps.proofs.Match.{Passed, Fits, passed-start, same-width, other-width, slot-inside, new-scope, passed-new, passed-old, matched, mismatched}
 use Rattle.read_steps.proofs.match_row.Statement.{statement}
 use Rattle.read_steps.proofs.match_row.Tie as tie

@@ -4,7 +4,7 @@ use native.Mathlib.Omega.{arith}
 use lib.ListN.{length, take, getD}
 use borrow.Author.Needs.{needs}
 use Rattle.read_values.specs.Rows.{SayAtom}
-use Rattle.read_values.proofs.Places.{row-width}
+use Rattle.policy_places.proofs.Places.{row-width}
 use Rattle.read_values.proofs.Rows.{term-atom, no-atom}
 use Rattle.read_values.proofs.atom_of.Statement.{statement}
 use Rattle.read_values.proofs.atom_of.Tie as tie

@@ -1,5 +1,5 @@
 use native.Mathlib.Omega.{arith}
-use Rattle.read_values.proofs.Places.{row-width}
+use Rattle.policy_places.proofs.Places.{row-width}
 use Rattle.read_values.proofs.Rows.{row-of-atoms}
 use Rattle.read_values.proofs.row_of.Statement.{statement}
 use Rattle.read_values.proofs.row_of.Tie as tie

@@ -35,11 +35,11 @@ use Rattle.read_steps.proofs.combine.Reads as combine-reads
 use Rattle.read_steps.proofs.draw_next.Reads as draw-next-reads
 use Rattle.read_steps.proofs.has_row.Reads as has-row-reads
 use Rattle.read_steps.proofs.insert_head.Reads as insert-head-reads
-use Rattle.read_values.proofs.guard_at.Reads as guard-at-reads
+use Rattle.policy_places.proofs.guard_at.Reads as guard-at-reads
 use Rattle.read_values.proofs.passes.Reads as passes-reads
-use Rattle.read_values.proofs.skip.skip_expr.Reads as skip-expr-reads
-use Rattle.read_values.proofs.skip.skip_pattern.Reads as skip-pattern-reads
-use Rattle.read_values.proofs.skip.skip_row.Reads as skip-row-reads
+use Rattle.policy_places.proofs.skip.skip_expr.Reads as skip-expr-reads
+use Rattle.policy_places.proofs.skip.skip_pattern.Reads as skip-pattern-reads
+use Rattle.policy_places.proofs.skip.skip_row.Reads as skip-row-reads
 use Rattle.read_values.proofs.told.Reads as told-reads
 
 -- twice the words left; one more where an expression is read from the same word on

@@ -7,9 +7,9 @@ use native.Mathlib.Omega.{arith}
 use lib.ListN.{getD}
 use borrow.Author.Tests.{not-true, not-false}
 use Rattle.policy.specs.Decode.{isNode}
-use Rattle.read_values.specs.Places.{SomeBody}
-use Rattle.read_values.proofs.Places.{inside, inside-body, union-or-difference}
-use Rattle.read_values.proofs.Past.{some-body}
+use Rattle.policy_places.specs.Places.{SomeBody}
+use Rattle.policy_places.proofs.Places.{inside, inside-body, union-or-difference}
+use Rattle.policy_places.proofs.Past.{some-body}
 use Rattle.read_values.proofs.Answers.{cleared}
 use Rattle.read_expressions.proofs.Exprs.{some-expr, long, ask-leaf, ask-two, ask-guards, say-leaf, say-two, say-comprehension}
 use Rattle.read_expressions.proofs.read_expr.Reads as read-expr

@@ -2,8 +2,8 @@
 use Prim.Native.Nat.{ℕ}
 use mathlib.Core.Path.{sym, _∙_}
 use native.Mathlib.Omega.{arith}
-use Rattle.read_values.proofs.Places.{inside-body}
-use Rattle.read_values.proofs.Held.{guard-told}
+use Rattle.policy_places.proofs.Places.{inside-body}
+use Rattle.policy_places.proofs.Held.{guard-told}
 use Rattle.read_expressions.proofs.Guards.{some-head, some-guard, ask-draw, ask-absent, ask-compared, say-head, say-draw, say-absent, say-passes, say-fails}
 use Rattle.read_expressions.proofs.read_guards.Reads as read-guards
 use Rattle.read_expressions.proofs.+draw_rows+expr_has+read_absent+read_draw+read_expr+read_guards+read_two.Lts-read_guards as read-guards-lts

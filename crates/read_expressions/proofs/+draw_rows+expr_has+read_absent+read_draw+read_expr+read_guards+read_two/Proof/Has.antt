@@ -6,7 +6,7 @@ use native.Mathlib.Omega.{arith}
 use lib.ListN.{getD}
 use borrow.Author.Tests.{not-true}
 use Rattle.policy.specs.Decode.{isNode}
-use Rattle.read_values.proofs.Places.{inside}
+use Rattle.policy_places.proofs.Places.{inside}
 use Rattle.read_values.proofs.Lent.{bound-after}
 use Rattle.read_expressions.proofs.Exprs.{long, ask-leaf, done-filled, tested-row, say-leaf-has, say-has-refused, say-has}
 use Rattle.read_expressions.proofs.expr_has.Reads as expr-has

@@ -6,12 +6,12 @@ use native.Mathlib.Omega.{arith}
 use lib.ListN.{getD}
 use borrow.Author.Tests.{not-true, not-false}
 use Rattle.policy.specs.Decode.{isNode}
-use Rattle.read_values.specs.Places.{SomeBody}
-use Rattle.read_values.proofs.Places.{inside, inside-body}
-use Rattle.read_values.proofs.Past.{some-leaf, past-leaf, some-first, some-second, second-after, past-two, some-body, past-body}
-use Rattle.read_values.proofs.skip.skip_expr.Reads as skip-expr
-use Rattle.read_values.proofs.skip.+skip_expr+skip_guards.Lts-skip_expr as skip-expr-lts
-use Rattle.read_values.proofs.skip.+skip_expr+skip_guards.Proof.Cycle.{skip-expr-at, skip-expr-claims}
+use Rattle.policy_places.specs.Places.{SomeBody}
+use Rattle.policy_places.proofs.Places.{inside, inside-body}
+use Rattle.policy_places.proofs.Past.{some-leaf, past-leaf, some-first, some-second, second-after, past-two, some-body, past-body}
+use Rattle.policy_places.proofs.skip.skip_expr.Reads as skip-expr
+use Rattle.policy_places.proofs.skip.+skip_expr+skip_guards.Lts-skip_expr as skip-expr-lts
+use Rattle.policy_places.proofs.skip.+skip_expr+skip_guards.Proof.Cycle.{skip-expr-at, skip-expr-claims}
 
 pub mul-code : (t : ℕ) → skip-expr-lts.Need-mul-code (skip-expr-claims t) (skip-expr-at t) skip-expr.Post
 mul-code t c =

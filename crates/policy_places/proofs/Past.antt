@@ -11,10 +11,10 @@ use Rattle.policy.specs.Syntax.{Term, Slot, Expr, union, difference, Body, head
 use Rattle.policy.specs.Words.{termWords, each, termRowWords, slotWords, fresh, guardCount, exprWords, bodyWords}
 use Rattle.policy.specs.WellFormed.{FitRow}
 use Rattle.policy.specs.Decode.{isNode}
-use Rattle.read_values.specs.Places.{At, patternWords, StandsRow, StandsRows, StandsPattern, Stands, StandsBody, StandsTwo, StandsDraw, StandsAbsent, SomeRow, SomeRows, SomePattern, SomeLeaf, SomeExpr, SomeBody, PastRow, PastRows, PastPattern, PastLeaf, PastExpr, PastBody}
-use Rattle.read_values.proofs.Places.{at-word, at-next, at-skip, at-front, at-long, term-length, row-length, slots-length, row-wide, pattern-wide}
-use Rattle.read_values.proofs.Places.{union-or-difference, on-leaf, on-union, on-difference, on-comprehension, in-leaf, in-union, in-difference, in-comprehension, in-head, in-draw, in-same, in-different, in-absent, on-head, on-draw, on-absent}
-use Rattle.read_values.proofs.Held.{is-draw, is-absent}
+use Rattle.policy_places.specs.Places.{At, patternWords, StandsRow, StandsRows, StandsPattern, Stands, StandsBody, StandsTwo, StandsDraw, StandsAbsent, SomeRow, SomeRows, SomePattern, SomeLeaf, SomeExpr, SomeBody, PastRow, PastRows, PastPattern, PastLeaf, PastExpr, PastBody}
+use Rattle.policy_places.proofs.Places.{at-word, at-next, at-skip, at-front, at-long, term-length, row-length, slots-length, row-wide, pattern-wide}
+use Rattle.policy_places.proofs.Places.{union-or-difference, on-leaf, on-union, on-difference, on-comprehension, in-leaf, in-union, in-difference, in-comprehension, in-head, in-draw, in-same, in-different, in-absent, on-head, on-draw, on-absent}
+use Rattle.policy_places.proofs.Held.{is-draw, is-absent}
 
 -- ---- a row, a pattern
 

@@ -2,9 +2,9 @@
 use Prim.Native.Nat.{_+_, _-_}
 use native.Mathlib.Omega.{arith}
 use borrow.Author.Needs.{needs}
-use Rattle.read_values.proofs.Past.{literal-inside, Passing, pass-start, pass-row, pass-next, pass-end}
-use Rattle.read_values.proofs.skip.skip_rows.Statement.{statement}
-use Rattle.read_values.proofs.skip.skip_rows.Tie as tie
+use Rattle.policy_places.proofs.Past.{literal-inside, Passing, pass-start, pass-row, pass-next, pass-end}
+use Rattle.policy_places.proofs.skip.skip_rows.Statement.{statement}
+use Rattle.policy_places.proofs.skip.skip_rows.Tie as tie
 
 abbrev Inv-loop : tie.InvT-loop
 Inv-loop words at count next₀ i₀ next i = Passing words (at + 1) count next i

@@ -1,7 +1,7 @@
 use native.Mathlib.Omega.{arith}
-use Rattle.read_values.proofs.Leaves.{inside-leaf, some-rows, past-rows, definition-inside, past-definition, name-inside, past-name}
-use Rattle.read_values.proofs.skip.skip_leaf.Statement.{statement}
-use Rattle.read_values.proofs.skip.skip_leaf.Tie as tie
+use Rattle.policy_places.proofs.Leaves.{inside-leaf, some-rows, past-rows, definition-inside, past-definition, name-inside, past-name, vetted-inside, past-vetted}
+use Rattle.policy_places.proofs.skip.skip_leaf.Statement.{statement}
+use Rattle.policy_places.proofs.skip.skip_leaf.Tie as tie
 
 mul-code : tie.Need-mul-code
 mul-code c =
@@ -33,17 +33,26 @@ add-result-2 c =
 returns-2 : tie.Need-returns-2
 returns-2 c = past-name (c .if2 .taken)
 
+add-result-3 : tie.Need-add-result-3
+add-result-3 c =
+    let i = vetted-inside (c .before .before .before .before .before .pre) (c .if3 .taken) in
+    let fits = c .before .before .before .before .before .good in
+    omega arith
+
+returns-3 : tie.Need-returns-3
+returns-3 c = past-vetted (c .if3 .taken)
+
 add-skip-rows : tie.Need-add-skip-rows
 add-skip-rows c =
-    let i = inside-leaf (c .before .before .before .before .pre .here) in
-    let fits = c .before .before .before .before .good in
+    let i = inside-leaf (c .before .before .before .before .before .pre .here) in
+    let fits = c .before .before .before .before .before .good in
     omega arith
 
 skip-rows-requires : tie.Need-skip-rows-requires
-skip-rows-requires c κs = some-rows (c .before .if1 .left) (c .if2 .left) (c .before .before .before .before .pre)
+skip-rows-requires c κs = some-rows (c .before .before .if1 .left) (c .before .if2 .left) (c .if3 .left) (c .before .before .before .before .before .pre)
 
-returns-3 : tie.Need-returns-3
-returns-3 c = past-rows (c .before .before .if1 .left) (c .before .if2 .left) (c .skip-rows .ensures)
+returns-4 : tie.Need-returns-4
+returns-4 c = past-rows (c .before .before .before .if1 .left) (c .before .before .if2 .left) (c .before .if3 .left) (c .skip-rows .ensures)
 
 pub skip-leaf-spec : {M : Type 1} → statement M
 skip-leaf-spec =
@@ -55,6 +64,8 @@ skip-leaf-spec =
     returns
     add-result-2
     returns-2
+    add-result-3
+    returns-3
     add-skip-rows
     skip-rows-requires
-    returns-3)
+    returns-4)

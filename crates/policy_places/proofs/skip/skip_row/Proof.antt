@@ -1,9 +1,9 @@
 -- A row has one to four terms.
 use native.Mathlib.Omega.{arith}
-use Rattle.read_values.proofs.Places.{row-width}
-use Rattle.read_values.proofs.Past.{past-row}
-use Rattle.read_values.proofs.skip.skip_row.Statement.{statement}
-use Rattle.read_values.proofs.skip.skip_row.Tie as tie
+use Rattle.policy_places.proofs.Places.{row-width}
+use Rattle.policy_places.proofs.Past.{past-row}
+use Rattle.policy_places.proofs.skip.skip_row.Statement.{statement}
+use Rattle.policy_places.proofs.skip.skip_row.Tie as tie
 
 mul-width : tie.Need-mul-width
 mul-width c = let w = row-width (c .pre) in let fits = c .good in omega arith

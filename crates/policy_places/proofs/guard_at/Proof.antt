@@ -1,7 +1,7 @@
 use native.Mathlib.Omega.{arith}
-use Rattle.read_values.proofs.Held.{guard-inside, guard-terms, is-draw, is-absent, is-same, is-different}
-use Rattle.read_values.proofs.guard_at.Statement.{statement}
-use Rattle.read_values.proofs.guard_at.Tie as tie
+use Rattle.policy_places.proofs.Held.{guard-inside, guard-terms, is-draw, is-absent, is-same, is-different}
+use Rattle.policy_places.proofs.guard_at.Statement.{statement}
+use Rattle.policy_places.proofs.guard_at.Tie as tie
 
 mul-code : tie.Need-mul-code
 mul-code c = omega (arith, guard-inside (c .before .pre))

@@ -1,7 +1,7 @@
 use borrow.Author.Needs.{needs}
-use Rattle.read_values.proofs.Held.{is-atom, is-variable}
-use Rattle.read_values.proofs.term_at.Statement.{statement}
-use Rattle.read_values.proofs.term_at.Tie as tie
+use Rattle.policy_places.proofs.Held.{is-atom, is-variable}
+use Rattle.policy_places.proofs.term_at.Statement.{statement}
+use Rattle.policy_places.proofs.term_at.Tie as tie
 
 returns : tie.Need-returns
 returns c = is-atom (c .if1 .taken)

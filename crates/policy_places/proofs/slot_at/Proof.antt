@@ -1,7 +1,7 @@
 use borrow.Author.Needs.{needs}
-use Rattle.read_values.proofs.Held.{is-new, is-old}
-use Rattle.read_values.proofs.slot_at.Statement.{statement}
-use Rattle.read_values.proofs.slot_at.Tie as tie
+use Rattle.policy_places.proofs.Held.{is-new, is-old}
+use Rattle.policy_places.proofs.slot_at.Statement.{statement}
+use Rattle.policy_places.proofs.slot_at.Tie as tie
 
 returns : tie.Need-returns
 returns c = is-new (c .if1 .taken)

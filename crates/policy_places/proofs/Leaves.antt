@@ -1,15 +1,15 @@
 -- A leaf that stands at a place: which it is, what stands inside it, and the place after it.
 use Prim.Native.Nat.{ℕ, _+_, _≤_, _<_}
 use mathlib.Core.Path.{_≡_, refl, sym, subst, _∙_}
-use mathlib.Core.List.{List, [], _∷_}
+use mathlib.Core.List.{List, [], _∷_, _++_, append-assoc}
 use native.Mathlib.Omega.{arith}
 use lib.ListN.{length, getD, length-append}
-use Rattle.rows.specs.Name.{Polarity, polarityWord}
-use Rattle.policy.specs.Leaf.{Leaf, finite, cofinite, definition, listed, leafCode, leafRest, leafWords, FitLeaf, LeafCode, isFinite, isCofinite, isDefinition, isListed, noLeaf, leafOf}
+use Rattle.rows.specs.Name.{Polarity, plus, polarityWord}
+use Rattle.policy.specs.Leaf.{Leaf, finite, cofinite, definition, listed, vetted, leafCode, leafRest, leafWords, FitLeaf, LeafCode, isFinite, isCofinite, isDefinition, isListed, isVetted, noLeaf, leafOf}
 use Rattle.policy.specs.Syntax.{Term}
 use Rattle.policy.specs.Words.{termWords}
-use Rattle.read_values.specs.Places.{At, nameWords, StandsRows, StandsLeaf, SomeRows, SomeName, SomeLeaf, PastRows, PastLeaf}
-use Rattle.read_values.proofs.Places.{at-word, at-next, at-long, term-length}
+use Rattle.policy_places.specs.Places.{At, nameWords, StandsRows, StandsLeaf, SomeRows, SomeName, SomeLeaf, PastRows, PastLeaf}
+use Rattle.policy_places.proofs.Places.{at-skip, at-front, at-word, at-next, at-long, term-length}
 
 -- ---- a leaf by its code
 
@@ -19,6 +19,7 @@ ForCode P isFinite = (rs : List (List Term)) → P (finite rs)
 ForCode P isCofinite = (rs : List (List Term)) → P (cofinite rs)
 ForCode P isDefinition = (d : ℕ) → P (definition d)
 ForCode P isListed = (t : Term) (k : ℕ) (p : Polarity) → P (listed t k p)
+ForCode P isVetted = (t : Term) (k d : ℕ) → P (vetted t k d)
 ForCode P noLeaf = ⊥
 
 by-code : (P : Leaf → Type 0) (x : Leaf) → ForCode P (leafOf (leafCode x)) → P x
@@ -27,6 +28,7 @@ by-code P (finite rs) g = g rs
 by-code P (cofinite rs) g = g rs
 by-code P (definition d) g = g d
 by-code P (listed t k p) g = g t k p
+by-code P (vetted t k d) g = g t k d
 
 module _ {m n : ℕ} {ws : List ℕ} {at : ℕ} {x : Leaf} (P : Leaf → Type 0) (s : StandsLeaf m n ws at x) where
   code-at : getD ws at 0 ≡ leafCode x
@@ -44,18 +46,33 @@ module _ {m n : ℕ} {ws : List ℕ} {at : ℕ} {x : Leaf} (P : Leaf → Type 0)
   unfolding ForCode leafOf
   on-listed h g = on-code 4 h g
 
-  -- neither 3 nor 4
-  pub on-rows : (getD ws at 0 ≡ 3 → ⊥) → (getD ws at 0 ≡ 4 → ⊥) → ((rs : List (List Term)) → P (finite rs)) → ((rs : List (List Term)) → P (cofinite rs)) → P x
+  pub on-vetted : getD ws at 0 ≡ 8 → ((t : Term) (k d : ℕ) → P (vetted t k d)) → P x
+  unfolding ForCode leafOf
+  on-vetted h g = on-code 8 h g
+
+  -- neither 3 nor 4 nor 8
+  pub on-rows : (getD ws at 0 ≡ 3 → ⊥) → (getD ws at 0 ≡ 4 → ⊥) → (getD ws at 0 ≡ 8 → ⊥) → ((rs : List (List Term)) → P (finite rs)) → ((rs : List (List Term)) → P (cofinite rs)) → P x
   unfolding leafCode
-  on-rows d l f g = go x code-at
+  on-rows d l v f g = go x code-at
     where
       go : (y : Leaf) → getD ws at 0 ≡ leafCode y → P y
       go (finite rs) h = f rs
       go (cofinite rs) h = g rs
       go (definition k) h = absurd (d h)
       go (listed t k p) h = absurd (l h)
+      go (vetted t k e) h = absurd (v h)
 
 -- ---- what stands inside a leaf
+
+-- code 8: the words of a name, then a definition's number
+pub record InVetted (m : ℕ) (ws : List ℕ) (at : ℕ) (t : Term) (k d : ℕ) : Type 0 where
+  pub name : At ws (at + 1) (nameWords t k plus)
+  pub number : getD ws (at + 5) 0 ≡ d
+  pub known : d < m
+  pub inside : at + 5 < length ws
+
+name-length : (t : Term) (k : ℕ) (p : Polarity) → length (nameWords t k p) ≡ 4
+name-length t k p = omega (arith, length-append (termWords t) (k ∷ polarityWord p ∷ []), term-length t)
 
 -- the definition's number is the word after the code
 pub record InDefinition (m : ℕ) (ws : List ℕ) (at d : ℕ) : Type 0 where
@@ -86,28 +103,33 @@ module _ {m n : ℕ} {ws : List ℕ} {at : ℕ} where
   unfolding leafWords leafRest
   in-listed s = at-next (s .words)
 
--- ---- the place after a leaf
+  pub in-vetted : {t : Term} {k d : ℕ} → StandsLeaf m n ws at (vetted t k d) → InVetted m ws at t k d
+  unfolding FitLeaf leafWords leafRest
+  in-vetted {t} {k} {d} s =
+      let all : At ws (at + 1) (nameWords t k plus ++ (d ∷ [])) = subst (At ws (at + 1)) (sym (append-assoc (termWords t) (k ∷ polarityWord plus ∷ []) (d ∷ []))) (at-next (s .words)) in
+      let e : at + 1 + length (nameWords t k plus) ≡ at + 5 = omega (arith, name-length t k plus) in
+      let last : At ws (at + 5) (d ∷ []) = subst (λ (p : ℕ). At ws p (d ∷ [])) e (at-skip (nameWords t k plus) (d ∷ []) all) in
+      record { name = at-front (nameWords t k plus) (d ∷ []) all; number = at-word last; known = s .fit .2; inside = omega (arith, at-long (omega arith) last) }
 
-name-length : (t : Term) (k : ℕ) (p : Polarity) → length (nameWords t k p) ≡ 4
-name-length t k p = omega (arith, length-append (termWords t) (k ∷ polarityWord p ∷ []), term-length t)
+-- ---- the place after a leaf
 
 module _ {ws : List ℕ} {at : ℕ} where
   -- codes 1 and 2
-  module _ (d : getD ws at 0 ≡ 3 → ⊥) (l : getD ws at 0 ≡ 4 → ⊥) where
+  module _ (d : getD ws at 0 ≡ 3 → ⊥) (l : getD ws at 0 ≡ 4 → ⊥) (v : getD ws at 0 ≡ 8 → ⊥) where
     pub some-rows : SomeLeaf ws at → SomeRows ws (at + 1)
     some-rows x =
-        on-rows (λ y. StandsLeaf (x .m) (x .n) ws at y → SomeRows ws (at + 1)) (x .here) d l
+        on-rows (λ y. StandsLeaf (x .m) (x .n) ws at y → SomeRows ws (at + 1)) (x .here) d l v
         (λ rs s. record { n = x .n; rs = rs; here = in-finite s }) (λ rs s. record { n = x .n; rs = rs; here = in-cofinite s }) (x .here)
 
     pub past-rows : {r : ℕ} → PastRows ws (at + 1) r → PastLeaf ws at r
     unfolding leafWords leafRest
     past-rows {r} g = record {
       past = λ m n x s.
-          on-rows (λ y. StandsLeaf m n ws at y → r ≡ at + length (leafWords y)) s d l
+          on-rows (λ y. StandsLeaf m n ws at y → r ≡ at + length (leafWords y)) s d l v
           (λ rs h. let q = g .past n rs (in-finite h) in omega arith) (λ rs h. let q = g .past n rs (in-cofinite h) in omega arith) s;
     }
 
-  -- codes 3 and 4
+  -- codes 3, 4 and 8
   pub definition-inside : SomeLeaf ws at → getD ws at 0 ≡ 3 → at + 1 < length ws
   definition-inside x c = on-definition (λ y. StandsLeaf (x .m) (x .n) ws at y → at + 1 < length ws) (x .here) c (λ d s. in-definition s .inside) (x .here)
 
@@ -126,3 +148,12 @@ module _ {ws : List ℕ} {at : ℕ} where
   pub past-name : getD ws at 0 ≡ 4 → PastLeaf ws at (at + 5)
   unfolding leafWords leafRest
   past-name c = record { past = λ m n x s. on-listed (λ y. at + 5 ≡ at + length (leafWords y)) s c (λ t k p. let l = name-length t k p in omega arith) }
+
+  pub vetted-inside : SomeLeaf ws at → getD ws at 0 ≡ 8 → at + 6 ≤ length ws
+  vetted-inside x c = on-vetted (λ y. StandsLeaf (x .m) (x .n) ws at y → at + 6 ≤ length ws) (x .here) c (λ t k d s. omega (arith, in-vetted s .inside)) (x .here)
+
+  pub past-vetted : getD ws at 0 ≡ 8 → PastLeaf ws at (at + 6)
+  unfolding leafWords leafRest
+  past-vetted c = record {
+    past = λ m n x s. on-vetted (λ y. at + 6 ≡ at + length (leafWords y)) s c (λ t k d. omega (arith, length-append (termWords t) (k ∷ polarityWord plus ∷ d ∷ []), term-length t));
+  }

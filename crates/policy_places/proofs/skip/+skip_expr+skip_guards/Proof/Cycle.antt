@@ -3,15 +3,15 @@ use Prim.Native.Nat.{ℕ, _-_, _<_}
 use lib.ListN.{length}
 use borrow.Fn.Kinds.{In}
 use borrow.Fn.PlainCycle.{Measures, is, falls, and}
-use Rattle.read_values.proofs.skip.skip_expr.Reads as skip-expr
-use Rattle.read_values.proofs.skip.skip_expr.Kinds as skip-expr-kinds
-use Rattle.read_values.proofs.skip.+skip_expr+skip_guards.Lts-skip_expr as skip-expr-lts
-use Rattle.read_values.proofs.skip.skip_guards.Reads as skip-guards
-use Rattle.read_values.proofs.skip.skip_guards.Kinds as skip-guards-kinds
-use Rattle.read_values.proofs.skip.+skip_expr+skip_guards.Lts-skip_guards as skip-guards-lts
-use Rattle.read_values.proofs.skip.skip_pattern.Reads as skip-pattern-reads
-use Rattle.read_values.proofs.skip.skip_row.Reads as skip-row-reads
-use Rattle.read_values.proofs.skip.skip_leaf.Reads as skip-leaf-reads
+use Rattle.policy_places.proofs.skip.skip_expr.Reads as skip-expr
+use Rattle.policy_places.proofs.skip.skip_expr.Kinds as skip-expr-kinds
+use Rattle.policy_places.proofs.skip.+skip_expr+skip_guards.Lts-skip_expr as skip-expr-lts
+use Rattle.policy_places.proofs.skip.skip_guards.Reads as skip-guards
+use Rattle.policy_places.proofs.skip.skip_guards.Kinds as skip-guards-kinds
+use Rattle.policy_places.proofs.skip.+skip_expr+skip_guards.Lts-skip_guards as skip-guards-lts
+use Rattle.policy_places.proofs.skip.skip_pattern.Reads as skip-pattern-reads
+use Rattle.policy_places.proofs.skip.skip_row.Reads as skip-row-reads
+use Rattle.policy_places.proofs.skip.skip_leaf.Reads as skip-leaf-reads
 use Rattle.policy.proofs.is_node.Reads as is-node-reads
 
 abbrev pub μ-skip-expr : Measures 1 skip-expr-kinds.ps ℕ

@@ -1,9 +1,9 @@
 -- A pattern has one to four slots.
 use native.Mathlib.Omega.{arith}
-use Rattle.read_values.proofs.Places.{pattern-width}
-use Rattle.read_values.proofs.Past.{past-pattern}
-use Rattle.read_values.proofs.skip.skip_pattern.Statement.{statement}
-use Rattle.read_values.proofs.skip.skip_pattern.Tie as tie
+use Rattle.policy_places.proofs.Places.{pattern-width}
+use Rattle.policy_places.proofs.Past.{past-pattern}
+use Rattle.policy_places.proofs.skip.skip_pattern.Statement.{statement}
+use Rattle.policy_places.proofs.skip.skip_pattern.Tie as tie
 
 mul-width : tie.Need-mul-width
 mul-width c = let w = pattern-width (c .pre .1) in let fits = c .good in omega arith

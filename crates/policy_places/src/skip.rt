@@ -1,9 +1,10 @@
 // Past what stands in the words: the place after it.
 ghost use Prim.Native.Nat.{ℕ};
-ghost use Rattle.read_values.specs.Places.{SomeRow, SomePattern, SomeRows, SomeLeaf, SomeExpr, SomeBody, PastRow, PastPattern, PastRows, PastLeaf, PastExpr, PastBody};
+ghost use Rattle.policy_places.specs.Places.{SomeRow, SomePattern, SomeRows, SomeLeaf, SomeExpr, SomeBody, PastRow, PastPattern, PastRows, PastLeaf, PastExpr, PastBody};
 use policy::CODE_COMPREHENSION;
 use policy::CODE_DEFINITION;
 use policy::CODE_NAME;
+use policy::CODE_VETTED;
 use policy::GUARD_ABSENT;
 use policy::GUARD_DRAW;
 use policy::is_node;
@@ -52,6 +53,9 @@ fn skip_leaf(words: &[u32], at: usize) -> usize
     }
     if code == CODE_NAME {
         return at + 5;
+    }
+    if code == CODE_VETTED {
+        return at + 6;
     }
     skip_rows(words, at + 1)
 }

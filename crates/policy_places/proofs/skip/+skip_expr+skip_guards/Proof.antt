@@ -2,15 +2,15 @@ mod Cycle
 mod Expr
 mod Guards
 use borrow.Author.Needs.{needs}
-use Rattle.read_values.proofs.skip.skip_expr.Reads as skip-expr
-use Rattle.read_values.proofs.skip.+skip_expr+skip_guards.Lts-skip_expr as skip-expr-lts
-use Rattle.read_values.proofs.skip.skip_guards.Reads as skip-guards
-use Rattle.read_values.proofs.skip.+skip_expr+skip_guards.Lts-skip_guards as skip-guards-lts
-use Rattle.read_values.proofs.skip.+skip_expr+skip_guards.{statement}
-use Rattle.read_values.proofs.skip.+skip_expr+skip_guards.Tie.{close}
-use Rattle.read_values.proofs.skip.+skip_expr+skip_guards.Proof.Cycle.{μ-skip-expr, μ-skip-guards, skip-expr-at, skip-guards-at, skip-expr-claims, skip-guards-claims}
-use Rattle.read_values.proofs.skip.+skip_expr+skip_guards.Proof.Expr as expr
-use Rattle.read_values.proofs.skip.+skip_expr+skip_guards.Proof.Guards as guards
+use Rattle.policy_places.proofs.skip.skip_expr.Reads as skip-expr
+use Rattle.policy_places.proofs.skip.+skip_expr+skip_guards.Lts-skip_expr as skip-expr-lts
+use Rattle.policy_places.proofs.skip.skip_guards.Reads as skip-guards
+use Rattle.policy_places.proofs.skip.+skip_expr+skip_guards.Lts-skip_guards as skip-guards-lts
+use Rattle.policy_places.proofs.skip.+skip_expr+skip_guards.{statement}
+use Rattle.policy_places.proofs.skip.+skip_expr+skip_guards.Tie.{close}
+use Rattle.policy_places.proofs.skip.+skip_expr+skip_guards.Proof.Cycle.{μ-skip-expr, μ-skip-guards, skip-expr-at, skip-guards-at, skip-expr-claims, skip-guards-claims}
+use Rattle.policy_places.proofs.skip.+skip_expr+skip_guards.Proof.Expr as expr
+use Rattle.policy_places.proofs.skip.+skip_expr+skip_guards.Proof.Guards as guards
 
 pub +skip-expr+skip-guards-spec : {M : Type 1} → statement M
 +skip-expr+skip-guards-spec = close μ-skip-expr μ-skip-guards (λ t. skip-expr-lts.spec (skip-expr-claims t)

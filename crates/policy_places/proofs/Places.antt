@@ -17,7 +17,7 @@ use Rattle.policy.specs.WellFormed.{FitSlots, Fit}
 use Rattle.policy.specs.Decode.{Code, isLeaf, isUnion, isDifference, isComprehension, codeOf, isNode}
 use Rattle.policy.proofs.LeafDecoding.{leaf-coded, no-node}
 use Rattle.policy.specs.Held.{termIs, Opening, drawOpens, absentOpens, sameOpens, differentOpens, guardIs, opens}
-use Rattle.read_values.specs.Places.{At, patternWords, StandsRow, StandsPattern, StandsLeaf, Stands, StandsBody, StandsTwo, StandsDraw, StandsAbsent, SomeRow, SomePattern, IsGuard}
+use Rattle.policy_places.specs.Places.{At, patternWords, StandsRow, StandsPattern, StandsLeaf, Stands, StandsBody, StandsTwo, StandsDraw, StandsAbsent, SomeRow, SomePattern, IsGuard}
 use Rattle.policy.specs.declared.Term as Held-term
 use Rattle.policy.specs.declared.Guard as Held-guard
 use Rattle.policy.specs.declared.Guard.the-variants.{Draw, Same, Different, Absent}

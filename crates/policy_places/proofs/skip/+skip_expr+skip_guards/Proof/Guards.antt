@@ -1,11 +1,11 @@
 -- The needs of `skip_guards`.
 use Prim.Native.Nat.{ℕ}
 use native.Mathlib.Omega.{arith}
-use Rattle.read_values.proofs.Places.{inside-body}
-use Rattle.read_values.proofs.Past.{some-head, past-head, some-operand, some-pattern, draw-rest, draw-after, past-draw, some-row, some-inner, inner-after, absent-rest, absent-after, past-absent, test-rest, past-test}
-use Rattle.read_values.proofs.skip.skip_guards.Reads as skip-guards
-use Rattle.read_values.proofs.skip.+skip_expr+skip_guards.Lts-skip_guards as skip-guards-lts
-use Rattle.read_values.proofs.skip.+skip_expr+skip_guards.Proof.Cycle.{skip-guards-at, skip-guards-claims}
+use Rattle.policy_places.proofs.Places.{inside-body}
+use Rattle.policy_places.proofs.Past.{some-head, past-head, some-operand, some-pattern, draw-rest, draw-after, past-draw, some-row, some-inner, inner-after, absent-rest, absent-after, past-absent, test-rest, past-test}
+use Rattle.policy_places.proofs.skip.skip_guards.Reads as skip-guards
+use Rattle.policy_places.proofs.skip.+skip_expr+skip_guards.Lts-skip_guards as skip-guards-lts
+use Rattle.policy_places.proofs.skip.+skip_expr+skip_guards.Proof.Cycle.{skip-guards-at, skip-guards-claims}
 
 pub skip-row-requires : (t : ℕ) → skip-guards-lts.Need-skip-row-requires (skip-guards-claims t) (skip-guards-at t) skip-guards.Post
 skip-row-requires t c κs = some-head (c .before .before .pre .1) (c .if1 .taken)

@@ -1,0 +1,4 @@
+pub mod Places
+pub mod Leaves
+pub mod Held
+pub mod Past
