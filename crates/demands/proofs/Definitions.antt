@@ -22,7 +22,7 @@ use Rattle.policy.specs.WellFormed.{Fit}
 use Rattle.policy.specs.Parse.{parse, parsed}
 use Rattle.policy.specs.Polarity.{Known, drawsClosed, Verdict}
 use Rattle.policy.specs.Table.{Entry, entryWords}
-use Rattle.policy.specs.Checking.{knownOf}
+use Rattle.policy.specs.Definitions.{knownOf}
 use Rattle.policy.proofs.Decoding.{parse-words, parse-fits}
 use Rattle.policy.proofs.Judging.{Accepted, none, one, entry-words}
 use Rattle.meaning.specs.Evidence.{Evidence}

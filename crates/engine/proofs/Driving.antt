@@ -12,7 +12,8 @@ use Rattle.policy.specs.Syntax.{Expr}
 use Rattle.policy.specs.Parse.{parse, parsed}
 use Rattle.policy.specs.Polarity.{Known, Verdict}
 use Rattle.policy.specs.Table.{Entry, entryAt, entryWords, table}
-use Rattle.policy.specs.Checking.{checked, check, knownOf}
+use Rattle.policy.specs.Definitions.{knownOf}
+use Rattle.policy.specs.Checking.{checked, check}
 use Rattle.policy.proofs.Judging.{AcceptedDefinition, Accepted, none, one, AcceptedPair, check-accepted}
 use Rattle.policy_table.specs.Entries.{entryPlace, entriesFrom}
 use Rattle.policy_table.proofs.PartAnswers.{table-sound, inside, Listed, listed-of, length-entries}

@@ -17,7 +17,9 @@ use Rattle.policy.specs.Parse as Parse
 use Rattle.policy.specs.Polarity.{Known, hasPolarity, drawsClosed, Verdict, exact, lower, upper}
 use Rattle.policy.specs.Table.{Entry, entryWords, Table, table, readTable}
 use Rattle.policy.specs.Table as Tables
-use Rattle.policy.specs.Checking.{Checked, checked, polarized, checkDefinition, checkQuery, verdictOf, knownOf, withDefinition, checkFrom, check}
+use Rattle.policy.specs.Definitions.{polarized, checkDefinition, knownOf, PolicyChecked, passed, pushDefinition, definitionsFrom, checkPolicy}
+use Rattle.policy.specs.Definitions as Definitions
+use Rattle.policy.specs.Checking.{Checked, checked, checkQuery, verdictOf, checkAfter, check}
 use Rattle.policy.specs.Checking as Checking
 use Rattle.policy.specs.Judgement.{verdict, refused, replyOf, judge}
 use Rattle.policy.proofs.Basics.{impossible}
@@ -60,18 +62,102 @@ polarized-parsed true false d e h = impossible cc
 polarized-parsed false closed d e h = impossible cc
 
 -- 3 to 7 passed
-passed : (fine closed : Expr → Bool) (p : Parsed) (e : Expr) →
+polarity-passed : (fine closed : Expr → Bool) (p : Parsed) (e : Expr) →
     (elim p as (λ c. Parsed) [ parsed d ↦ polarized (fine d) (closed d) d | Parse.refused n ↦ Parse.refused n ]) ≡ parsed e → (p ≡ parsed e) × T (fine e) × T (closed e)
-passed fine closed (parsed d) e h =
+polarity-passed fine closed (parsed d) e h =
     let t = polarized-parsed (fine d) (closed d) d e h in
     (ap parsed (t .0), subst (λ c. T (fine c)) (t .0) (t .1), subst (λ c. T (closed c)) (t .0) (t .2))
-passed fine closed (Parse.refused n) e h = impossible cc
+polarity-passed fine closed (Parse.refused n) e h = impossible cc
 
 definition-accepted : (policy : List ℕ) (ks : List Known) (x : Entry) (e : Expr) → checkDefinition policy ks x ≡ parsed e → AcceptedDefinition policy ks x e
 unfolding checkDefinition knownOf
 definition-accepted policy ks x e h =
-    let t = passed (λ d. hasPolarity d ks (polarityOf (x .polarity))) (λ d. drawsClosed d ks) (parse (length ks) (entryWords policy x)) e h in
+    let t = polarity-passed (λ d. hasPolarity d ks (polarityOf (x .polarity))) (λ d. drawsClosed d ks) (parse (length ks) (entryWords policy x)) e h in
     record { parses = t .0; has = t .1; closed = t .2 }
+
+-- what passes 3 to 7 is accepted, and back
+polarized-fine : (fine closed : Bool) (e : Expr) → T fine → T closed → polarized fine closed e ≡ parsed e
+unfolding polarized
+polarized-fine true true e t u = refl
+polarized-fine true false e t u = absurd u
+polarized-fine false closed e t u = absurd t
+
+definition-passes : (policy : List ℕ) (ks : List Known) (x : Entry) (e : Expr) → AcceptedDefinition policy ks x e → checkDefinition policy ks x ≡ parsed e
+unfolding checkDefinition knownOf
+definition-passes policy ks x e a =
+    subst (λ (p : Parsed). (elim p as (λ c. Parsed) [ parsed d ↦ polarized (hasPolarity d ks (polarityOf (x .polarity))) (drawsClosed d ks) d | Parse.refused n ↦ Parse.refused n ]) ≡ parsed e)
+    (sym (a .parses)) (polarized-fine (hasPolarity e ks (polarityOf (x .polarity))) (drawsClosed e ks) e (a .has) (a .closed))
+
+-- the definitions of a policy by itself
+
+-- one pushed in front of those that passed
+pub record Pushed (x : Entry) (e : Expr) (c : PolicyChecked) (xs : List Entry) (es : List Expr) (ls : List Known) : Type 0 where
+  pub entries : List Entry
+  pub exprs : List Expr
+  pub front : x ∷ entries ≡ xs
+  pub first : e ∷ exprs ≡ es
+  pub rest : c ≡ passed entries exprs ls
+
+push-passed : (x : Entry) (e : Expr) (c : PolicyChecked) (xs : List Entry) (es : List Expr) (ls : List Known) → pushDefinition x e c ≡ passed xs es ls → Pushed x e c xs es ls
+unfolding pushDefinition
+push-passed x e (passed ys fs ks) xs es ls h = record { entries = ys; exprs = fs; front = cc; first = cc; rest = cc }
+push-passed x e (Definitions.refused n part) xs es ls h = impossible cc
+
+none-passed : (ks ls : List Known) (ys : List Entry) (es : List Expr) → passed [] [] ks ≡ passed ys es ls → (ys ≡ []) × (es ≡ []) × (ks ≡ ls)
+none-passed ks ls ys es h = (cc, cc, cc)
+
+from-accepted : (policy : List ℕ) (xs : List Entry) (ks : List Known) (ys : List Entry) (es : List Expr) (ls : List Known) → definitionsFrom policy xs ks ≡ passed ys es ls →
+    (xs ≡ ys) × Accepted policy xs ks es ls
+unfolding definitionsFrom
+from-accepted policy [] ks ys es ls h =
+    let t = none-passed ks ls ys es h in
+    (sym (t .0), rw (t .1, ← (t .2)) (none))
+from-accepted policy (x ∷ xs) ks ys es ls h = go (λ l zs fs g. from-accepted policy xs l zs fs ls g) (checkDefinition policy ks x) refl h
+  where
+    go : ((l : List Known) (zs : List Entry) (fs : List Expr) → definitionsFrom policy xs l ≡ passed zs fs ls → (xs ≡ zs) × Accepted policy xs l fs ls) →
+        (p : Parsed) → checkDefinition policy ks x ≡ p →
+        (elim p as (λ c. PolicyChecked) [
+          | parsed e ↦ pushDefinition x e (definitionsFrom policy xs (ks ++ (knownOf x e ks ∷ [])))
+          | Parse.refused n ↦ Definitions.refused n (length ks)
+        ]) ≡ passed ys es ls → (x ∷ xs ≡ ys) × Accepted policy (x ∷ xs) ks es ls
+    go rest (parsed e) p f =
+        let t = push-passed x e (definitionsFrom policy xs (ks ++ (knownOf x e ks ∷ []))) ys es ls f in
+        let u = rest (ks ++ (knownOf x e ks ∷ [])) (t .entries) (t .exprs) (t .rest) in
+        (ap (λ (l : List Entry). x ∷ l) (u .0) ∙ t .front, subst (λ fs. Accepted policy (x ∷ xs) ks fs ls) (t .first) (one (definition-accepted policy ks x e p) (u .1)))
+    go rest (Parse.refused n) p f = impossible cc
+
+-- a policy that passed
+pub record AcceptedPolicy (policy : List ℕ) (xs : List Entry) (es : List Expr) (ls : List Known) : Type 0 where
+  pub listed : readTable policy ≡ table xs
+  pub definitions : Accepted policy xs [] es ls
+
+pub policy-accepted : (policy : List ℕ) (xs : List Entry) (es : List Expr) (ls : List Known) → checkPolicy policy ≡ passed xs es ls → AcceptedPolicy policy xs es ls
+unfolding checkPolicy
+policy-accepted policy xs es ls h = go (readTable policy) refl h
+  where
+    go : (t : Table) → readTable policy ≡ t → (elim t as (λ c. PolicyChecked) [ table ys ↦ definitionsFrom policy ys [] | Tables.refused n ↦ Definitions.refused n noPart ]) ≡ passed xs es ls →
+        AcceptedPolicy policy xs es ls
+    go (table ys) r f =
+        let t = from-accepted policy ys [] xs es ls f in
+        record { listed = r ∙ ap table (t .0); definitions = subst (λ zs. Accepted policy zs [] es ls) (t .0) (t .1) }
+    go (Tables.refused n) r f = impossible cc
+
+accepted-from : {policy : List ℕ} {xs : List Entry} {ks ls : List Known} {es : List Expr} → Accepted policy xs ks es ls → definitionsFrom policy xs ks ≡ passed xs es ls
+unfolding definitionsFrom pushDefinition
+accepted-from none = refl
+accepted-from {policy} (one {x = x} {xs = xs} {ks = ks} {ls = ls} {e = e} {es = es} a rest) =
+    subst (λ (p : Parsed). (elim p as (λ c. PolicyChecked) [
+      | parsed d ↦ pushDefinition x d (definitionsFrom policy xs (ks ++ (knownOf x d ks ∷ [])))
+      | Parse.refused n ↦ Definitions.refused n (length ks)
+    ]) ≡ passed (x ∷ xs) (e ∷ es) ls) (sym (definition-passes policy ks x e a)) (ap (pushDefinition x e) (accepted-from rest))
+
+pub accepted-passes : (policy : List ℕ) (xs : List Entry) (es : List Expr) (ls : List Known) → AcceptedPolicy policy xs es ls → checkPolicy policy ≡ passed xs es ls
+unfolding checkPolicy
+accepted-passes policy xs es ls a =
+    subst (λ (t : Table). (elim t as (λ c. PolicyChecked) [ table ys ↦ definitionsFrom policy ys [] | Tables.refused n ↦ Definitions.refused n noPart ]) ≡ passed xs es ls)
+    (sym (a .listed)) (accepted-from (a .definitions))
+
+-- a query
 
 verdict-exact : (a b : Bool) → verdictOf a b ≡ exact → T a × T b
 unfolding verdictOf
@@ -106,7 +192,7 @@ query-accepted ks query q h = go (leb 1 (length query) && leb (length query) 102
         ]) ≡ parsed q → AcceptedQuery ks query q (verdictOf (hasPolarity q ks plus) (hasPolarity q ks minus))
     go true b f =
         let l = T-and (leb 1 (length query)) (leb (length query) 1024) .0 (rw b tt) in
-        let t = passed (λ d. hasPolarity d ks plus || hasPolarity d ks minus) (λ d. drawsClosed d ks) (parse (length ks) query) q f in
+        let t = polarity-passed (λ d. hasPolarity d ks plus || hasPolarity d ks minus) (λ d. drawsClosed d ks) (parse (length ks) query) q f in
         record {
           some = leb→le 1 (length query) (l .0);
           few = leb→le (length query) 1024 (l .1);
@@ -118,66 +204,33 @@ query-accepted ks query q h = go (leb 1 (length query) && leb (length query) 102
         }
     go false b f = impossible cc
 
--- the query at the end
-end-accepted : (policy : List ℕ) (ks : List Known) (query : List ℕ) (es : List Expr) (q : Expr) (v : Verdict) → checkFrom policy [] ks query ≡ checked es q v →
-    (es ≡ []) × AcceptedQuery ks query q v
-unfolding checkFrom
-end-accepted policy ks query es q v h = go (checkQuery ks query) refl h
+-- the query after the definitions
+after-accepted : (fs : List Expr) (ks : List Known) (query : List ℕ) (es : List Expr) (q : Expr) (v : Verdict) → checkAfter fs ks query ≡ checked es q v →
+    (fs ≡ es) × AcceptedQuery ks query q v
+unfolding checkAfter
+after-accepted fs ks query es q v h = go (checkQuery ks query) refl h
   where
     go : (p : Parsed) → checkQuery ks query ≡ p →
-        (elim p as (λ c. Checked) [ parsed d ↦ checked [] d (verdictOf (hasPolarity d ks plus) (hasPolarity d ks minus)) | Parse.refused n ↦ Checking.refused n queryPart ]) ≡ checked es q v →
-        (es ≡ []) × AcceptedQuery ks query q v
+        (elim p as (λ c. Checked) [ parsed d ↦ checked fs d (verdictOf (hasPolarity d ks plus) (hasPolarity d ks minus)) | Parse.refused n ↦ Checking.refused n queryPart ]) ≡ checked es q v →
+        (fs ≡ es) × AcceptedQuery ks query q v
     go (parsed d) p f =
         let e : d ≡ q = cc in
         let w : verdictOf (hasPolarity q ks plus) (hasPolarity q ks minus) ≡ v = rw (← e) (cc) in
         (cc, rw w at (query-accepted ks query q (p ∙ ap parsed e)))
     go (Parse.refused n) p f = impossible cc
 
-with-checked : (e : Expr) (c : Checked) (es : List Expr) (q : Expr) (v : Verdict) → withDefinition e c ≡ checked es q v →
-    (fs : List Expr) × (e ∷ fs ≡ es) × (c ≡ checked fs q v)
-unfolding withDefinition
-with-checked e (checked fs r w) es q v h = (fs, cc, cc)
-with-checked e (Checking.refused n part) es q v h = impossible cc
-
--- one definition in front
-front-checked : (policy : List ℕ) (x : Entry) (xs : List Entry) (ks : List Known) (query : List ℕ) (es : List Expr) (q : Expr) (v : Verdict) →
-    checkFrom policy (x ∷ xs) ks query ≡ checked es q v →
-    (e : Expr) × (fs : List Expr) × (e ∷ fs ≡ es) × AcceptedDefinition policy ks x e × (checkFrom policy xs (ks ++ (knownOf x e ks ∷ [])) query ≡ checked fs q v)
-unfolding checkFrom
-front-checked policy x xs ks query es q v h = go (checkDefinition policy ks x) refl h
-  where
-    go : (p : Parsed) → checkDefinition policy ks x ≡ p →
-        (elim p as (λ c. Checked) [
-          | parsed e ↦ withDefinition e (checkFrom policy xs (ks ++ (knownOf x e ks ∷ [])) query)
-          | Parse.refused n ↦ Checking.refused n (length ks)
-        ]) ≡ checked es q v →
-        (e : Expr) × (fs : List Expr) × (e ∷ fs ≡ es) × AcceptedDefinition policy ks x e × (checkFrom policy xs (ks ++ (knownOf x e ks ∷ [])) query ≡ checked fs q v)
-    go (parsed e) p f =
-        let t = with-checked e (checkFrom policy xs (ks ++ (knownOf x e ks ∷ [])) query) es q v f in
-        (e, t .0, t .1, definition-accepted policy ks x e p, t .2)
-    go (Parse.refused n) p f = impossible cc
-
-from-accepted : (policy : List ℕ) (xs : List Entry) (ks : List Known) (query : List ℕ) (es : List Expr) (q : Expr) (v : Verdict) →
-    checkFrom policy xs ks query ≡ checked es q v → (ls : List Known) × Accepted policy xs ks es ls × AcceptedQuery ls query q v
-from-accepted policy [] ks query es q v h =
-    let t = end-accepted policy ks query es q v h in
-    (ks, subst (λ fs. Accepted policy [] ks fs ks) (sym (t .0)) none, t .1)
-from-accepted policy (x ∷ xs) ks query es q v h =
-    let t = front-checked policy x xs ks query es q v h in
-    let u = from-accepted policy xs (ks ++ (knownOf x (t .0) ks ∷ [])) query (t .1) q v (t .4) in
-    (u .0, subst (λ fs. Accepted policy (x ∷ xs) ks fs (u .0)) (t .2) (one (t .3) (u .1)), u .2)
-
--- what passes `check` is accepted, definition by definition, then the query
+-- what passes `check` is accepted, the policy and then the query
 pub check-accepted : (policy query : List ℕ) (es : List Expr) (q : Expr) (v : Verdict) → check policy query ≡ checked es q v → AcceptedPair policy query es q v
 unfolding check
-check-accepted policy query es q v h = go (readTable policy) refl h
+check-accepted policy query es q v h = go (checkPolicy policy) refl h
   where
-    go : (t : Table) → readTable policy ≡ t → (elim t as (λ c. Checked) [ table xs ↦ checkFrom policy xs [] query | Tables.refused n ↦ Checking.refused n noPart ]) ≡ checked es q v →
-        AcceptedPair policy query es q v
-    go (table xs) r f =
-        let t = from-accepted policy xs [] query es q v f in
-        record { entries = xs; known = t .0; listed = r; definitions = t .1; asked = t .2 }
-    go (Tables.refused n) r f = impossible cc
+    go : (c : PolicyChecked) → checkPolicy policy ≡ c →
+        (elim c as (λ d. Checked) [ passed xs fs ks ↦ checkAfter fs ks query | Definitions.refused n part ↦ Checking.refused n part ]) ≡ checked es q v → AcceptedPair policy query es q v
+    go (passed xs fs ks) c f =
+        let t = after-accepted fs ks query es q v f in
+        let a = policy-accepted policy xs es ks (rw (t .0) at c) in
+        record { entries = xs; known = ks; listed = a .listed; definitions = a .definitions; asked = t .1 }
+    go (Definitions.refused n part) c f = impossible cc
 
 -- `judge` tells just what `check` finds
 pub judge-checked : (policy query : List ℕ) (v : Verdict) → (judge policy query ≡ verdict v) ↔ ((es : List Expr) × (q : Expr) × (check policy query ≡ checked es q v))

@@ -7,3 +7,6 @@ pub mod Decoded
 pub mod Scope
 pub mod Judging
 pub mod Judged
+pub mod Placing
+pub mod Vetting
+pub mod Rewriting

@@ -10,8 +10,10 @@ pub mod Parsing
 pub mod Decoded
 pub mod Polarity
 pub mod Table
+pub mod Definitions
 pub mod Checking
 pub mod Judgement
 pub mod Judged
 pub mod Part
+pub mod External
 pub mod Held
