@@ -1,9 +1,11 @@
 // What holds no other expression, checked over its words: the leaves, and the head of a comprehension.
 ghost use Prim.Native.Nat.{_≤_};
 ghost use lib.ListN.{length, drop};
-ghost use Rattle.check_terms.specs.Answers.{Answers};
+ghost use Rattle.refusals.specs.RefusalTable.{notInScope};
+ghost use Rattle.policy.specs.Decode.{wordWhere};
+ghost use Rattle.check_terms.specs.Answers.{Answers, Follows, keeping, nothing, wordReadIs, passedIs};
 ghost use Rattle.check_polarity.specs.Earlier.{earlierIs};
-ghost use Rattle.check_leaves.specs.Checks.{checkingIs, noneInside, leafFacts, bodyFacts};
+ghost use Rattle.check_leaves.specs.Checks.{checkingIs, noneInside, below, issued, leafFacts, bodyFacts};
 use check_polarity::Earlier;
 use check_polarity::Facts;
 use check_polarity::of_terms;
@@ -17,6 +19,7 @@ use policy::CODE_COFINITE;
 use policy::CODE_DEFINITION;
 use policy::CODE_FINITE;
 use policy::CODE_NAME;
+use policy::CODE_VETTED;
 use rows::LAST_NAME;
 
 // The facts, the place of the next word and the draws met so far.
@@ -46,6 +49,20 @@ fn check_literal(
     }
 }
 
+// The number of an earlier definition, of which there are `count`.
+fn read_earlier(words: &[u32], at: usize, count: u32) -> WordRead
+    ensures { λ r. ⌜ Follows (now (words .entry)) at (wordReadIs at r) (wordWhere notInScope (below count)) ⌝ }
+{
+    if words.len() <= at {
+        return WordRead::Refused(refusals::BAD_WORD);
+    }
+    let d = words[at];
+    if count <= d {
+        return WordRead::Refused(refusals::NOT_IN_SCOPE);
+    }
+    WordRead::Found(d)
+}
+
 // An earlier definition.
 fn check_definition(
     words: &[u32],
@@ -57,43 +74,78 @@ fn check_definition(
     requires { ⌜ earlier .count ≤ 16 ⌝ }
     ensures { λ r. ⌜ Answers (now (words .entry)) at (checkingIs r) (leafFacts (earlierIs earlier) variables 3 (drop at (now (words .entry))) draws) ⌝ }
 {
-    if words.len() <= at {
-        return Checking::Refused(refusals::BAD_WORD);
+    match read_earlier(words, at, earlier.count) {
+        WordRead::Refused(n) => Checking::Refused(n),
+        WordRead::Found(d) => {
+            let i = d as usize;
+            let minus = earlier.minus[i];
+            let facts = Facts {
+                plus: !minus,
+                minus: minus,
+                open: earlier.open[i],
+                draws_closed: true,
+            };
+            Checking::Found(facts, at + 1, draws)
+        }
     }
-    let d = words[at];
-    if earlier.count <= d {
-        return Checking::Refused(refusals::NOT_IN_SCOPE);
+}
+
+// An issuer and a name, as codes 4 and 8 begin.
+fn pass_name(words: &[u32], at: usize, variables: u32) -> Passed
+    ensures { λ r. ⌜ Follows (now (words .entry)) at (passedIs r) (keeping nothing (issued variables)) ⌝ }
+{
+    match pass_issuer(words, at, variables) {
+        Passed::Refused(n) => Passed::Refused(n),
+        Passed::To(name) => match word_between(words, name, 0, LAST_NAME) {
+            WordRead::Refused(n) => Passed::Refused(n),
+            WordRead::Found(_) => Passed::To(name + 1),
+        },
     }
-    let i = d as usize;
-    let minus = earlier.minus[i];
-    let facts = Facts {
-        plus: !minus,
-        minus: minus,
-        open: earlier.open[i],
-        draws_closed: true,
-    };
-    Checking::Found(facts, at + 1, draws)
 }
 
 // A name: issuer, name, polarity.
 fn check_name(words: &[u32], at: usize, variables: u32, draws: u32, earlier: Earlier) -> Checking
     ensures { λ r. ⌜ Answers (now (words .entry)) at (checkingIs r) (leafFacts (earlierIs earlier) variables 4 (drop at (now (words .entry))) draws) ⌝ }
 {
-    match pass_issuer(words, at, variables) {
+    match pass_name(words, at, variables) {
         Passed::Refused(n) => Checking::Refused(n),
-        Passed::To(name) => match word_between(words, name, 0, LAST_NAME) {
+        Passed::To(next) => match word_between(words, next, 0, 1) {
             WordRead::Refused(n) => Checking::Refused(n),
-            WordRead::Found(_) => match word_between(words, name + 1, 0, 1) {
+            WordRead::Found(polarity) => {
+                let minus = polarity == 1;
+                let facts = Facts {
+                    plus: !minus,
+                    minus: minus,
+                    open: minus,
+                    draws_closed: true,
+                };
+                Checking::Found(facts, next + 1, draws)
+            }
+        },
+    }
+}
+
+// A name whose issuer is looked up: issuer, name, polarity +, the definition that the issuer is to be absent from.
+fn check_vetted(words: &[u32], at: usize, variables: u32, draws: u32, earlier: Earlier) -> Checking
+    requires { ⌜ earlier .count ≤ 16 ⌝ }
+    ensures { λ r. ⌜ Answers (now (words .entry)) at (checkingIs r) (leafFacts (earlierIs earlier) variables 8 (drop at (now (words .entry))) draws) ⌝ }
+{
+    match pass_name(words, at, variables) {
+        Passed::Refused(n) => Checking::Refused(n),
+        Passed::To(next) => match word_between(words, next, 0, 0) {
+            WordRead::Refused(n) => Checking::Refused(n),
+            WordRead::Found(_) => match read_earlier(words, next + 1, earlier.count) {
                 WordRead::Refused(n) => Checking::Refused(n),
-                WordRead::Found(polarity) => {
-                    let minus = polarity == 1;
+                WordRead::Found(d) => {
+                    // the more rows that definition has, the fewer this has: its − is this one's +
+                    let minus = earlier.minus[d as usize];
                     let facts = Facts {
-                        plus: !minus,
-                        minus: minus,
-                        open: minus,
+                        plus: minus,
+                        minus: false,
+                        open: false,
                         draws_closed: true,
                     };
-                    Checking::Found(facts, name + 2, draws)
+                    Checking::Found(facts, next + 2, draws)
                 }
             },
         },
@@ -123,6 +175,9 @@ pub fn check_leaf(
     }
     if code == CODE_NAME {
         return check_name(words, at, variables, draws, earlier);
+    }
+    if code == CODE_VETTED {
+        return check_vetted(words, at, variables, draws, earlier);
     }
     Checking::Refused(refusals::BAD_WORD)
 }

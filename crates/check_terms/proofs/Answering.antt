@@ -133,7 +133,7 @@ module _ (n v : ℕ) where
   no-next h l = rw (eq-eqb v n h, lt-leb v 15 l)
 
 -- a word that was read keeps the rule
-where-kept : (n : ℕ) (rule : ℕ → Bool) (us : List ℕ) (k w : ℕ) (vs : List ℕ) (j : ℕ) → wordWhere n rule us k ≡ got w vs j → rule w ≡ true
+pub where-kept : (n : ℕ) (rule : ℕ → Bool) (us : List ℕ) (k w : ℕ) (vs : List ℕ) (j : ℕ) → wordWhere n rule us k ≡ got w vs j → rule w ≡ true
 unfolding wordWhere
 where-kept n rule [] k w vs j e = impossible cc
 where-kept n rule (u ∷ us) k w vs j e = go (rule u) refl

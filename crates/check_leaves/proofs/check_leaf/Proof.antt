@@ -29,10 +29,17 @@ check-name-requires c κs = search needs
 returns-4 : tie.Need-returns-4
 returns-4 c = rw (c .before .if4 .taken) (c .check-name .ensures)
 
+check-vetted-requires : tie.Need-check-vetted-requires
+check-vetted-requires c κs = search needs
+
 returns-5 : tie.Need-returns-5
-returns-5 c =
-    let a = c .before .before .before .before .before .args in
-    leaf-none (a .variables) (a .draws) (earlierIs (a .earlier)) (a .code) (c .before .before .before .if1 .left) (c .before .before .if2 .left) (c .before .if3 .left) (c .if4 .left)
+returns-5 c = rw (c .before .if5 .taken) (c .check-vetted .ensures)
+
+returns-6 : tie.Need-returns-6
+returns-6 c =
+    let a = c .before .before .before .before .before .before .args in
+    leaf-none (a .variables) (a .draws) (earlierIs (a .earlier)) (a .code) (c .before .before .before .before .if1 .left) (c .before .before .before .if2 .left) (c .before .before .if3 .left)
+    (c .before .if4 .left) (c .if5 .left)
 
 pub check-leaf-spec : {M : Type 1} → statement M
 check-leaf-spec =
@@ -46,4 +53,6 @@ check-leaf-spec =
     returns-3
     check-name-requires
     returns-4
-    returns-5)
+    check-vetted-requires
+    returns-5
+    returns-6)
