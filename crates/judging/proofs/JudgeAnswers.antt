@@ -1,6 +1,6 @@
 -- The definitions in file order and the query, way out by way out.
 use Prim.Native.Nat.{ℕ, suc, _+_, _-_, _≤_, _<_}
-use mathlib.Core.Path.{_≡_, refl, sym, _∙_, ap}
+use mathlib.Core.Path.{_≡_, refl, sym, _∙_, ap, subst}
 use mathlib.Core.Bool.{true, false}
 use mathlib.Core.List.{List, [], _∷_, _++_}
 use native.Mathlib.Omega.{arith}
@@ -11,11 +11,13 @@ use Rattle.policy.specs.Syntax.{Expr}
 use Rattle.policy.specs.Parse.{Parsed, parsed}
 use Rattle.policy.specs.Parse as Parse
 use Rattle.policy.specs.Polarity.{Known, hasPolarity, openExpr, verdictWord}
-use Rattle.policy.specs.Table.{Entry, entryAt, entryWords, table, readTable}
+use Rattle.policy.specs.Table.{Entry, entryAt, entryWords, Table, table, readTable}
 use Rattle.policy.specs.Table as Tables
-use Rattle.policy.specs.Checking.{Checked, checked, checkDefinition, checkQuery, verdictOf, knownOf, withDefinition, checkFrom, check}
+use Rattle.policy.specs.Definitions.{checkDefinition, knownOf, PolicyChecked, passed, pushDefinition, definitionsFrom, checkPolicy}
+use Rattle.policy.specs.Definitions as Definitions
+use Rattle.policy.specs.Checking.{Checked, checked, checkQuery, verdictOf, checkAfter, check}
 use Rattle.policy.specs.Checking as Checking
-use Rattle.policy.specs.Judgement.{replyOf, judge}
+use Rattle.policy.specs.Judgement.{JudgementReply, replyOf, judge}
 use Rattle.policy.proofs.Basics.{impossible}
 use Rattle.policy_table.specs.Entries.{entryPlace, entriesFrom, tableIs}
 use Rattle.policy_table.specs.declared.TableRead.{TableRead}
@@ -28,7 +30,9 @@ use Rattle.check_polarity.specs.declared.Whole.{Whole}
 use Rattle.check_polarity.specs.declared.Whole.the-variants as whole
 use Rattle.check_polarity.proofs.EarlierAnswers.{known-count}
 use Rattle.judging.specs.Whole.{wholeFor, definitionParsed}
-use Rattle.judging.specs.Reply.{judgementFor}
+use Rattle.judging.specs.Reply.{JudgedAs, judgementFor}
+use Rattle.judging.specs.declared.PolicyJudgement.the-variants as policyJudgement
+use Rattle.judging.specs.declared.PolicyJudged.{PolicyJudged}
 use Rattle.judging.specs.declared.Judgement.the-variants as judgement
 
 -- the verdict
@@ -44,24 +48,27 @@ pub verdict-upper : (f : Facts) → f .plus ≡ false → 2 ≡ verdictWord (ver
 unfolding verdictWord verdictOf
 verdict-upper f a = rw a
 
--- the definitions from number d on are still to be judged
-pub record Judging (p q : List ℕ) (n d : ℕ) (x : Earlier) : Type 0 where
-  pub rest : judge p q ≡ replyOf (checkFrom p (entriesFrom (n - d) p (entryPlace d)) (earlierIs x) q)
+-- the definitions from number d on are still to be judged: what is then answered of them is answered of the policy
+pub record Judging (p : List ℕ) (n d : ℕ) (x : Earlier) : Type 0 where
+  pub rest : (r : PolicyJudged) → JudgedAs (definitionsFrom p (entriesFrom (n - d) p (entryPlace d)) (earlierIs x)) r → JudgedAs (checkPolicy p) r
   pub count : x .count ≡ d
   pub few : d ≤ n
 
-pub table-refused : (p q : List ℕ) {m : ℕ} {r : TableRead} → tableIs p r ≡ readTable p → r ≡ tableRead.Refused m → judgement.Refused m noPart ≡ judgementFor (judge p q)
-unfolding tableIs judge check replyOf judgementFor
-table-refused p q f e = sym (ap (λ t. judgementFor (replyOf (elim t as (λ c. Checked) [ table xs ↦ checkFrom p xs [] q | Tables.refused n ↦ Checking.refused n noPart ]))) (sym f ∙ ap (tableIs p) e))
+-- what the table comes to
+of-table : List ℕ → Table → PolicyChecked
+of-table p t = elim t [ table xs ↦ definitionsFrom p xs [] | Tables.refused n ↦ Definitions.refused n noPart ]
 
-pub none-judged : (p q : List ℕ) (n : ℕ) (x : Earlier) → table (entriesFrom n p 2) ≡ readTable p → x .count ≡ 0 → earlierIs x ≡ [] → Judging p q n 0 x
-unfolding judge check
-none-judged p q n x f c k =
-    let e : n ≡ n - 0 = omega arith in
+pub table-refused : (p : List ℕ) {m : ℕ} {t : TableRead} (r : PolicyJudged) → tableIs p t ≡ readTable p → t ≡ tableRead.Refused m → r .judgement ≡ policyJudgement.Refused m noPart →
+    JudgedAs (checkPolicy p) r
+unfolding tableIs checkPolicy JudgedAs of-table
+table-refused p r f e h = subst (λ t. JudgedAs (of-table p t) r) (sym (ap (tableIs p) e) ∙ f) h
+
+pub none-judged : (p : List ℕ) (n : ℕ) (x : Earlier) → table (entriesFrom n p 2) ≡ readTable p → x .count ≡ 0 → earlierIs x ≡ [] → Judging p n 0 x
+unfolding checkPolicy of-table
+none-judged p n x f c k =
+    let e : n - 0 ≡ n = omega arith in
     record {
-      rest =
-          ap (λ t. replyOf (elim t as (λ c. Checked) [ table xs ↦ checkFrom p xs [] q | Tables.refused n ↦ Checking.refused n noPart ])) (sym f)
-          ∙ (ap (λ ks. replyOf (checkFrom p (entriesFrom n p 2) ks q)) (sym k) ∙ ap (λ n. replyOf (checkFrom p (entriesFrom n p 2) (earlierIs x) q)) e);
+      rest = λ r h. subst (λ t. JudgedAs (of-table p t) r) f (rw (k, e) at h);
       count = c;
       few = omega arith;
     }
@@ -76,75 +83,118 @@ unfolding wholeFor
 whole-refused ks (parsed e) n t = impossible cc
 whole-refused ks (Parse.refused m) n t = cc
 
-reply-with : (e : Expr) (c : Checked) → replyOf (withDefinition e c) ≡ replyOf c
-unfolding withDefinition replyOf
-reply-with e (checked es q v) = refl
-reply-with e (Checking.refused n part) = refl
+-- a definition in front changes nothing of what is answered
+judged-with : (x : Entry) (e : Expr) (c : PolicyChecked) (r : PolicyJudged) → JudgedAs c r → JudgedAs (pushDefinition x e c) r
+unfolding pushDefinition JudgedAs
+judged-with x e (passed xs es ks) r h = h
+judged-with x e (Definitions.refused n part) r h = h
 
-module _ (p q : List ℕ) (n d : ℕ) (x : Earlier) (j : Judging p q n d x) where
+module _ (p : List ℕ) (n d : ℕ) (x : Earlier) (j : Judging p n d x) where
   ks : List Known
   ks = earlierIs x
-
-  known-d : length ks ≡ d
-  unfolding ks
-  known-d = known-count x ∙ j .count
 
   module _ (more : d < n) where
     this : Entry
     this = entryAt p (entryPlace d)
 
-    one-more : judge p q ≡ replyOf (checkFrom p (this ∷ entriesFrom (n - (d + 1)) p (entryPlace d + 4)) ks q)
-    unfolding entriesFrom this ks
-    one-more = let e : n - d ≡ suc (n - (d + 1)) = omega arith in j .rest ∙ ap (λ m. replyOf (checkFrom p (entriesFrom m p (entryPlace d)) (earlierIs x) q)) e
+    others : List Entry
+    others = entriesFrom (n - (d + 1)) p (entryPlace d + 4)
 
-    module _ {r : Whole} (g : r ≡ wholeFor (earlierIs x) (checkDefinition p (earlierIs x) (entryAt p (entryPlace d)))) where
-      pub judging-refused : {m : ℕ} → r ≡ whole.Refused m → judgement.Refused m d ≡ judgementFor (judge p q)
-      unfolding checkFrom replyOf judgementFor this ks
-      judging-refused {m} e =
-          let u = whole-refused (earlierIs x) (checkDefinition p (earlierIs x) (entryAt p (entryPlace d))) m (sym g ∙ e) in
-          sym (ap judgementFor (one-more ∙ ap (λ t. replyOf (elim t as (λ c. Checked) [
-            | parsed e ↦ withDefinition e (checkFrom p (entriesFrom (n - (d + 1)) p (entryPlace d + 4)) (earlierIs x ++ (knownOf (entryAt p (entryPlace d)) e (earlierIs x) ∷ [])) q)
-            | Parse.refused n ↦ Checking.refused n (length (earlierIs x))
-          ])) u) ∙ ap (judgement.Refused m) known-d)
+    -- what this definition comes to, and those after it
+    from-here : Parsed → PolicyChecked
+    from-here y = elim y [ parsed e ↦ pushDefinition this e (definitionsFrom p others (ks ++ (knownOf this e ks ∷ []))) | Parse.refused n ↦ Definitions.refused n (length ks) ]
 
-      pub definition-judged : {f : Facts} {y : Earlier} {w : ℕ} → r ≡ whole.Checked f → w ≡ entryAt p (entryPlace d) .polarity → y .count ≡ x .count + 1 → earlierIs y ≡ earlierIs x ++ (knownAs w (f .«open») ∷ []) → Judging p q n (d + 1) y
-      unfolding checkFrom knownOf knownAs factsFor this ks
-      definition-judged {f} {y} {w} e h c k =
+    one-more : {y : Parsed} → checkDefinition p ks this ≡ y → (r : PolicyJudged) → JudgedAs (from-here y) r → JudgedAs (checkPolicy p) r
+    unfolding entriesFrom definitionsFrom this ks others from-here
+    one-more h r t =
+        let e : suc (n - (d + 1)) ≡ n - d = omega arith in
+        j .rest r (subst (λ m. JudgedAs (definitionsFrom p (entriesFrom m p (entryPlace d)) (earlierIs x)) r) e (subst (λ y. JudgedAs (from-here y) r) (sym h) t))
+
+    module _ {w : Whole} (g : w ≡ wholeFor (earlierIs x) (checkDefinition p (earlierIs x) (entryAt p (entryPlace d)))) where
+      pub judging-refused : {m : ℕ} (r : PolicyJudged) → w ≡ whole.Refused m → r .judgement ≡ policyJudgement.Refused m d → JudgedAs (checkPolicy p) r
+      unfolding JudgedAs this ks from-here
+      judging-refused {m} r e h =
+          let l : length (earlierIs x) ≡ d = known-count x ∙ j .count in
+          one-more (whole-refused (earlierIs x) _ m (sym g ∙ e)) r (rw l (h))
+
+      pub definition-judged : {f : Facts} {y : Earlier} {v : ℕ} → w ≡ whole.Checked f → v ≡ entryAt p (entryPlace d) .polarity → y .count ≡ x .count + 1 →
+          earlierIs y ≡ earlierIs x ++ (knownAs v (f .«open») ∷ []) → Judging p n (d + 1) y
+      unfolding knownOf knownAs factsFor this ks others from-here
+      definition-judged {f} {y} {v} e h c k =
           let t = whole-parsed (earlierIs x) (checkDefinition p (earlierIs x) (entryAt p (entryPlace d))) f (sym g ∙ e) in
-          let z : entryPlace d + 4 ≡ entryPlace (d + 1) = omega arith in
+          let z : entryPlace (d + 1) ≡ entryPlace d + 4 = omega arith in
           let o : openExpr (t .0) (earlierIs x) ≡ f .«open» = ap (λ f. f .«open») (t .2) in
-          let v : earlierIs x ++ (knownOf (entryAt p (entryPlace d)) (t .0) (earlierIs x) ∷ []) ≡ earlierIs y = ap (λ k. earlierIs x ++ (k ∷ [])) (rw (o, ← h) refl) ∙ sym k in
+          let known : earlierIs y ≡ earlierIs x ++ (knownOf (entryAt p (entryPlace d)) (t .0) (earlierIs x) ∷ []) = k ∙ ap (λ k. earlierIs x ++ (k ∷ [])) (rw (o, h) refl) in
           record {
-            rest =
-                one-more
-                ∙ (ap (λ u. replyOf (elim u as (λ c. Checked) [
-                  | parsed e ↦ withDefinition e (checkFrom p (entriesFrom (n - (d + 1)) p (entryPlace d + 4)) (earlierIs x ++ (knownOf (entryAt p (entryPlace d)) e (earlierIs x) ∷ [])) q)
-                  | Parse.refused n ↦ Checking.refused n (length (earlierIs x))
-                ])) (t .1)
-                ∙ (reply-with (t .0) _
-                ∙ (ap (λ a. replyOf (checkFrom p (entriesFrom (n - (d + 1)) p a) (earlierIs x ++ (knownOf (entryAt p (entryPlace d)) (t .0) (earlierIs x) ∷ [])) q)) z
-                ∙ ap (λ ks. replyOf (checkFrom p (entriesFrom (n - (d + 1)) p (entryPlace (d + 1))) ks q)) v)));
+            rest = λ r s. one-more (t .1) r (judged-with this (t .0) _ r (rw (z, known) at s));
             count = omega (arith, j .count);
             few = omega arith;
           }
 
-  module _ (done : n ≤ d) {r : Whole} (g : r ≡ wholeFor (earlierIs x) (checkQuery (earlierIs x) q)) where
-    at-query : {y : Parsed} → checkQuery (earlierIs x) q ≡ y → judge p q ≡ replyOf (elim y [ parsed e ↦ checked [] e (verdictOf (hasPolarity e (earlierIs x) plus) (hasPolarity e (earlierIs x) minus)) | Parse.refused n ↦ Checking.refused n queryPart ])
-    unfolding entriesFrom checkFrom
-    at-query h =
-        let e : n - d ≡ 0 = omega arith in
-        j .rest ∙ (ap (λ m. replyOf (checkFrom p (entriesFrom m p (entryPlace d)) (earlierIs x) q)) e
-        ∙ ap (λ y. replyOf (elim y as (λ c. Checked) [ parsed e ↦ checked [] e (verdictOf (hasPolarity e (earlierIs x) plus) (hasPolarity e (earlierIs x) minus)) | Parse.refused n ↦ Checking.refused n queryPart ])) h)
+  pub all-judged : (r : PolicyJudged) → n ≤ d → n ≤ 16 → r .judgement ≡ policyJudgement.Passed → r .earlier ≡ x → JudgedAs (checkPolicy p) r
+  unfolding entriesFrom definitionsFrom JudgedAs
+  all-judged r done few h e =
+      let z : 0 ≡ n - d = omega arith in
+      let c = j .count in
+      j .rest r (subst (λ m. JudgedAs (definitionsFrom p (entriesFrom m p (entryPlace d)) (earlierIs x)) r) z
+      (record { judged = h; known = ap earlierIs e; few = subst (λ (y : Earlier). y .count ≤ 16) (sym e) (omega (arith, j .few)) }))
 
-    pub query-unjudged : {m : ℕ} → r ≡ whole.Refused m → judgement.Refused m queryPart ≡ judgementFor (judge p q)
-    unfolding replyOf judgementFor
-    query-unjudged {m} e = sym (ap judgementFor (at-query (whole-refused (earlierIs x) (checkQuery (earlierIs x) q) m (sym g ∙ e))))
+-- ---- the query
 
-    pub query-judged : {f : Facts} {v : ℕ} → r ≡ whole.Checked f → v ≡ verdictWord (verdictOf (f .plus) (f .minus)) → judgement.Verdict v ≡ judgementFor (judge p q)
-    unfolding replyOf judgementFor factsFor
-    query-judged {f} {v} e h =
-        let t = whole-parsed (earlierIs x) (checkQuery (earlierIs x) q) f (sym g ∙ e) in
-        sym (ap judgementFor (at-query (t .1)) ∙ ap judgement.Verdict (ap (λ f. verdictWord (verdictOf (f .plus) (f .minus))) (t .2) ∙ sym h))
+-- what the policy comes to, with the query
+with-query : List ℕ → PolicyChecked → JudgementReply
+with-query q c = replyOf (elim c [ passed xs es ks ↦ checkAfter es ks q | Definitions.refused n part ↦ Checking.refused n part ])
+
+-- a policy that passed: what is known of its definitions
+record Passing (p : List ℕ) (r : PolicyJudged) : Type 0 where
+  entries : List Entry
+  exprs : List Expr
+  passes : checkPolicy p ≡ passed entries exprs (earlierIs (r .earlier))
+  few : r .earlier .count ≤ 16
+
+policy-passing : (p : List ℕ) (r : PolicyJudged) → JudgedAs (checkPolicy p) r → r .judgement ≡ policyJudgement.Passed → Passing p r
+unfolding JudgedAs
+policy-passing p r h e = go (checkPolicy p) refl h
+  where
+    go : (c : PolicyChecked) → checkPolicy p ≡ c → JudgedAs c r → Passing p r
+    go (passed xs es ks) c t = record { entries = xs; exprs = es; passes = rw (t .known) c; few = t .few }
+    go (Definitions.refused n part) c t = impossible cc
+
+module _ (p q : List ℕ) (r : PolicyJudged) (h : JudgedAs (checkPolicy p) r) where
+  pub policy-refused : {n part : ℕ} → r .judgement ≡ policyJudgement.Refused n part → judgement.Refused n part ≡ judgementFor (judge p q)
+  unfolding JudgedAs judge check replyOf judgementFor with-query
+  policy-refused {n} {part} e = go (checkPolicy p) h
+    where
+      go : (c : PolicyChecked) → JudgedAs c r → judgement.Refused n part ≡ judgementFor (with-query q c)
+      go (passed xs es ks) t = let u = t .judged in impossible cc
+      go (Definitions.refused m k) t = let a : n ≡ m = cc in let b : part ≡ k = cc in rw (a, b)
+
+  module _ (e : r .judgement ≡ policyJudgement.Passed) where
+    pub known-few : r .earlier .count ≤ 16
+    known-few = policy-passing p r h e .few
+
+    module _ {w : Whole} (g : w ≡ wholeFor (earlierIs (r .earlier)) (checkQuery (earlierIs (r .earlier)) q)) where
+      at-query : {y : Parsed} → checkQuery (earlierIs (r .earlier)) q ≡ y → (es : List Expr) × (judge p q ≡ replyOf (elim y [
+        | parsed e ↦ checked es e (verdictOf (hasPolarity e (earlierIs (r .earlier)) plus) (hasPolarity e (earlierIs (r .earlier)) minus))
+        | Parse.refused n ↦ Checking.refused n queryPart
+      ]))
+      unfolding judge check checkAfter with-query
+      at-query y =
+          let t = policy-passing p r h e in
+          (t .exprs, ap (with-query q) (t .passes) ∙ ap (λ y. replyOf (elim y as (λ c. Checked) [
+            | parsed e ↦ checked (t .exprs) e (verdictOf (hasPolarity e (earlierIs (r .earlier)) plus) (hasPolarity e (earlierIs (r .earlier)) minus))
+            | Parse.refused n ↦ Checking.refused n queryPart
+          ])) y)
+
+      pub query-unjudged : {m : ℕ} → w ≡ whole.Refused m → judgement.Refused m queryPart ≡ judgementFor (judge p q)
+      unfolding replyOf judgementFor
+      query-unjudged {m} e = sym (ap judgementFor (at-query (whole-refused _ _ m (sym g ∙ e)) .1))
+
+      pub query-judged : {f : Facts} {v : ℕ} → w ≡ whole.Checked f → v ≡ verdictWord (verdictOf (f .plus) (f .minus)) → judgement.Verdict v ≡ judgementFor (judge p q)
+      unfolding replyOf judgementFor factsFor
+      query-judged {f} {v} e h =
+          let t = whole-parsed _ _ f (sym g ∙ e) in
+          sym (ap judgementFor (at-query (t .1) .1) ∙ ap judgement.Verdict (ap (λ f. verdictWord (verdictOf (f .plus) (f .minus))) (t .2) ∙ sym h))
 
 pub entry-judged : (p : List ℕ) (ks : List Known) (x : Entry) {r : Whole} {w : ℕ} {ws : List ℕ} → r ≡ wholeFor ks (definitionParsed ks w ws) → w ≡ x .polarity → ws ≡ entryWords p x → r ≡ wholeFor ks (checkDefinition p ks x)
 unfolding definitionParsed checkDefinition

@@ -14,7 +14,8 @@ use Rattle.policy.specs.Parse.{Parsed, parsed, noneLeft, parse}
 use Rattle.policy.specs.Parse as Parse
 use Rattle.policy.specs.Decode.{Read, got, refused, expr}
 use Rattle.policy.specs.Polarity.{Known, hasPolarity, drawsClosed}
-use Rattle.policy.specs.Checking.{polarized, checkQuery}
+use Rattle.policy.specs.Definitions.{polarized}
+use Rattle.policy.specs.Checking.{checkQuery}
 use Rattle.policy.proofs.Basics.{impossible}
 use Rattle.check_terms.specs.Answers.{Answers, kept, keeping}
 use Rattle.check_terms.proofs.Answering.{word-here, no-word}

@@ -1,8 +1,27 @@
 -- What the code answers with each judgement.
-use Rattle.policy.specs.Polarity.{verdictWord}
+use Prim.Native.Nat.{_≤_}
+use mathlib.Core.Path.{_≡_}
+use mathlib.Core.List.{List}
+use Rattle.policy.specs.Polarity.{Known, verdictWord}
+use Rattle.policy.specs.Definitions.{PolicyChecked, passed}
+use Rattle.policy.specs.Definitions as Definitions
 use Rattle.policy.specs.Judgement.{JudgementReply, verdict, refused}
+use Rattle.check_polarity.specs.Earlier.{earlierIs}
+use Rattle.judging.specs.declared.PolicyJudgement.the-variants as policyJudgement
+use Rattle.judging.specs.declared.PolicyJudged.{PolicyJudged}
 use Rattle.judging.specs.declared.Judgement.{Judgement}
 use Rattle.judging.specs.declared.Judgement.the-variants as judgement
+
+-- of a policy by itself: of one that passed, what is known of its definitions
+pub record PolicyPassed (ks : List Known) (r : PolicyJudged) : Type 0 where
+  pub judged : r .judgement ≡ policyJudgement.Passed
+  pub known : earlierIs (r .earlier) ≡ ks
+  pub few : r .earlier .count ≤ 16
+
+unfoldable pub JudgedAs : PolicyChecked → PolicyJudged → Type 0
+unfolding earlierIs
+JudgedAs (passed xs es ks) r = PolicyPassed ks r
+JudgedAs (Definitions.refused n part) r = r .judgement ≡ policyJudgement.Refused n part
 
 unfoldable pub judgementFor : JudgementReply → Judgement
 unfolding verdictWord

@@ -5,7 +5,7 @@ use lib.ListN.{length}
 use Rattle.rows.specs.Name.{polarityOf}
 use Rattle.policy.specs.Parse.{Parsed, parsed, refused, parse}
 use Rattle.policy.specs.Polarity.{Known, hasPolarity, drawsClosed}
-use Rattle.policy.specs.Checking.{polarized}
+use Rattle.policy.specs.Definitions.{polarized}
 use Rattle.check_polarity.specs.Facts.{factsFor}
 use Rattle.check_polarity.specs.declared.Whole.{Whole}
 use Rattle.check_polarity.specs.declared.Whole.the-variants as whole

@@ -5,12 +5,13 @@ ghost use lib.ListN.{length};
 ghost use Rattle.policy.specs.Polarity.{verdictWord};
 ghost use Rattle.policy.specs.Table.{entryAt, table, readTable};
 ghost use Rattle.policy.specs.Parse.{parse};
-ghost use Rattle.policy.specs.Checking.{checkDefinition, checkQuery, verdictOf};
+ghost use Rattle.policy.specs.Definitions.{checkDefinition, checkPolicy};
+ghost use Rattle.policy.specs.Checking.{checkQuery, verdictOf};
 ghost use Rattle.policy.specs.Judgement.{judge};
 ghost use Rattle.policy_table.specs.Entries.{entryPlace, entriesFrom};
 ghost use Rattle.check_polarity.specs.Earlier.{earlierIs};
 ghost use Rattle.judging.specs.Whole.{wholeFor, definitionParsed};
-ghost use Rattle.judging.specs.Reply.{judgementFor};
+ghost use Rattle.judging.specs.Reply.{JudgedAs, judgementFor};
 use check_expressions::check_expr;
 use check_leaves::Checking;
 use check_polarity::Earlier;
@@ -34,6 +35,17 @@ const MOST_QUERY_WORDS: usize = 1024;
 pub enum Judgement {
     Verdict(u32),
     Refused { number: u32, part: u32 },
+}
+
+pub enum PolicyJudgement {
+    Passed,
+    Refused { number: u32, part: u32 },
+}
+
+// A policy's judgement, and what is known of the definitions that passed.
+pub struct PolicyJudged {
+    pub judgement: PolicyJudgement,
+    pub earlier: Earlier,
 }
 
 // A definition's or a query's words, and none left over.
@@ -102,10 +114,10 @@ fn judge_entry(policy: &[u32], i: usize, earlier: Earlier) -> Whole
     judge_definition(definition_words(policy, i), polarity, earlier)
 }
 
-// The definitions in file order, each through 3 to 7 before the next, then the query.
-fn judge_all(policy: &[u32], query: &[u32], count: u32) -> Judgement
+// The definitions in file order, each through 3 to 7 before the next.
+fn judge_definitions(policy: &[u32], count: u32) -> PolicyJudged
     requires { ⌜ table (entriesFrom count (now policy) 2) ≡ readTable (now policy) ⌝ }
-    ensures { λ r. ⌜ r ≡ judgementFor (judge (now (policy .entry)) (now (query .entry))) ⌝ }
+    ensures { λ r. ⌜ JudgedAs (checkPolicy (now (policy .entry))) r ⌝ }
 {
     let mut earlier = none_earlier();
     let mut next: u32 = 0;
@@ -115,31 +127,52 @@ fn judge_all(policy: &[u32], query: &[u32], count: u32) -> Judgement
         next += 1;
         match judge_entry(policy, i, earlier) {
             Whole::Refused(number) => {
-                return Judgement::Refused { number, part };
+                return PolicyJudged {
+                    judgement: PolicyJudgement::Refused { number, part },
+                    earlier,
+                };
             }
             Whole::Checked(facts) => {
                 earlier = with_definition(earlier, policy[entry_place(i) + 1], facts.open);
             }
         }
     }
-    match judge_query(query, earlier) {
-        Whole::Refused(number) => Judgement::Refused {
-            number,
-            part: refusals::QUERY_PART,
-        },
-        Whole::Checked(facts) => Judgement::Verdict(verdict(facts)),
+    PolicyJudged {
+        judgement: PolicyJudgement::Passed,
+        earlier,
     }
 }
 
-// The verdict of a query under a policy, or the refusal: 1 and 2 for the table, then 3 to 7 for each definition and the query.
+// A policy by itself: 1 and 2 for the table, then 3 to 7 for each definition.
+pub fn judge_policy(policy: &[u32]) -> PolicyJudged
+    ensures { λ r. ⌜ JudgedAs (checkPolicy (now (policy .entry))) r ⌝ }
+{
+    match read_table(policy) {
+        TableRead::Refused(number) => PolicyJudged {
+            judgement: PolicyJudgement::Refused {
+                number,
+                part: refusals::NO_PART,
+            },
+            earlier: none_earlier(),
+        },
+        TableRead::Sound(count) => judge_definitions(policy, count),
+    }
+}
+
+// The verdict of a query under a policy, or the refusal: the policy's, then the query's.
 pub fn judge(policy: &[u32], query: &[u32]) -> Judgement
     ensures { λ r. ⌜ r ≡ judgementFor (judge (now (policy .entry)) (now (query .entry))) ⌝ }
 {
-    match read_table(policy) {
-        TableRead::Refused(number) => Judgement::Refused {
-            number,
-            part: refusals::NO_PART,
+    let judged = judge_policy(policy);
+    let judgement = judged.judgement;
+    match judgement {
+        PolicyJudgement::Refused { number, part } => Judgement::Refused { number, part },
+        PolicyJudgement::Passed => match judge_query(query, judged.earlier) {
+            Whole::Refused(number) => Judgement::Refused {
+                number,
+                part: refusals::QUERY_PART,
+            },
+            Whole::Checked(facts) => Judgement::Verdict(verdict(facts)),
         },
-        TableRead::Sound(count) => judge_all(policy, query, count),
     }
 }

@@ -1,24 +1,24 @@
--- The invariant: the definitions left and the query, judged from here, come to what the whole comes to.
+-- The invariant: what is answered of the definitions left is answered of the policy.
 use Prim.Native.Nat.{_+_, _-_}
-use mathlib.Core.Path.{_≡_, _∙_, ap}
+use mathlib.Core.Path.{_≡_, refl, _∙_, ap}
 use native.Mathlib.Omega.{arith}
 use lib.ListN.{getD}
 use Rattle.policy.specs.Table.{entryAt}
 use Rattle.policy_table.specs.Entries.{entryPlace}
-use Rattle.policy.specs.Checking.{checkDefinition}
+use Rattle.policy.specs.Definitions.{checkDefinition}
 use Rattle.check_polarity.specs.Earlier.{earlierIs}
 use Rattle.judging.specs.Whole.{wholeFor}
 use Rattle.policy_table.proofs.PartAnswers.{Listed, listed-of}
-use Rattle.judging.proofs.JudgeAnswers.{Judging, none-judged, judging-refused, definition-judged, query-unjudged, query-judged}
+use Rattle.judging.proofs.JudgeAnswers.{Judging, none-judged, judging-refused, definition-judged, all-judged}
 use borrow.Author.Needs.{needs}
-use Rattle.judging.proofs.judge_all.Statement.{statement}
-use Rattle.judging.proofs.judge_all.Tie as tie
+use Rattle.judging.proofs.judge_definitions.Statement.{statement}
+use Rattle.judging.proofs.judge_definitions.Tie as tie
 
 abbrev Inv-loop : tie.InvT-loop
-Inv-loop policy query count earlier₀ next₀ earlier next = Judging policy query count next earlier
+Inv-loop policy count earlier₀ next₀ earlier next = Judging policy count next earlier
 
 abbrev μ-loop : tie.MeasureT-loop
-μ-loop policy query count earlier₀ next₀ earlier next = count - next
+μ-loop policy count earlier₀ next₀ earlier next = count - next
 
 -- ---- places
 
@@ -29,7 +29,7 @@ abbrev Judged : Type 0
 Judged = tie.After-judge-entry Inv-loop μ-loop
 
 abbrev entry : Loop → tie.Start Inv-loop μ-loop
-entry l = l .before .before .before .before
+entry l = l .before .before .before
 
 -- the table lists so many entries, and their parts lie in the policy
 entries : (l : Loop) → Listed (entry l .args .policy .now) (entry l .args .count)
@@ -51,9 +51,9 @@ next-judged j =
 
 loop-holds : tie.Need-loop-holds Inv-loop μ-loop
 loop-holds c =
-    let start = c .before .before .before in
+    let start = c .before .before in
     let a = start .args in
-    none-judged (a .policy .now) (a .query .now) (a .count) _ (start .pre) (c .none-earlier .ensures .0) (c .none-earlier .ensures .1)
+    none-judged (a .policy .now) (a .count) _ (start .pre) (c .none-earlier .ensures .0) (c .none-earlier .ensures .1)
 
 add-next : tie.Need-add-next Inv-loop μ-loop
 add-next c = omega (arith, c .before .loop-test .taken, entries (c .before .before) .few)
@@ -75,7 +75,8 @@ returns c =
     let j = c .before .before .before in
     let l = again j in
     let a = entry l .args in
-    judging-refused (a .policy .now) (a .query .now) (a .count) (l .loop .next) (l .loop .earlier) (l .loop .inv) (j .before .before .loop-test .taken) (next-judged j) (c .before .number .given .1)
+    judging-refused (a .policy .now) (a .count) (l .loop .next) (l .loop .earlier) (l .loop .inv) (j .before .before .loop-test .taken) (next-judged j) _
+    (c .before .number .given .1) refl
 
 entry-place-requires : tie.Need-entry-place-requires Inv-loop μ-loop
 entry-place-requires c κs =
@@ -112,31 +113,19 @@ loop-again c =
     let j = place .before .before .before .before in
     let l = again j in
     let a = entry l .args in
-    definition-judged (a .policy .now) (a .query .now) (a .count) (l .loop .next) (l .loop .earlier) (l .loop .inv) (j .before .before .loop-test .taken) (next-judged j)
+    definition-judged (a .policy .now) (a .count) (l .loop .next) (l .loop .earlier) (l .loop .inv) (j .before .before .loop-test .taken) (next-judged j)
     (c .before .before .before .before .facts .given .1)
     (ap (λ o. getD (a .policy .now) (o + 1) 0) (place .entry-place .ensures ∙ ap (λ i. entryPlace i) (j .before .wide .ensures)))
     (c .with-definition .ensures .0) (c .with-definition .ensures .1)
 
-judge-query-requires : tie.Need-judge-query-requires Inv-loop μ-loop
-judge-query-requires c κs = let l = c .before in omega (arith, l .loop .inv .count, l .loop .inv .few, entries l .few)
-
 returns-2 : tie.Need-returns-2 Inv-loop μ-loop
 returns-2 c =
-    let q = c .before .before .before in
-    let l = q .before .before in
+    let l = c .before in
     let a = entry l .args in
-    query-unjudged (a .policy .now) (a .query .now) (a .count) (l .loop .next) (l .loop .earlier) (l .loop .inv) (q .before .loop-test .left) (q .judge-query .ensures) (c .before .number2 .given .1)
+    all-judged (a .policy .now) (a .count) (l .loop .next) (l .loop .earlier) (l .loop .inv) _ (c .loop-test .left) (entries l .few) refl refl
 
-returns-3 : tie.Need-returns-3 Inv-loop μ-loop
-returns-3 c =
-    let q = c .before .before .before .before in
-    let l = q .before .before in
-    let a = entry l .args in
-    query-judged (a .policy .now) (a .query .now) (a .count) (l .loop .next) (l .loop .earlier) (l .loop .inv) (q .before .loop-test .left) (q .judge-query .ensures) (c .before .before .facts2 .given .1)
-    (c .verdict .ensures)
-
-pub judge-all-spec : {M : Type 1} → statement M
-judge-all-spec =
+pub judge-definitions-spec : {M : Type 1} → statement M
+judge-definitions-spec =
     tie.close
     (tie.spec
     Inv-loop
@@ -156,9 +145,4 @@ judge-all-spec =
     with-definition-requires
     loop-less
     loop-again
-    judge-query-requires
-    (λ c. search needs)
-    (λ c. search needs)
-    (λ c κs. search needs)
-    returns-2
-    returns-3)
+    returns-2)
