@@ -55,11 +55,11 @@ module _ {f : From} {ws : List ℕ} {at : ℕ} {values : List ℕ} {count : ℕ}
 
 -- ---- a literal: its code is one more than the form of its set
 
-module _ {ws : List ℕ} {at : ℕ} (d : getD ws at 0 ≡ 3 → ⊥) (l : getD ws at 0 ≡ 4 → ⊥) where
+module _ {ws : List ℕ} {at : ℕ} (d : getD ws at 0 ≡ 3 → ⊥) (l : getD ws at 0 ≡ 4 → ⊥) (v : getD ws at 0 ≡ 8 → ⊥) where
   pub literal-code : SomeLeaf ws at → (1 ≤ getD ws at 0) × (getD ws at 0 ≤ 2)
   unfolding leafWords leafCode
   literal-code x =
-      on-rows (λ y. StandsLeaf (x .m) (x .n) ws at y → (1 ≤ getD ws at 0) × (getD ws at 0 ≤ 2)) (x .here) d l
+      on-rows (λ y. StandsLeaf (x .m) (x .n) ws at y → (1 ≤ getD ws at 0) × (getD ws at 0 ≤ 2)) (x .here) d l v
       (λ rs s. let c = at-word (s .words) in (omega arith, omega arith)) (λ rs s. let c = at-word (s .words) in (omega arith, omega arith)) (x .here)
 
   pub leaf-rows : {f : From} {vs : Values} {k : ℕ} {area : List ℕ} → SayRows ws (at + 1) (getD ws at 0 - 1) vs area → SayLeaf f ws at vs k (Done k) area
@@ -67,7 +67,7 @@ module _ {ws : List ℕ} {at : ℕ} (d : getD ws at 0 ≡ 3 → ⊥) (l : getD w
   leaf-rows {f} {vs} {k} {area} s = record {
     filled = s .filled;
     means = λ n x h.
-        on-rows (λ y. StandsLeaf (f .known) n ws at y → readLeaf (names f) (sets f) y vs k ≡ done (setIn area) k) h d l
+        on-rows (λ y. StandsLeaf (f .known) n ws at y → readLeaf (names f) (sets f) y vs k ≡ done (setIn area) k) h d l v
         (λ rs g. let e : 0 ≡ getD ws at 0 - 1 = omega (arith, at-word (g .words)) in ap (λ (i : ℕ). small (formed i (rowsOf vs rs)) k) e ∙ s .means n rs (in-finite g) k)
         (λ rs g. let e : 1 ≡ getD ws at 0 - 1 = omega (arith, at-word (g .words)) in ap (λ (i : ℕ). small (formed i (rowsOf vs rs)) k) e ∙ s .means n rs (in-cofinite g) k) h;
   }

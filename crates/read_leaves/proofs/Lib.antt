@@ -1,2 +1,3 @@
-pub mod Literals
 pub mod ByCode
+pub mod Literals
+pub mod Vetted

@@ -1,13 +1,14 @@
 -- What the readers of leaves ask and say, of whatever stands in the words.
 use Prim.Native.Nat.{ℕ}
 use mathlib.Core.Path.{_≡_}
-use mathlib.Core.List.{List, []}
+use mathlib.Core.Bool.{Bool}
+use mathlib.Core.List.{List, [], _∷_}
 use lib.ListN.{getD}
 use Rattle.rows.specs.Sets.{only, has}
 use Rattle.rows.specs.Layout.{formed, setIn}
-use Rattle.policy.specs.Leaf.{Leaf}
+use Rattle.policy.specs.Leaf.{Leaf, vetted}
 use Rattle.policy.specs.Syntax.{Term}
-use Rattle.meaning.specs.Values.{Values, rowOf}
+use Rattle.meaning.specs.Values.{Values, value, rowOf}
 use Rattle.meaning.specs.Reading.{done, after, small, rowsOf, readLeaf}
 use Rattle.read_values.specs.Values.{Bound}
 use Rattle.policy_places.specs.Places.{StandsLeaf, StandsRow, StandsRows}
@@ -25,6 +26,10 @@ pub record SayRows (ws : List ℕ) (at form : ℕ) (vs : Values) (area : List �
 pub record SayDefinition (known d : ℕ) (defs set : List ℕ) : Type 0 where
   pub filled : Filled set
   pub means : setIn set ≡ getD (setsIn known defs) d (only [])
+
+-- whether the one-atom row of the issuer of the code 8 that stands there belongs to its definition
+pub record SayAmong (known : ℕ) (defs ws : List ℕ) (at : ℕ) (vs : Values) (r : Bool) : Type 0 where
+  pub means : (n : ℕ) (t : Term) (m d : ℕ) → StandsLeaf known n ws at (vetted t m d) → has (getD (setsIn known defs) d (only [])) (value vs t ∷ []) ≡ r
 
 -- some leaf stands there
 pub record AskLeaf (f : From) (ws : List ℕ) (at : ℕ) (values : List ℕ) (count : ℕ) : Type 0 where

@@ -1,15 +1,18 @@
-// The expressions that hold no other, read: the rows of a literal, an earlier definition, a name. The readers of expressions call one function for all of them.
-ghost use Prim.Native.Nat.{ℕ, _*_, _≤_, _<_};
-ghost use lib.ListN.{length, take, drop};
+// The expressions that hold no other, read: the rows of a literal, an earlier definition, a name, a name whose issuer is looked up. The readers of expressions call one function for all of them.
+ghost use Prim.Native.Nat.{ℕ, _+_, _*_, _≤_, _<_};
+ghost use mathlib.Core.Path.{_≡_};
+ghost use lib.ListN.{length, getD, take, drop};
 ghost use Rattle.rows.specs.Layout.{setRoom};
 ghost use Rattle.read_values.specs.Values.{Bound};
 ghost use Rattle.policy_places.specs.Places.{SomeRow, SomeRows};
 ghost use Rattle.read_values.specs.Answers.{Filled};
 ghost use Rattle.read_values.specs.From.{from};
-ghost use Rattle.read_leaves.specs.Leaves.{SayRows, SayDefinition, AskLeaf, SayLeaf, SayLeafHas};
+ghost use Rattle.read_leaves.specs.Leaves.{SayRows, SayDefinition, SayAmong, AskLeaf, SayLeaf, SayLeafHas};
 use policy::CODE_DEFINITION;
 use policy::CODE_NAME;
+use policy::CODE_VETTED;
 use policy_places::skip::skip_row;
+use policy_places::term_at;
 use read_names::name_has;
 use read_names::read_name;
 use read_steps::has_row;
@@ -18,10 +21,13 @@ use read_values::Read;
 use read_values::Tested;
 use read_values::row_of;
 use read_values::told;
+use read_values::value_of;
+use row_words::row::Row;
 use row_words::wide;
 use rows::SET_ROOM;
 use sets::clear;
 use sets::copy;
+use sets::has;
 use sets::insert;
 
 // The rows written there, in a set of this form: no more than a set lists, so there is room for each.
@@ -57,6 +63,72 @@ fn definition_set<'a>(defs: &'a [u32], d: u32, given: Given) -> &'a [u32]
     &defs[base..]
 }
 
+// Whether the one-atom row of code 8's issuer belongs to the definition that the code names.
+fn issuer_among(
+    words: &[u32],
+    at: usize,
+    values: &[u32; 16],
+    count: usize,
+    given: Given,
+    defs: &[u32],
+) -> bool
+    requires { ⌜ Bound (now values) count × (at + 6 ≤ length (now words)) × (getD (now words) (at + 5) 0 < given .known) × ((i : ℕ) → i < given .known → Filled (drop (setRoom * i) (now defs))) ⌝ }
+    ensures { λ r. ⌜ SayAmong (given .known) (now (defs .entry)) (now (words .entry)) at (take count (now (values .entry))) r ⌝ }
+{
+    let issuer = term_at(words, at + 1);
+    let key = value_of(values, count, issuer);
+    let set = definition_set(defs, words[at + 5], given);
+    let row = Row {
+        width: 1,
+        atoms: [key, 0, 0, 0],
+    };
+    has(set, row)
+}
+
+// Code 8: the name, if its issuer is absent from the definition, and no rows otherwise; the name is not read then.
+fn read_vetted(
+    words: &[u32],
+    at: usize,
+    values: &[u32; 16],
+    count: usize,
+    draws: u32,
+    area: &mut [u32],
+    given: Given,
+    store: &[u32],
+    defs: &[u32],
+) -> Read
+    requires { ⌜ AskLeaf (from given (now store) (now defs)) (now words) at (now values) count × (setRoom ≤ length (now area)) × (getD (now words) at 0 ≡ 8) ⌝ }
+    ensures { λ r. ⌜ SayLeaf (from given (now (store .entry)) (now (defs .entry))) (now (words .entry)) at (take count (now (values .entry))) draws r (now (area .exit)) ⌝ }
+{
+    if issuer_among(words, at, values, count, given, defs) {
+        clear(area, 0);
+        Read::Done(draws)
+    } else {
+        read_name(words, at + 1, values, count, draws, area, store)
+    }
+}
+
+// Whether the row written at `row` belongs to code 8.
+fn vetted_has(
+    words: &[u32],
+    at: usize,
+    values: &[u32; 16],
+    count: usize,
+    draws: u32,
+    given: Given,
+    store: &[u32],
+    defs: &[u32],
+    row: usize,
+) -> Tested
+    requires { ⌜ AskLeaf (from given (now store) (now defs)) (now words) at (now values) count × SomeRow (now words) row × (getD (now words) at 0 ≡ 8) ⌝ }
+    ensures { λ r. ⌜ SayLeafHas (from given (now (store .entry)) (now (defs .entry))) (now (words .entry)) at row (take count (now (values .entry))) draws r ⌝ }
+{
+    if issuer_among(words, at, values, count, given, defs) {
+        return told(false, draws);
+    }
+    name_has(words, at + 1, values, count, draws, store, row)
+}
+
 // A leaf, by its code.
 pub fn read_leaf(
     words: &[u32],
@@ -79,6 +151,9 @@ pub fn read_leaf(
     if code == CODE_DEFINITION {
         copy(definition_set(defs, words[at + 1], given), area);
         return Read::Done(draws);
+    }
+    if code == CODE_VETTED {
+        return read_vetted(words, at, values, count, draws, area, given, store, defs);
     }
     // a literal's code is one more than the form of its set
     read_rows(words, at + 1, values, count, area, code - 1);
@@ -108,6 +183,9 @@ pub fn leaf_has(
     if code == CODE_DEFINITION {
         let set = definition_set(defs, words[at + 1], given);
         return told(has_row(words, row, values, count, set), draws);
+    }
+    if code == CODE_VETTED {
+        return vetted_has(words, at, values, count, draws, given, store, defs, row);
     }
     match read_leaf(words, at, values, count, draws, area, given, store, defs) {
         Read::Refused(n) => Tested::Refused(n),

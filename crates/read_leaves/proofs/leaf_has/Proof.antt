@@ -66,14 +66,14 @@ returns-2 c = leaf-definition-has _ (c .before .before .before .before .if2 .tak
 
 has-row-requires-2 : tie.Need-has-row-requires-2
 has-row-requires-2 c κs =
-    let start = c .before .before .before .before .before .before .before .before .before .before .before .before .before .before .before in
+    let start = c .before .before .before .before .before .before .before .before .before .before .before .before .before .before .before .before in
     (start .pre .0 .bound, leaf-filled _ (c .before .before .before .before .before .before .read-leaf .ensures) (c .before .before .used .given .1), start .pre .2)
 
-returns-3 : tie.Need-returns-3
-returns-3 c = leaf-refused _ (c .before .before .before .before .before .read-leaf .ensures) (c .before .n .given .1)
-
 returns-4 : tie.Need-returns-4
-returns-4 c = leaf-looked _ (c .before .before .before .before .before .before .before .before .read-leaf .ensures) (c .before .before .before .before .used .given .1) (c .before .has-row2 .ensures) (c .told2 .ensures)
+returns-4 c = leaf-refused _ (c .before .before .before .before .before .read-leaf .ensures) (c .before .n .given .1)
+
+returns-5 : tie.Need-returns-5
+returns-5 c = leaf-looked _ (c .before .before .before .before .before .before .before .before .read-leaf .ensures) (c .before .before .before .before .used .given .1) (c .before .has-row2 .ensures) (c .told2 .ensures)
 
 pub leaf-has-spec : {M : Type 1} → statement M
 leaf-has-spec =
@@ -93,10 +93,12 @@ leaf-has-spec =
     returns-2
     (λ c κs. search needs)
     (λ c. search needs)
+    (λ c κs. search needs)
+    (λ c. search needs)
     (λ c. search needs)
     has-row-requires-2
     (λ c κs. search needs)
     (λ c. search needs)
-    returns-3
+    returns-4
     (λ c. search needs)
-    returns-4)
+    returns-5)

@@ -66,26 +66,29 @@ returns-2 c =
     let start = c .before .before .before .before .before .before .before .before .before .before .before .before .before in
     leaf-definition _ (c .before .before .before .before .before .before .if2 .taken) (c .before .before .before .before .definition-set .ensures) (start .args .area .now) (start .pre .1) (c .before .before .copy .ensures)
 
+returns-3 : tie.Need-returns-3
+returns-3 c = c .before .before .read-vetted .ensures
+
 add-read-rows : tie.Need-add-read-rows
 add-read-rows c =
-    let start = c .before .before .before .before .before .before .before in
+    let start = c .before .before .before .before .before .before .before .before in
     let i = inside-leaf (start .pre .0 .here) in
     let fits = start .good in
     omega arith
 
 sub-read-rows : tie.Need-sub-read-rows
 sub-read-rows c =
-    let l = literal-code (c .before .if2 .left) (c .before .before .if1 .left) (some-here (c .before .before .before .before .before .before .before .before .pre .0)) in
+    let l = literal-code (c .before .before .if2 .left) (c .before .before .before .if1 .left) (c .before .if3 .left) (some-here (c .before .before .before .before .before .before .before .before .before .pre .0)) in
     omega arith
 
 read-rows-requires : tie.Need-read-rows-requires
 read-rows-requires c κs =
-    let start = c .before .before .before .before .before .before .before .before in
-    let l = literal-code (c .before .if2 .left) (c .before .before .if1 .left) (some-here (start .pre .0)) in
-    (start .pre .0 .bound, omega arith, start .pre .1, some-rows (c .before .if2 .left) (c .before .before .if1 .left) (some-here (start .pre .0)))
+    let start = c .before .before .before .before .before .before .before .before .before in
+    let l = literal-code (c .before .before .if2 .left) (c .before .before .before .if1 .left) (c .before .if3 .left) (some-here (start .pre .0)) in
+    (start .pre .0 .bound, omega arith, start .pre .1, some-rows (c .before .before .if2 .left) (c .before .before .before .if1 .left) (c .before .if3 .left) (some-here (start .pre .0)))
 
-returns-3 : tie.Need-returns-3
-returns-3 c = leaf-rows (c .before .before .before .before .if2 .left) (c .before .before .before .before .before .if1 .left) (c .before .before .read-rows .ensures)
+returns-4 : tie.Need-returns-4
+returns-4 c = leaf-rows (c .before .before .before .before .before .if2 .left) (c .before .before .before .before .before .before .if1 .left) (c .before .before .before .before .if3 .left) (c .before .before .read-rows .ensures)
 
 pub read-leaf-spec : {M : Type 1} → statement M
 read-leaf-spec =
@@ -104,8 +107,11 @@ read-leaf-spec =
     (λ c κs. search needs)
     (λ c. search needs)
     returns-2
+    (λ c κs. search needs)
+    (λ c. search needs)
+    returns-3
     add-read-rows
     sub-read-rows
     read-rows-requires
     (λ c. search needs)
-    returns-3)
+    returns-4)
