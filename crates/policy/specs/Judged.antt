@@ -31,9 +31,12 @@ noDefinitions = 1 ∷ 0 ∷ []
 abbrev pub one : ℕ → List ℕ → List ℕ
 one p e = 1 ∷ 1 ∷ 10 ∷ p ∷ 6 ∷ length e ∷ e
 
--- names 10 and 11, both +
+-- names 10 and 11, each with a polarity and its expression; and both +
+abbrev pub twoOf : ℕ → List ℕ → ℕ → List ℕ → List ℕ
+twoOf p e q f = 1 ∷ 2 ∷ 10 ∷ p ∷ 10 ∷ length e ∷ 11 ∷ q ∷ (10 + length e) ∷ length f ∷ (e ++ f)
+
 abbrev pub two : List ℕ → List ℕ → List ℕ
-two e f = 1 ∷ 2 ∷ 10 ∷ 0 ∷ 10 ∷ length e ∷ 11 ∷ 0 ∷ (10 + length e) ∷ length f ∷ (e ++ f)
+two e f = twoOf 0 e 0 f
 
 -- expressions: k1's name 1 +, its name 2 −, the set of 7, the complement of 7
 abbrev pub released : List ℕ
@@ -47,6 +50,10 @@ seven = 1 ∷ 1 ∷ 1 ∷ 0 ∷ 7 ∷ []
 
 abbrev pub notSeven : List ℕ
 notSeven = 2 ∷ 1 ∷ 1 ∷ 0 ∷ 7 ∷ []
+
+-- code 8 of document 02, N2: k1's name 1 with a polarity, k1 being looked up in definition d
+abbrev pub vetted : ℕ → ℕ → List ℕ
+vetted p d = 8 ∷ 0 ∷ k1 ∷ 1 ∷ p ∷ d ∷ []
 
 -- guards: variable n drawn from a set of rows of one atom, row 7 absent from a set
 abbrev pub drawn : ℕ → List ℕ → List ℕ
@@ -126,6 +133,24 @@ pub record AllHold : Type 0 where
       Judges (one 0 seven) Q (verdict lower)
       × Judges (one 1 seven) Q (verdict upper)
       × Judges (one 0 allowed) Q (refused noPolarity 0)
+  -- document 02, N2: "a polarity − is refused with 3. Its polarity is + if its definition is declared −, else none, and it is not open."
+  pub ofVetted :
+      Judges (one 1 allowed) (vetted 0 0) (verdict lower)
+      × Judges (one 1 seven) (vetted 0 0) (verdict lower)
+      × Judges (one 0 seven) (vetted 0 0) (refused noPolarity queryPart)
+      × Judges (one 1 allowed) (6 ∷ (allowed ++ vetted 0 0)) (verdict upper)
+      × Judges (one 1 allowed) (6 ∷ (seven ++ vetted 0 0)) (verdict upper)
+      × Judges (one 1 allowed) (6 ∷ (released ++ vetted 0 0)) (refused noPolarity queryPart)
+      × Judges (one 1 allowed) (drawAll (vetted 0 0)) (verdict lower)
+      × Judges (one 1 allowed) (vetted 1 0) (refused badWord queryPart)
+      × Judges (one 1 allowed) (vetted 0 1) (refused notInScope queryPart)
+  -- the same in a definition, where those before it are available
+  pub vettedInDefinitions :
+      Judges (twoOf 1 allowed 0 (vetted 0 0)) (3 ∷ 1 ∷ []) (verdict lower)
+      × Judges (twoOf 1 allowed 1 (vetted 0 0)) (3 ∷ 1 ∷ []) (refused noPolarity 1)
+      × Judges (twoOf 1 allowed 0 (vetted 0 1)) (3 ∷ 1 ∷ []) (refused notInScope 1)
+      × Judges (two seven (vetted 0 0)) (3 ∷ 1 ∷ []) (refused noPolarity 1)
+      × Judges (twoOf 1 allowed 0 (vetted 0 0)) (drawAll (3 ∷ 1 ∷ [])) (verdict lower)
   -- "5 has those common to its parts"
   pub ofUnions :
       Judges noDefinitions (5 ∷ (released ++ seven)) (verdict lower)
