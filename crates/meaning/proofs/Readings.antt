@@ -1,12 +1,13 @@
--- Small readings, by computation: what document 01's section "Reading" says of draws, of guards and of refusal 13.
+-- Small readings, by computation: what document 01's section "Reading" says of draws, of guards and of refusal 13, and document 02 of code 8.
 use Prim.Native.Nat.{ℕ, zero, suc}
 use mathlib.Core.Path.{_≡_, refl}
 use mathlib.Core.List.{List, [], _∷_}
 use Rattle.refusals.specs.RefusalTable.{complementDrawn, tooManyRows}
 use Rattle.rows.specs.Word.{All}
+use Rattle.rows.specs.Row.{Row}
 use Rattle.rows.specs.Name.{plus, minus}
 use Rattle.rows.specs.Sets.{RowSet, only, allBut}
-use Rattle.policy.specs.Leaf.{finite, cofinite, listed}
+use Rattle.policy.specs.Leaf.{finite, cofinite, listed, vetted}
 use Rattle.policy.specs.Syntax.{Term, atom, var, old, new, Expr, leaf, union, difference, comprehension, head, draw, same, different, absent}
 use Rattle.meaning.specs.Evidence.{namesHeld}
 use Rattle.meaning.specs.Reading.{Result, done, refused, read}
@@ -59,3 +60,38 @@ trials =
 pub readings : All Holds trials
 unfolding Holds trials All
 readings = (refl, (refl, (refl, (refl, (refl, (refl, (refl, (refl, (refl, (refl, (refl, (refl, (refl, tt)))))))))))))
+
+-- code 8 over one definition: the set read for that, the rows of every key's list, and what is read
+pub record Vetting : Type 0 where
+  pub set : RowSet
+  pub list : List Row
+  pub answer : Result RowSet
+
+-- with k1 as a fixed issuer, and as a variable's value
+unfoldable pub Vets : Vetting → Type 0
+unfolding read k1
+Vets v =
+    (read (λ k n p. only (v .list)) (v .set ∷ []) (leaf (vetted (atom k1) 1 0)) [] 0 ≡ v .answer)
+    × (read (λ k n p. only (v .list)) (v .set ∷ []) (leaf (vetted (var 0) 1 0)) (k1 ∷ []) 0 ≡ v .answer)
+
+-- the rows of the n numbers from `base` on
+numbers : ℕ → ℕ → List Row
+numbers base zero = []
+numbers base (suc n) = (base ∷ []) ∷ numbers (suc base) n
+
+-- "that key's list if the one-atom row of the issuer is absent from that definition, and no rows otherwise": then the list is not read, so its length is no 13
+unfoldable pub vettings : List Vetting
+unfolding numbers k1
+vettings =
+    record { set = only []; list = (9 ∷ []) ∷ []; answer = done (only ((9 ∷ []) ∷ [])) 0 }
+    ∷ record { set = only ((k1 ∷ []) ∷ []); list = (9 ∷ []) ∷ []; answer = done (only []) 0 }
+    ∷ record { set = only ((k1 ∷ 5 ∷ []) ∷ []); list = (9 ∷ []) ∷ []; answer = done (only ((9 ∷ []) ∷ [])) 0 }
+    ∷ record { set = allBut []; list = (9 ∷ []) ∷ []; answer = done (only []) 0 }
+    ∷ record { set = allBut ((k1 ∷ []) ∷ []); list = (9 ∷ []) ∷ []; answer = done (only ((9 ∷ []) ∷ [])) 0 }
+    ∷ record { set = allBut []; list = numbers 1 129; answer = done (only []) 0 }
+    ∷ record { set = only []; list = numbers 1 129; answer = refused tooManyRows }
+    ∷ []
+
+pub vetted-readings : All Vets vettings
+unfolding Vets vettings All
+vetted-readings = ((refl, refl), ((refl, refl), ((refl, refl), ((refl, refl), ((refl, refl), ((refl, refl), ((refl, refl), tt)))))))
