@@ -12,15 +12,32 @@ use Rattle.policy.specs.Syntax.{Expr, leaf, union, difference, comprehen
 use Rattle.policy.specs.Words.{fresh, guardCount}
 use Rattle.policy.specs.WellFormed.{Fit, FitBody, depth, bodyDepth, drawCount, bodyDraws, WellFormed}
 use Rattle.policy.specs.Polarity.{Known, unknown, hasPolarity, guardsHave, openExpr, drawsClosed, guardsClosed}
-use Rattle.policy.specs.External.{externalLeaf, externalExpr, externalBody, vetLeaf, vet, vetBody}
+use Rattle.policy.specs.External.{externalLeaf, externalExpr, externalBody, vetLeaf, eachLeaf, eachLeafIn, vet, vetBody}
 
-vet-guards : (b : Body) → guardCount (vetBody b) ≡ guardCount b
-unfolding vetBody guardCount
-vet-guards (head r) = refl
-vet-guards (draw e s b) = ap suc (vet-guards b)
-vet-guards (same x y b) = ap suc (vet-guards b)
-vet-guards (different x y b) = ap suc (vet-guards b)
-vet-guards (absent r e b) = ap suc (vet-guards b)
+pub each-guards : (f : Leaf → Leaf) (b : Body) → guardCount (eachLeafIn f b) ≡ guardCount b
+unfolding eachLeafIn guardCount
+each-guards f (head r) = refl
+each-guards f (draw e s b) = ap suc (each-guards f b)
+each-guards f (same x y b) = ap suc (each-guards f b)
+each-guards f (different x y b) = ap suc (each-guards f b)
+each-guards f (absent r e b) = ap suc (each-guards f b)
+
+-- leaves that stay as they are
+mutual
+  unfolding eachLeaf
+
+  pub each-same : (e : Expr) → eachLeaf (λ x. x) e ≡ e
+  each-same (leaf x) = refl
+  each-same (union a b) = rw (each-same a, each-same b)
+  each-same (difference a b) = rw (each-same a, each-same b)
+  each-same (comprehension b) = rw (each-same-in b)
+
+  each-same-in : (b : Body) → eachLeafIn (λ x. x) b ≡ b
+  each-same-in (head r) = refl
+  each-same-in (draw e s b) = rw (each-same e, each-same-in b)
+  each-same-in (same x y b) = rw (each-same-in b)
+  each-same-in (different x y b) = rw (each-same-in b)
+  each-same-in (absent r e b) = rw (each-same e, each-same-in b)
 
 module _ (m : ℕ) (first : 0 < m) where
   fit-leaf : (n : ℕ) (x : Leaf) → FitLeaf m n x → FitLeaf m n (vetLeaf x)
@@ -33,13 +50,13 @@ module _ (m : ℕ) (first : 0 < m) where
   fit-leaf n (vetted t name d) f = f
 
   mutual
-    unfolding Fit vet
+    unfolding Fit eachLeaf
 
     pub vet-fit : (n : ℕ) (e : Expr) → Fit m n e → Fit m n (vet e)
     vet-fit n (leaf x) f = fit-leaf n x f
     vet-fit n (union a b) f = (vet-fit n a (f .0), vet-fit n b (f .1))
     vet-fit n (difference a b) f = (vet-fit n a (f .0), vet-fit n b (f .1))
-    vet-fit n (comprehension b) f = (omega (arith, f .0, vet-guards b), body-fit n b (f .1))
+    vet-fit n (comprehension b) f = (omega (arith, f .0, each-guards vetLeaf b), body-fit n b (f .1))
 
     body-fit : (n : ℕ) (b : Body) → FitBody m n b → FitBody m n (vetBody b)
     body-fit n (head r) f = f
@@ -49,7 +66,7 @@ module _ (m : ℕ) (first : 0 < m) where
     body-fit n (absent r e b) f = (f .0, vet-fit n e (f .1), body-fit n b (f .2))
 
 mutual
-  unfolding depth vet
+  unfolding depth eachLeaf
 
   pub vet-depth : (e : Expr) → depth (vet e) ≡ depth e
   vet-depth (leaf x) = refl
@@ -65,7 +82,7 @@ mutual
   body-depth (absent r e b) = rw (vet-depth e, body-depth b)
 
 mutual
-  unfolding drawCount vet
+  unfolding drawCount eachLeaf
 
   pub vet-draws : (e : Expr) → drawCount (vet e) ≡ drawCount e
   vet-draws (leaf x) = refl
@@ -94,14 +111,14 @@ module _ (ks : List Known) where
   open-leaf (vetted t n d) = refl
 
   pub vet-open : (e : Expr) → openExpr (vet e) ks ≡ openExpr e ks
-  unfolding openExpr vet
+  unfolding openExpr eachLeaf
   vet-open (leaf x) = open-leaf x
   vet-open (union a b) = rw (vet-open a, vet-open b)
   vet-open (difference a b) = vet-open a
   vet-open (comprehension b) = refl
 
   mutual
-    unfolding drawsClosed vet
+    unfolding drawsClosed eachLeaf
 
     pub vet-closed : (e : Expr) → drawsClosed (vet e) ks ≡ drawsClosed e ks
     vet-closed (leaf x) = refl
@@ -128,7 +145,7 @@ module _ (ks : List Known) where
     has-leaf (vetted i n d) t h = h
 
     mutual
-      unfolding externalExpr hasPolarity vet
+      unfolding externalExpr hasPolarity eachLeaf
 
       pub vet-has : (e : Expr) → T (externalExpr plus e) → T (hasPolarity e ks plus) → T (hasPolarity (vet e) ks plus)
       vet-has (leaf x) t h = has-leaf x t h

@@ -75,24 +75,30 @@ vetLeaf (listed t n plus) = vetted t n 0
 vetLeaf (listed t n minus) = listed t n minus
 vetLeaf (vetted t n d) = vetted t n d
 
-unfoldable mutual
-  unfolding vetLeaf
+-- an expression with each of its leaves changed
+module _ (f : Leaf → Leaf) where
+  unfoldable mutual
+    pub eachLeaf : Expr → Expr
+    eachLeaf (leaf x) = leaf (f x)
+    eachLeaf (union a b) = union (eachLeaf a) (eachLeaf b)
+    eachLeaf (difference a b) = difference (eachLeaf a) (eachLeaf b)
+    eachLeaf (comprehension b) = comprehension (eachLeafIn b)
 
-  pub vet : Expr → Expr
-  vet (leaf x) = leaf (vetLeaf x)
-  vet (union a b) = union (vet a) (vet b)
-  vet (difference a b) = difference (vet a) (vet b)
-  vet (comprehension b) = comprehension (vetBody b)
+    pub eachLeafIn : Body → Body
+    eachLeafIn (head r) = head r
+    eachLeafIn (draw e s b) = draw (eachLeaf e) s (eachLeafIn b)
+    eachLeafIn (same x y b) = same x y (eachLeafIn b)
+    eachLeafIn (different x y b) = different x y (eachLeafIn b)
+    eachLeafIn (absent r e b) = absent r (eachLeaf e) (eachLeafIn b)
 
-  pub vetBody : Body → Body
-  vetBody (head r) = head r
-  vetBody (draw e s b) = draw (vet e) s (vetBody b)
-  vetBody (same x y b) = same x y (vetBody b)
-  vetBody (different x y b) = different x y (vetBody b)
-  vetBody (absent r e b) = absent r (vet e) (vetBody b)
+abbrev pub vet : Expr → Expr
+vet = eachLeaf vetLeaf
+
+abbrev pub vetBody : Body → Body
+vetBody = eachLeafIn vetLeaf
 
 unfoldable pub vetAll : List Expr → List Expr
-unfolding vet
+unfolding vetLeaf eachLeaf
 vetAll [] = []
 vetAll (e ∷ es) = vet e ∷ vetAll es
 

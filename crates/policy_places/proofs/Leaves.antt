@@ -71,7 +71,7 @@ pub record InVetted (m : ℕ) (ws : List ℕ) (at : ℕ) (t : Term) (k d : ℕ) 
   pub known : d < m
   pub inside : at + 5 < length ws
 
-name-length : (t : Term) (k : ℕ) (p : Polarity) → length (nameWords t k p) ≡ 4
+pub name-length : (t : Term) (k : ℕ) (p : Polarity) → length (nameWords t k p) ≡ 4
 name-length t k p = omega (arith, length-append (termWords t) (k ∷ polarityWord p ∷ []), term-length t)
 
 -- the definition's number is the word after the code

@@ -213,7 +213,7 @@ module _ {ws : List ℕ} {at : ℕ} where
 -- ---- guards
 
 -- a guard that is neither a draw nor absent compares two terms
-on-test : {m n : ℕ} {ws : List ℕ} {at left : ℕ} {b : Body} (P : Body → Type 0) → StandsBody m n ws at left b → (left ≡ 0 → ⊥) → (getD ws at 0 ≡ 1 → ⊥) → (getD ws at 0 ≡ 4 → ⊥) →
+pub on-test : {m n : ℕ} {ws : List ℕ} {at left : ℕ} {b : Body} (P : Body → Type 0) → StandsBody m n ws at left b → (left ≡ 0 → ⊥) → (getD ws at 0 ≡ 1 → ⊥) → (getD ws at 0 ≡ 4 → ⊥) →
     ((x y : Term) (c : Body) → P (same x y c)) → ((x y : Term) (c : Body) → P (different x y c)) → P b
 unfolding exprWords guardCount
 on-test {n} {ws} {at} {left} {b} P s z t u f g = go b (s .count) (s .words)

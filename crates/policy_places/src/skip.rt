@@ -43,7 +43,7 @@ fn skip_rows(words: &[u32], at: usize) -> usize
 }
 
 // An expression that holds no other.
-fn skip_leaf(words: &[u32], at: usize) -> usize
+pub fn skip_leaf(words: &[u32], at: usize) -> usize
     requires { ⌜ SomeLeaf (now words) at ⌝ }
     ensures { λ r. ⌜ PastLeaf (now (words .entry)) at r ⌝ }
 {

@@ -1,0 +1,3 @@
+// An external policy rewritten into a lent area.
+mod laying;
+mod vetting;
