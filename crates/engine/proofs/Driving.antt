@@ -16,7 +16,7 @@ use Rattle.policy.specs.Definitions.{knownOf}
 use Rattle.policy.specs.Checking.{checked, check}
 use Rattle.policy.proofs.Judging.{AcceptedDefinition, Accepted, none, one, AcceptedPair, check-accepted}
 use Rattle.policy_table.specs.Entries.{entryPlace, entriesFrom}
-use Rattle.policy_table.proofs.PartAnswers.{table-sound, inside, Listed, listed-of, length-entries}
+use Rattle.policy_table.proofs.PartAnswers.{table-parts, inside, Listed, listed-of, length-entries}
 use Rattle.meaning.specs.Reading.{done, refused}
 use Rattle.read_values.specs.Answers.{Filled, setReadIs, IfDone}
 use Rattle.read_values.specs.From.{From, setsIn, names, sets, SoundFrom}
@@ -50,7 +50,7 @@ module _ (policy query : List ℕ) {n : ℕ} (counted : getD policy 1 0 ≡ n) {
   pair = check-accepted policy query es q v passes
 
   entries-are : pair .entries ≡ entriesFrom n policy 2
-  entries-are = table-sound policy (pair .entries) (pair .listed) .are ∙ ap (λ (m : ℕ). entriesFrom m policy 2) counted
+  entries-are = table-parts policy (pair .entries) (pair .listed) .are ∙ ap (λ (m : ℕ). entriesFrom m policy 2) counted
 
   table-listed : Listed policy n
   table-listed = listed-of policy n (sym (pair .listed ∙ ap table entries-are))

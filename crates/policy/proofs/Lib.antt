@@ -7,6 +7,7 @@ pub mod Decoded
 pub mod Scope
 pub mod Judging
 pub mod Judged
+pub mod SoundTable
 pub mod Placing
 pub mod Vetting
 pub mod Rewriting

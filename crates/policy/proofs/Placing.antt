@@ -1,84 +1,22 @@
 -- The words of a policy made of entries and expressions are read as the table that they were made from.
-use Prim.Native.Nat.{ℕ, zero, suc, _+_, _*_, _≤_}
+use Prim.Native.Nat.{ℕ, suc, _+_, _*_, _≤_}
 use mathlib.Core.Path.{_≡_, refl, sym, _∙_, ap, subst}
 use mathlib.Core.Bool.{Bool, true, false, not}
 use mathlib.Core.List.{List, [], _∷_, _++_}
 use native.Mathlib.Omega.{arith}
 use native.Mathlib.Nat.{add-zero}
-use lib.Dec.{T, leb, eqb, leb→le, le→leb}
+use lib.Dec.{T, leb, eqb, le→leb}
 use lib.ListN.{length, getD, drop, length-append}
 use lib.Seq.{drop-drop, drop-at, getD-drop}
 use borrow.Author.Tests.{eq-eqb}
 use Rattle.refusals.specs.RefusalTable.{badHeader, badTable}
 use Rattle.rows.specs.Name.{isName, isPolarity}
-use Rattle.rows.proofs.Case.{T-true, true-T, T-left, T-right, T-and}
+use Rattle.rows.proofs.Case.{T-true, true-T, T-and}
 use Rattle.policy.specs.Syntax.{Expr, leaf, union, difference, comprehension}
 use Rattle.policy.specs.Words.{each, exprWords}
 use Rattle.policy.specs.Table.{Entry, entryAt, Table, table, refused, named, soundEntry, pushEntry, entries, soundHeader, readTable}
 use Rattle.policy.specs.External.{moved, placed, entryFour, parts, policyWords}
-use Rattle.policy.proofs.Basics.{impossible}
-
--- the names of a table keep their rules, those of `earlier` standing before
-
-pub FineNames : List Entry → List Entry → Type 0
-FineNames earlier [] = Unit {0}
-FineNames earlier (x ∷ xs) = T (isName (x .name)) × T (isPolarity (x .polarity)) × T (not (named earlier x)) × FineNames (x ∷ earlier) xs
-
-push-entry : (x : Entry) (t : Table) (xs : List Entry) → pushEntry x t ≡ table xs → (ys : List Entry) × (x ∷ ys ≡ xs) × (t ≡ table ys)
-unfolding pushEntry
-push-entry x (table ys) xs h = (ys, cc, refl)
-push-entry x (refused n) xs h = impossible cc
-
-sound-names : (policy : List ℕ) (due : ℕ) (earlier : List Entry) (x : Entry) → T (soundEntry policy due earlier x) → T (isName (x .name)) × T (isPolarity (x .polarity)) × T (not (named earlier x))
-unfolding soundEntry
-sound-names policy due earlier x t =
-    let a = T-and (isName (x .name)) _ .0 t in
-    let b = T-and (isPolarity (x .polarity)) _ .0 (a .1) in
-    let c = T-and (eqb (x .offset) due) _ .0 (b .1) in
-    let d = T-and (leb 1 (x .size)) _ .0 (c .1) in
-    let e = T-and (leb (x .offset + x .size) (length policy)) (not (named earlier x)) .0 (d .1) in
-    (a .0, b .0, e .1)
-
-entries-names : (n : ℕ) (policy : List ℕ) (at due : ℕ) (earlier xs : List Entry) → entries n policy at due earlier ≡ table xs → (length xs ≡ n) × FineNames earlier xs
-unfolding entries FineNames
-entries-names zero policy at due earlier xs h = go (eqb due (length policy)) h
-  where
-    go : (b : Bool) → (elim b as (λ c. Table) [ true ↦ table [] | false ↦ refused badTable ]) ≡ table xs → (length xs ≡ 0) × FineNames earlier xs
-    go true e = let f : [] ≡ xs = cc in subst (λ (l : List Entry). (length l ≡ 0) × FineNames earlier l) f (refl, tt)
-    go false e = impossible cc
-entries-names (suc n) policy at due earlier xs h = go (λ a d l ys g. entries-names n policy a d l ys g) (soundEntry policy due earlier (entryAt policy at)) refl h
-  where
-    go : ((a d : ℕ) (l ys : List Entry) → entries n policy a d l ≡ table ys → (length ys ≡ n) × FineNames l ys) → (b : Bool) → soundEntry policy due earlier (entryAt policy at) ≡ b →
-        (elim b as (λ c. Table) [
-          | true ↦ pushEntry (entryAt policy at) (entries n policy (at + 4) (entryAt policy at .offset + entryAt policy at .size) (entryAt policy at ∷ earlier))
-          | false ↦ refused badTable
-        ]) ≡ table xs → (length xs ≡ suc n) × FineNames earlier xs
-    go ih true b e =
-        let t = push-entry (entryAt policy at) _ xs e in
-        let s = sound-names policy due earlier (entryAt policy at) (T-true b) in
-        let u = ih _ _ _ (t .0) (t .2) in
-        subst (λ (l : List Entry). (length l ≡ suc n) × FineNames earlier l) (t .1) (ap suc (u .0), (s .0, s .1, s .2, u .1))
-    go ih false b e = impossible cc
-
-pub record Header (policy : List ℕ) (xs : List Entry) : Type 0 where
-  pub format : T (eqb (getD policy 0 0) 1)
-  pub few : length xs ≤ 16
-  pub names : FineNames [] xs
-
-pub table-header : (policy : List ℕ) (xs : List Entry) → readTable policy ≡ table xs → Header policy xs
-unfolding readTable soundHeader
-table-header policy xs h = go (soundHeader policy) refl h
-  where
-    go : (b : Bool) → soundHeader policy ≡ b → (elim b as (λ c. Table) [ true ↦ entries (getD policy 1 0) policy 2 (2 + 4 * getD policy 1 0) [] | false ↦ refused badHeader ]) ≡ table xs →
-        Header policy xs
-    go true b e =
-        let t = entries-names (getD policy 1 0) policy 2 (2 + 4 * getD policy 1 0) [] xs e in
-        let g = T-right (leb (length policy) 8192) _ (T-right (leb 2 (length policy)) _ (T-true b)) in
-        let f = T-right (eqb (getD policy 0 0) 1) _ g in
-        let n : getD policy 1 0 ≤ 16 = leb→le (getD policy 1 0) 16 (T-left (leb (getD policy 1 0) 16) (leb (2 + 4 * getD policy 1 0) (length policy)) f) in
-        let l = t .0 in
-        record { format = T-left (eqb (getD policy 0 0) 1) _ g; few = omega arith; names = t .1 }
-    go false b e = impossible cc
+use Rattle.policy.proofs.SoundTable.{InTable, SoundTable}
 
 -- the words of the rewritten policy are read as the table that they were made from
 
@@ -140,20 +78,20 @@ one-entry n policy at due earlier y ys h s f =
       | false ↦ refused badTable
     ]) ≡ table (y ∷ ys)) (sym (true-T (soundEntry policy due earlier y) s)) (ap (pushEntry y) f))
 
-entries-placed : (xs : List Entry) (es : List Expr) (policy : List ℕ) (at due : ℕ) (rest : List ℕ) (old new : List Entry) → Alike old new → FineNames old xs → length xs ≡ length es →
+entries-placed : (xs : List Entry) (es : List Expr) (policy : List ℕ) (at due : ℕ) (rest : List ℕ) (old new : List Entry) → Alike old new → (p : List ℕ) (was by : ℕ) → InTable p was by old xs → length xs ≡ length es →
     drop at policy ≡ each entryFour (placed due xs es) ++ rest → length policy ≡ due + length (parts es) → entries (length xs) policy at due new ≡ table (placed due xs es)
-unfolding entries FineNames placed parts each entryFour
-entries-placed [] [] policy at due rest old new alike fine l h p =
+unfolding entries InTable placed parts each entryFour
+entries-placed [] [] policy at due rest old new alike p was by fine l h m =
     subst (λ (b : Bool). (elim b as (λ c. Table) [ true ↦ table [] | false ↦ refused badTable ]) ≡ table []) (sym (eq-eqb due (length policy) (omega arith))) refl
-entries-placed [] (e ∷ es) policy at due rest old new alike fine l h p = absurd (omega arith)
-entries-placed (x ∷ xs) [] policy at due rest old new alike fine l h p = absurd (omega arith)
-entries-placed (x ∷ xs) (e ∷ es) policy at due rest old new alike fine l h p =
+entries-placed [] (e ∷ es) policy at due rest old new alike p was by fine l h m = absurd (omega arith)
+entries-placed (x ∷ xs) [] policy at due rest old new alike p was by fine l h m = absurd (omega arith)
+entries-placed (x ∷ xs) (e ∷ es) policy at due rest old new alike p was by fine l h m =
     let size = length (exprWords e 0) in
     let here = moved x due size in
-    let longer : length policy ≡ due + size + length (parts es) = omega (arith, p, parts-more e es) in
+    let longer : length policy ≡ due + size + length (parts es) = omega (arith, m, parts-more e es) in
     one-entry (length xs) policy at due new here (placed (due + size) xs es) (entry-at policy at here (each entryFour (placed (due + size) xs es) ++ rest) h)
-    (placed-sound policy due new here (fine .0) (fine .1) (not-named old new x here (alike x here refl refl) (fine .2)) refl (words-some e) (omega arith))
-    (entries-placed xs es policy (at + 4) (due + size) rest (x ∷ old) (here ∷ new) (alike-one old new x here refl refl alike) (fine .3) (omega arith)
+    (placed-sound policy due new here (fine .1 .name) (fine .1 .polarity) (not-named old new x here (alike x here refl refl) (fine .1 .new)) refl (words-some e) (omega arith))
+    (entries-placed xs es policy (at + 4) (due + size) rest (x ∷ old) (here ∷ new) (alike-one old new x here refl refl alike) p (was + 4) (x .offset + x .size) (fine .2) (omega arith)
     (sym (drop-drop 4 at policy) ∙ ap (λ (ws : List ℕ). drop 4 ws) h) longer)
 
 cells-length : (due : ℕ) (xs : List Entry) (es : List Expr) → length xs ≡ length es → length (each entryFour (placed due xs es)) ≡ 4 * length xs
@@ -168,21 +106,22 @@ unfolding policyWords
 policy-length format xs es l =
     omega (arith, length-append (each entryFour (placed (2 + 4 * length xs) xs es)) (parts es), cells-length (2 + 4 * length xs) xs es l)
 
-pub table-read : (policy : List ℕ) (xs : List Entry) (es : List Expr) → Header policy xs → length xs ≡ length es → length (policyWords (getD policy 0 0) xs es) ≤ 8192 →
+pub table-read : (policy : List ℕ) (xs : List Entry) (es : List Expr) → SoundTable policy xs → length xs ≡ length es → length (policyWords (getD policy 0 0) xs es) ≤ 8192 →
     readTable (policyWords (getD policy 0 0) xs es) ≡ table (placed (2 + 4 * length xs) xs es)
 unfolding readTable soundHeader policyWords
 table-read policy xs es h l short =
+    let few : length xs ≤ 16 = omega (arith, h .count, h .header .count) in
     let format = getD policy 0 0 in
     let size = policy-length format xs es l in
     let n = length (policyWords format xs es) in
     let header : T (soundHeader (policyWords format xs es)) =
-        T-and (leb 2 n) _ .1 (le→leb 2 n (omega arith), T-and (leb n 8192) _ .1 (le→leb n 8192 short, T-and (eqb format 1) _ .1 (h .format,
-        T-and (leb (length xs) 16) (leb (2 + 4 * length xs) n) .1 (le→leb (length xs) 16 (h .few), le→leb (2 + 4 * length xs) n (omega arith))))) in
+        T-and (leb 2 n) _ .1 (le→leb 2 n (omega arith), T-and (leb n 8192) _ .1 (le→leb n 8192 short, T-and (eqb format 1) _ .1 (h .header .format,
+        T-and (leb (length xs) 16) (leb (2 + 4 * length xs) n) .1 (le→leb (length xs) 16 few, le→leb (2 + 4 * length xs) n (omega arith))))) in
     subst (λ (b : Bool). (elim b as (λ c. Table) [
       | true ↦ entries (length xs) (policyWords format xs es) 2 (2 + 4 * length xs) []
       | false ↦ refused badHeader
     ]) ≡ table (placed (2 + 4 * length xs) xs es)) (sym (true-T (soundHeader (policyWords format xs es)) header))
-    (entries-placed xs es (policyWords format xs es) 2 (2 + 4 * length xs) (parts es) [] [] alike-none (h .names) l refl size)
+    (entries-placed xs es (policyWords format xs es) 2 (2 + 4 * length xs) (parts es) [] [] alike-none policy 2 (2 + 4 * getD policy 1 0) (h .entries) l refl size)
 
 -- where the parts stand
 pub parts-at : (format : ℕ) (xs : List Entry) (es : List Expr) → length xs ≡ length es → drop (2 + 4 * length xs) (policyWords format xs es) ≡ parts es

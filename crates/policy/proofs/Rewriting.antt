@@ -20,7 +20,8 @@ use Rattle.policy.specs.Definitions.{knownOf, passed, checkPolicy}
 use Rattle.policy.specs.External.{externalExpr, listsKeys, allPlus, isExternal, vet, vetAll, vetLater, moved, placed, parts, policyWords, keysListed}
 use Rattle.policy.proofs.Decoding.{parse-iff}
 use Rattle.policy.proofs.Judging.{AcceptedDefinition, Accepted, none, one, policy-accepted, accepted-passes}
-use Rattle.policy.proofs.Placing.{table-header, table-read, parts-at}
+use Rattle.policy.proofs.Placing.{table-read, parts-at}
+use Rattle.policy.proofs.SoundTable.{table-sound}
 use Rattle.policy.proofs.Vetting.{vet-formed, vet-open, vet-closed, vet-has}
 
 -- the definitions of the rewritten policy pass
@@ -99,6 +100,6 @@ rewritten-passes policy xs es ls h k t short =
     let a = policy-accepted policy xs es ls h in
     let l : length xs ≡ length (vetLater es) = accepted-lengths (a .definitions) ∙ sym (later-lengths es) in
     accepted-passes _ _ _ ls (record {
-      listed = table-read policy xs (vetLater es) (table-header policy xs (a .listed)) l short;
+      listed = table-read policy xs (vetLater es) (table-sound policy xs (a .listed)) l short;
       definitions = first-passes policy _ xs es ls (a .definitions) k t (2 + 4 * length xs) (parts-at (getD policy 0 0) xs (vetLater es) l);
     })

@@ -1,17 +1,15 @@
 -- The parts of a policy: what a sound table says of them, and where the code finds them.
 use Prim.Native.Nat.{ℕ, zero, suc, _+_, _-_, _*_, _≤_, _<_}
 use mathlib.Core.Path.{_≡_, refl, sym, _∙_, ap, subst}
-use mathlib.Core.Bool.{Bool, true, false}
 use mathlib.Core.List.{List, [], _∷_}
 use native.Mathlib.Omega.{arith}
 use lib.Dec.{ltb, eqb}
 use lib.ListN.{length, getD, take, drop}
 use borrow.Author.Tests.{eq-eqb, ne-eqb, lt-ltb, le-ltb, ltb-true}
-use Rattle.refusals.specs.RefusalTable.{badTable, badHeader}
 use Rattle.rows.specs.Word.{All}
 use Rattle.rows.proofs.Case.{Case, isTrue, isFalse, split}
 use Rattle.rows.proofs.Lists.{all-at}
-use Rattle.policy.specs.Table.{Entry, entryAt, Table, table, refused, soundEntry, pushEntry, entries, soundHeader, readTable}
+use Rattle.policy.specs.Table.{Entry, entryAt, Table, table, refused, entries, readTable}
 use Rattle.policy.specs.Part.{inPolicy, wholeQuery, nowhere, noEntry, spanAmong, partSpan, wordsAt, partWords}
 use Rattle.policy.specs.Part as Part
 use Rattle.policy_table.specs.Entries.{entryPlace, entriesFrom, tableIs}
@@ -21,64 +19,43 @@ use Rattle.policy_table.specs.declared.TableRead.the-variants as tableRe
 use Rattle.policy_table.specs.declared.parts.PartSpan as Held
 use Rattle.policy_table.specs.declared.parts.PartSpan.the-variants as span
 use Rattle.policy.proofs.Basics.{impossible}
-use Rattle.policy_table.proofs.TableAnswers.{Header, header-of, sound-of}
+use Rattle.policy.proofs.SoundTable.{Header, InTable, table-sound}
 
 abbrev pub inside : List ℕ → Entry → Type 0
 inside policy x = x .offset + x .size ≤ length policy
-
-record Pushed (x : Entry) (t : Table) (xs : List Entry) : Type 0 where
-  ys : List Entry
-  rest : t ≡ table ys
-  is : x ∷ ys ≡ xs
-
-pushed : (x : Entry) (t : Table) (xs : List Entry) → pushEntry x t ≡ table xs → Pushed x t xs
-unfolding pushEntry
-pushed x (table ys) xs e = record { ys = ys; rest = refl; is = cc }
-pushed x (refused n) xs e = impossible cc
-
--- n entries were read from word `at` on, each with its part inside the policy
-record Sound (policy : List ℕ) (n at : ℕ) (xs : List Entry) : Type 0 where
-  are : xs ≡ entriesFrom n policy at
-  parts : All (inside policy) xs
-
-entries-sound : (n : ℕ) (policy : List ℕ) (at due : ℕ) (earlier xs : List Entry) → entries n policy at due earlier ≡ table xs → Sound policy n at xs
-unfolding entries entriesFrom All
-entries-sound zero policy at due earlier xs e = go (eqb due (length policy)) e
-  where
-    go : (b : Bool) → (elim b as (λ c. Table) [ true ↦ table [] | false ↦ refused badTable ]) ≡ table xs → Sound policy 0 at xs
-    go true f = subst (Sound policy 0 at) (let g : [] ≡ xs = cc in g) (record { are = refl; parts = tt })
-    go false f = impossible cc
-entries-sound (suc n) policy at due earlier xs e =
-    go (λ ys f. entries-sound n policy (at + 4) (entryAt policy at .offset + entryAt policy at .size) (entryAt policy at ∷ earlier) ys f) (split (soundEntry policy due earlier (entryAt policy at)))
-  where
-    go : ((ys : List Entry) → entries n policy (at + 4) (entryAt policy at .offset + entryAt policy at .size) (entryAt policy at ∷ earlier) ≡ table ys → Sound policy n (at + 4) ys) →
-        Case (soundEntry policy due earlier (entryAt policy at)) → Sound policy (suc n) at xs
-    go ih (isTrue s) =
-        let p = pushed (entryAt policy at) _ xs (rw (s, entries) at e) in
-        let t = ih (p .ys) (p .rest) in
-        subst (Sound policy (suc n) at) (p .is) (record { are = ap (λ ys. entryAt policy at ∷ ys) (t .are); parts = (sound-of policy due earlier (entryAt policy at) s .ends, t .parts) })
-    go ih (isFalse s) = impossible (let f : refused badTable ≡ table xs = rw (s, entries) at e in cc)
 
 pub length-entries : (n : ℕ) (policy : List ℕ) (at : ℕ) → length (entriesFrom n policy at) ≡ n
 unfolding entriesFrom
 length-entries zero policy at = refl
 length-entries (suc n) policy at = ap suc (length-entries n policy (at + 4))
 
-pub record SoundTable (policy : List ℕ) (xs : List Entry) : Type 0 where
+-- the entries by their places, each with its part inside the policy
+in-places : (p : List ℕ) (at due : ℕ) (earlier xs : List Entry) → InTable p at due earlier xs → xs ≡ entriesFrom (length xs) p at
+unfolding InTable entriesFrom
+in-places p at due earlier [] h = refl
+in-places p at due earlier (x ∷ xs) h = rw (← (h .0)) (ap (λ (ys : List Entry). x ∷ ys) (in-places p (at + 4) (x .offset + x .size) (x ∷ earlier) xs (h .2)))
+
+in-parts : (p : List ℕ) (at due : ℕ) (earlier xs : List Entry) → InTable p at due earlier xs → All (inside p) xs
+unfolding InTable All
+in-parts p at due earlier [] h = tt
+in-parts p at due earlier (x ∷ xs) h = (h .1 .ends, in-parts p (at + 4) (x .offset + x .size) (x ∷ earlier) xs (h .2))
+
+pub record TableParts (policy : List ℕ) (xs : List Entry) : Type 0 where
   pub header : Header policy
   pub are : xs ≡ entriesFrom (getD policy 1 0) policy 2
   pub count : length xs ≡ getD policy 1 0
   pub parts : All (inside policy) xs
 
-pub table-sound : (policy : List ℕ) (xs : List Entry) → readTable policy ≡ table xs → SoundTable policy xs
-unfolding readTable
-table-sound policy xs e = go (split (soundHeader policy))
-  where
-    go : Case (soundHeader policy) → SoundTable policy xs
-    go (isTrue h) =
-        let t = entries-sound (getD policy 1 0) policy 2 (2 + 4 * getD policy 1 0) [] xs (rw (h, readTable) at e) in
-        record { header = header-of policy h; are = t .are; count = ap length (t .are) ∙ length-entries (getD policy 1 0) policy 2; parts = t .parts }
-    go (isFalse h) = impossible (let f : refused badHeader ≡ table xs = rw (h, readTable) at e in cc)
+pub table-parts : (policy : List ℕ) (xs : List Entry) → readTable policy ≡ table xs → TableParts policy xs
+table-parts policy xs e =
+    let t = table-sound policy xs e in
+    let due = 2 + 4 * getD policy 1 0 in
+    record {
+      header = t .header;
+      are = in-places policy 2 due [] xs (t .entries) ∙ ap (λ (n : ℕ). entriesFrom n policy 2) (t .count);
+      count = t .count;
+      parts = in-parts policy 2 due [] xs (t .entries);
+    }
 
 -- ---- parts
 
@@ -96,7 +73,7 @@ pub record Listed (p : List ℕ) (n : ℕ) : Type 0 where
 
 pub listed-of : (p : List ℕ) (n : ℕ) → table (entriesFrom n p 2) ≡ readTable p → Listed p n
 listed-of p n e =
-    let t = table-sound p (entriesFrom n p 2) (sym e) in
+    let t = table-parts p (entriesFrom n p 2) (sym e) in
     let c : n ≡ getD p 1 0 = sym (length-entries n p 2) ∙ t .count in
     record {
       few = omega (arith, t .header .count);
@@ -149,7 +126,7 @@ span-inside policy number start size e = go (readTable policy) refl (split (eqb 
             let z = in-policy start size _ _ g in
             let z₀ = z .0 in
             let z₁ = z .1 in
-            let p = all-at (inside policy) xs (table-sound policy xs f .parts) number noEntry (ltb-true number (length xs) l) in
+            let p = all-at (inside policy) xs (table-parts policy xs f .parts) number noEntry (ltb-true number (length xs) l) in
             omega arith
         pick (isFalse l) =
             let g : inPolicy start size ≡ inPolicy 0 0 = rw (b, l, spanAmong) at (rw (f, partSpan) at e) in

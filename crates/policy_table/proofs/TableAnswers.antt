@@ -6,11 +6,10 @@ use mathlib.Core.List.{List, [], _∷_}
 use native.Mathlib.Omega.{arith}
 use lib.Dec.{leb, eqb}
 use lib.ListN.{length, getD, take, drop}
-use borrow.Author.Tests.{le-leb, lt-leb, eq-eqb, ne-eqb, leb-true, eqb-true}
+use borrow.Author.Tests.{le-leb, lt-leb, eq-eqb, ne-eqb}
 use Rattle.refusals.specs.RefusalTable.{badHeader, badTable}
-use Rattle.rows.specs.Name.{isName, isPolarity}
-use Rattle.rows.proofs.Case.{and-true}
 use Rattle.policy.specs.Table.{Entry, entryAt, entryWords, Table, table, refused, named, soundEntry, pushEntry, entries, soundHeader, readTable}
+use Rattle.policy.proofs.SoundTable.{header-of, sound-of}
 use Rattle.policy_table.specs.Entries.{entryPlace, entriesFrom, entriesBefore, tableIs}
 use Rattle.policy_table.specs.declared.TableRead.the-variants as tableRead
 
@@ -38,21 +37,6 @@ module _ (p : List ℕ) where
         pub header-sound-if-table-fits : {at : ℕ} → getD p 1 0 ≤ 16 → at ≡ entryPlace (getD p 1 0) → leb at (length p) ≡ soundHeader p
         unfolding soundHeader
         header-sound-if-table-fits h e = rw (le-leb 2 (length p) two, le-leb (length p) 8192 few, eq-eqb (getD p 0 0) 1 one, le-leb (getD p 1 0) 16 h) (ap (λ a. leb a (length p)) e)
-
--- what a sound header gives
-pub record Header (p : List ℕ) : Type 0 where
-  pub two : 2 ≤ length p
-  pub count : getD p 1 0 ≤ 16
-  pub fits : entryPlace (getD p 1 0) ≤ length p
-
-pub header-of : (p : List ℕ) → soundHeader p ≡ true → Header p
-unfolding soundHeader
-header-of p e =
-    let a = and-true (leb 2 (length p)) _ e in
-    let b = and-true (leb (length p) 8192) _ (a .1) in
-    let c = and-true (eqb (getD p 0 0) 1) _ (b .1) in
-    let d = and-true (leb (getD p 1 0) 16) (leb (entryPlace (getD p 1 0)) (length p)) (c .1) in
-    record { two = leb-true 2 (length p) (a .0); count = leb-true (getD p 1 0) 16 (d .0); fits = leb-true (entryPlace (getD p 1 0)) (length p) (d .1) }
 
 -- an entry among those before it, the last of which is entry j - 1
 module _ (p : List ℕ) (i j : ℕ) (some : 0 < j) {at other : ℕ} (a : at ≡ entryPlace i) (o : other ≡ entryPlace (j - 1)) where
@@ -107,21 +91,6 @@ module _ (p : List ℕ) (due : ℕ) (before : List Entry) (x : Entry) where
 -- the entry at a place that is known by another name
 pub placed : (p : List ℕ) (due i : ℕ) {at : ℕ} {b : Bool} → at ≡ entryPlace i → b ≡ soundEntry p due (entriesBefore p i) (entryAt p at) → b ≡ soundEntry p due (entriesBefore p i) (entryAt p (entryPlace i))
 placed p due i a e = e ∙ ap (λ a. soundEntry p due (entriesBefore p i) (entryAt p a)) a
-
--- what a sound entry gives
-pub record Sound (p : List ℕ) (due : ℕ) (x : Entry) : Type 0 where
-  pub starts : x .offset ≡ due
-  pub ends : x .offset + x .size ≤ length p
-
-pub sound-of : (p : List ℕ) (due : ℕ) (before : List Entry) (x : Entry) → soundEntry p due before x ≡ true → Sound p due x
-unfolding soundEntry
-sound-of p due before x e =
-    let a = and-true (isName (x .name)) _ e in
-    let b = and-true (isPolarity (x .polarity)) _ (a .1) in
-    let c = and-true (eqb (x .offset) due) _ (b .1) in
-    let d = and-true (leb 1 (x .size)) _ (c .1) in
-    let f = and-true (leb (x .offset + x .size) (length p)) _ (d .1) in
-    record { starts = eqb-true (x .offset) due (c .0); ends = leb-true (x .offset + x .size) (length p) (f .0) }
 
 -- entries put in front of a table, the nearest first
 pub putBack : List Entry → Table → Table

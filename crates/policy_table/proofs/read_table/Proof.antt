@@ -9,7 +9,8 @@ use borrow.Author.Tests.{not-true, not-false}
 use borrow.Author.Needs.{needs}
 use Rattle.policy.specs.Table.{entryAt, soundHeader, soundEntry}
 use Rattle.policy_table.specs.Entries.{entryPlace, entriesBefore}
-use Rattle.policy_table.proofs.TableAnswers.{Header, header-of, Sound, sound-of, Reading, unsound-header-refused, none-read, unsound-entry-refused, sound-entry-read, table-ends, table-left-over}
+use Rattle.policy.proofs.SoundTable.{Header, header-of, sound-of}
+use Rattle.policy_table.proofs.TableAnswers.{Reading, unsound-header-refused, none-read, unsound-entry-refused, sound-entry-read, table-ends, table-left-over}
 use Rattle.policy_table.proofs.read_table.Statement.{statement}
 use Rattle.policy_table.proofs.read_table.Tie as tie
 
@@ -106,7 +107,7 @@ add-due c =
     let l = turned (passed c) in
     let p = policy l in
     let x = entryAt p (entryPlace (l .loop .i)) in
-    let s : Sound p (l .loop .due) x = sound-of p (l .loop .due) (entriesBefore p (l .loop .i)) x (sound (passed c)) in
+    let s = sound-of p (l .loop .due) (entriesBefore p (l .loop .i)) x (sound (passed c)) in
     omega (arith, s .starts, s .ends, size c)
 
 add-i : tie.Need-add-i Inv-loop μ-loop
