@@ -11,3 +11,4 @@ pub mod SoundTable
 pub mod Placing
 pub mod Vetting
 pub mod Rewriting
+pub mod RewrittenWords

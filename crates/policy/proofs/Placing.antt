@@ -57,7 +57,7 @@ entry-at policy at y rest h = same-entry _ _ _ _ y (subst (λ (i : ℕ). getD po
     cell : (i : ℕ) → getD policy (at + i) 0 ≡ getD (entryFour y ++ rest) i 0
     cell i = sym (getD-drop at policy i 0) ∙ ap (λ (ws : List ℕ). getD ws i 0) h
 
-parts-more : (e : Expr) (es : List Expr) → length (parts (e ∷ es)) ≡ length (exprWords e 0) + length (parts es)
+pub parts-more : (e : Expr) (es : List Expr) → length (parts (e ∷ es)) ≡ length (exprWords e 0) + length (parts es)
 unfolding parts each
 parts-more e es = length-append (exprWords e 0) (parts es)
 

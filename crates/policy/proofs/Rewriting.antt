@@ -71,7 +71,7 @@ pub accepted-lengths : {policy : List ℕ} {xs : List Entry} {ks ls : List Known
 accepted-lengths none = refl
 accepted-lengths (one a rest) = ap suc (accepted-lengths rest)
 
-later-lengths : (es : List Expr) → length (vetLater es) ≡ length es
+pub later-lengths : (es : List Expr) → length (vetLater es) ≡ length es
 unfolding vetLater
 later-lengths [] = refl
 later-lengths (e ∷ es) = ap suc (go es)
