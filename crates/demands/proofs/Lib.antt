@@ -5,3 +5,5 @@ pub mod Outcome
 pub mod Demand1
 pub mod Demand2
 pub mod Demand3
+pub mod External
+pub mod Compromised

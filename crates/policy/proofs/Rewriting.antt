@@ -80,17 +80,22 @@ later-lengths (e ∷ es) = ap suc (go es)
     go [] = refl
     go (d ∷ l) = ap suc (go l)
 
+-- definitions after the list of compromised keys
+pub later-plus : (x : Entry) (xs : List Entry) (e : Expr) (es : List Expr) → T (listsKeys x) → T (isExternal (x ∷ xs) (e ∷ es)) → T (allPlus xs es)
+unfolding isExternal
+later-plus x xs e es k t =
+    T-right (externalExpr minus e) (allPlus xs es)
+    (subst (λ (b : Bool). T (elim b as (λ c. Bool) [ true ↦ externalExpr minus e && allPlus xs es | false ↦ allPlus (x ∷ xs) (e ∷ es) ])) (true-T (listsKeys x) k) t)
+
 -- definition 0 as it was, then the vetted ones
 first-passes : (policy out : List ℕ) (xs : List Entry) (es : List Expr) (ls : List Known) → Accepted policy xs [] es ls → T (keysListed xs) → T (isExternal xs es) →
     (due : ℕ) → drop due out ≡ parts (vetLater es) → Accepted out (placed due xs (vetLater es)) [] (vetLater es) ls
-unfolding keysListed isExternal placed vetLater knownOf polarityOf
+unfolding keysListed placed vetLater knownOf polarityOf
 first-passes policy out [] es ls none k t due h = none
 first-passes policy out (x ∷ xs) (e ∷ es) ls (one a rest) k t due h =
     let isMinus : x .polarity ≡ 1 = eqb-true (x .polarity) 1 (true-T _ (T-right (eqb (x .name) 0) (eqb (x .polarity) 1) k)) in
-    let t′ : T (externalExpr minus e && allPlus xs es) =
-        subst (λ (b : Bool). T (elim b as (λ c. Bool) [ true ↦ externalExpr minus e && allPlus xs es | false ↦ allPlus (x ∷ xs) (e ∷ es) ])) (true-T (listsKeys x) k) t in
     one (record { parses = ap (parse 0) (entry-part out x due e (vetAll es) h ∙ sym (parse-iff 0 (entryWords policy x) e .0 (a .parses) .0)) ∙ a .parses; has = a .has; closed = a .closed })
-    (all-pass policy out rest (omega arith) (ap polarityOf isMinus) (T-right (externalExpr minus e) (allPlus xs es) t′) _ (next-part out due e (vetAll es) h))
+    (all-pass policy out rest (omega arith) (ap polarityOf isMinus) (later-plus x xs e es k t) _ (next-part out due e (vetAll es) h))
 
 -- "The resulting program .. satisfies our polarity discipline": it passes 1 to 7
 pub rewritten-passes : (policy : List ℕ) (xs : List Entry) (es : List Expr) (ls : List Known) → checkPolicy policy ≡ passed xs es ls → T (keysListed xs) → T (isExternal xs es) →

@@ -1,0 +1,123 @@
+-- Document 02, N2: "The rewritten policy means what the source's transformation means. Without a definition of name 0 −, the output equals the input."
+use Prim.Native.Nat.{ℕ, _≤_, _<_}
+use mathlib.Core.Path.{_≡_}
+use mathlib.Core.Logic.{_⊎_, _↔_}
+use mathlib.Core.Bool.{true, false}
+use mathlib.Core.List.{List, [], _∷_, map}
+use lib.Dec.{T}
+use lib.ListN.{length, getD}
+use Rattle.rows.specs.Word.{All, Words}
+use Rattle.rows.specs.Row.{Row, IsRow}
+use Rattle.rows.specs.Name.{plus}
+use Rattle.rows.specs.Sets.{RowSet, has}
+use Rattle.certificates.specs.Filing.{storeAt}
+use Rattle.policy.specs.Leaf.{finite, listed}
+use Rattle.policy.specs.Syntax.{atom, Expr, leaf}
+use Rattle.policy.specs.Polarity.{Known, lower}
+use Rattle.policy.specs.Table.{Entry}
+use Rattle.policy.specs.Definitions.{passed, checkPolicy}
+use Rattle.policy.specs.External.{keysListed, rewritten, rewrite}
+use Rattle.meaning.specs.World.{World, AllTrue}
+use Rattle.meaning.specs.Belonging.{Lists, InList, Meanings, BelongsBy, Belongs, meaningsBy, meanings}
+use Rattle.demands.specs.Query.{answered, Call, queryCall}
+use Rattle.demands.specs.Demand2.{CallWords}
+use Rattle.demands.specs.Demand3.{EmptyStore, Point, heldAfter}
+
+-- ---- the source's transformation
+
+-- Source document 000, section 3: "expressions of the form e$u into {x | e ∉ Compromised, x ∈ e$u}", for each key e and name u
+unfoldable pub uncompromised : (Row → Type 0) → Lists → Lists
+uncompromised Compromised lists e u p x = (¬ Compromised (e ∷ [])) × lists e u p x
+
+-- section 6: "replacing each subexpression e$u of a positive definition by" that. "The optional distinguished name, Compromised⁻" is definition 0, and every
+-- other definition is positive.
+unfoldable pub transformed : World → List Entry → List Expr → Meanings
+unfolding keysListed uncompromised BelongsBy meaningsBy InList
+transformed W entries [] = []
+transformed W entries (e ∷ es) =
+    let Compromised = Belongs W [] e [] in
+    elim (keysListed entries) [
+      | true ↦ meaningsBy (uncompromised Compromised (InList W)) es (Compromised ∷ [])
+      | false ↦ meanings W (e ∷ es) []
+    ]
+
+-- ---- what an accepted external policy is rewritten into
+
+-- "The resulting program will have a negative definition for Compromised⁻, and positive definitions for positive names": each definition is declared +, but
+-- for the first where that is name 0 −
+unfoldable pub Positive : List Entry → Type 0
+unfolding All
+Positive [] = Unit {0}
+Positive (x ∷ xs) = ((x .polarity ≡ 0) ⊎ ((x .name ≡ 0) × (x .polarity ≡ 1))) × All (λ y. y .polarity ≡ 0) xs
+
+-- an external policy and its output
+pub record Means (policy out : List ℕ) : Type 1 where
+  -- the definitions of the policy
+  pub entries : List Entry
+  pub source : List Expr
+  pub known : List Known
+  pub checks : checkPolicy policy ≡ passed entries source known
+  -- "so it satisfies our polarity discipline": the output passes 1 to 7 and has no more than 8,192 words
+  pub places : List Entry
+  pub target : List Expr
+  pub passes : checkPolicy out ≡ passed places target known
+  pub short : length out ≤ 8192
+  pub words : Words policy → Words out
+  -- its definitions are as many, of the same names and polarities
+  pub count : length target ≡ length source
+  pub names : map (λ x. x .name) places ≡ map (λ x. x .name) entries
+  pub polarities : map (λ x. x .polarity) places ≡ map (λ x. x .polarity) entries
+  pub positive : Positive places
+  -- in every world each definition has just the rows that the source's transformation of it has
+  pub same : (W : World) (d : ℕ) (r : Row) → getD (meanings W target []) d (λ x. ⊥) r ↔ getD (transformed W entries source) d (λ x. ⊥) r
+
+abbrev pub Theorem : Type 1
+Theorem = (policy out : List ℕ) → rewrite policy ≡ rewritten out → Means policy out
+
+-- "Without a definition of name 0 −, the output equals the input."
+abbrev pub Unchanged : Type 0
+Unchanged = (policy out : List ℕ) (entries : List Entry) (source : List Expr) (known : List Known) → checkPolicy policy ≡ passed entries source known →
+    keysListed entries ≡ false → rewrite policy ≡ rewritten out → out ≡ policy
+
+-- ---- what a curator can rely on: "compromised keys are not relied on in determining the user's policies"
+
+-- a lower answer to "definition d" (3 d) under the output of an external policy, at a point of a list of filings from an empty store, as in demand 3
+pub record LowerAnswer (policy : List ℕ) (d : ℕ) (S : RowSet) : Type 0 where
+  pub out : List ℕ
+  pub rewrites : rewrite policy ≡ rewritten out
+  pub store : List ℕ
+  pub empty : EmptyStore store
+  pub filings : List (List ℕ)
+  pub filed : All Words filings
+  pub point : Point filings
+  pub call : Call
+  pub words : CallWords call
+  pub policyIs : call .policy ≡ out
+  pub queryIs : call .query ≡ 3 ∷ d ∷ []
+  pub draws : ℕ
+  pub answer : queryCall (storeAt store (point .passed)) call ≡ answered lower draws S
+
+-- one key's lists left out
+unfoldable pub without : ℕ → Lists → Lists
+without key lists e u p x = (¬ (e ≡ key)) × lists e u p x
+
+-- the definitions, that key's lists left out of all but the compromised keys'
+unfoldable pub withoutKey : ℕ → World → List Expr → Meanings
+unfolding without BelongsBy meaningsBy InList
+withoutKey key W [] = []
+withoutKey key W (e ∷ es) = meaningsBy (without key (InList W)) es (Belongs W [] e [] ∷ [])
+
+-- A row that compromised keys alone would bring in is in no lower answer.
+pub record NoneByCompromised (policy : List ℕ) (entries : List Entry) (source : List Expr) (d : ℕ) (S : RowSet) (a : LowerAnswer policy d S) : Type 1 where
+  -- in every world where all certificates accepted so far are true, each of its rows belongs to the source's transformation of the definition
+  pub rows : (W : World) → AllTrue W (heldAfter (a .point .passed)) → (r : Row) → IsRow r → T (has S r) → getD (transformed W entries source) d (λ x. ⊥) r
+  -- a key that is compromised in one such world brings none of them in: each belongs to the definition there without that key's lists
+  pub notByKey : keysListed entries ≡ true → (W : World) → AllTrue W (heldAfter (a .point .passed)) → (key : ℕ) → getD (meanings W source []) 0 (λ x. ⊥) (key ∷ []) →
+      (r : Row) → IsRow r → T (has S r) → getD (withoutKey key W source) d (λ x. ⊥) r
+  -- so where the definition is a name of that key and nothing else, the answer has no row at all
+  pub noRow : keysListed entries ≡ true → (W : World) → AllTrue W (heldAfter (a .point .passed)) → (key : ℕ) → getD (meanings W source []) 0 (λ x. ⊥) (key ∷ []) →
+      (n : ℕ) → 0 < d → getD source d (leaf (finite [])) ≡ leaf (listed (atom key) n plus) → (r : Row) → IsRow r → ¬ T (has S r)
+
+abbrev pub NotReliedOn : Type 1
+NotReliedOn = (policy : List ℕ) (entries : List Entry) (source : List Expr) (known : List Known) → checkPolicy policy ≡ passed entries source known →
+    (d : ℕ) (S : RowSet) (a : LowerAnswer policy d S) → NoneByCompromised policy entries source d S a
