@@ -8,6 +8,7 @@ pub mod Scope
 pub mod Judging
 pub mod Judged
 pub mod SoundTable
+pub mod Rewritten
 pub mod Placing
 pub mod Vetting
 pub mod Rewriting

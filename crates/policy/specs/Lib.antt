@@ -16,4 +16,5 @@ pub mod Judgement
 pub mod Judged
 pub mod Part
 pub mod External
+pub mod Rewritten
 pub mod Held
