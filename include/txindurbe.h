@@ -22,7 +22,7 @@ extern "C" {
 
 /* The version of this interface, and the same as one number that grows with it. */
 #define TXINDURBE_VERSION_MAJOR 0
-#define TXINDURBE_VERSION_MINOR 3
+#define TXINDURBE_VERSION_MINOR 4
 #define TXINDURBE_VERSION_PATCH 0
 #define TXINDURBE_VERSION (TXINDURBE_VERSION_MAJOR * 1000000 + TXINDURBE_VERSION_MINOR * 1000 + TXINDURBE_VERSION_PATCH)
 
@@ -42,6 +42,7 @@ enum {
 
 /* Lengths. A longer store or area is fine. A store starts empty if its first word is 0, whatever the others are. */
 enum {
+    TXB_POLICY_WORDS = 8192,         /* the most words of a policy: an area of so many takes every rewritten one */
     TXB_STORE_WORDS = 16001,         /* a count, then up to 2,000 certificates */
     TXB_CERTIFICATE_WORDS = 8,       /* key, name, polarity, width (1 to 4), four atoms, unused ones 0 */
     TXB_ANSWER_WORDS = 642,          /* form (0 these rows, 1 all rows but these), count, then width and four atoms a row; 128 rows at most */
@@ -63,7 +64,7 @@ enum {
     TXB_HELD = 1                     /* it was there already */
 };
 
-/* Refusal numbers. txb_file gives 8, 9 and 10, txb_judge 1 to 7, txb_query all but 9 and 10. */
+/* Refusal numbers. txb_file gives 8, 9 and 10, txb_judge 1 to 7, txb_query 1 to 8 and 11 to 14, txb_rewrite 1 to 7, 11 and 15. */
 enum {
     TXB_BAD_HEADER = 1,              /* policy: under 2 or over 8,192 words, another format, over 16 definitions, or the table is cut short */
     TXB_BAD_TABLE = 2,               /* policy: a table entry breaks a rule, or the parts do not end with the policy */
@@ -76,10 +77,11 @@ enum {
     TXB_BAD_STORE = 8,               /* the store is too short or unsound */
     TXB_BAD_CERTIFICATE = 9,         /* the certificate is not eight words, or unsound */
     TXB_STORE_FULL = 10,             /* 2,000 certificates are held and this one is new */
-    TXB_SHORT_AREA = 11,             /* the answer, definition or scratch area is too short */
+    TXB_SHORT_AREA = 11,             /* the answer, definition or scratch area is too short, or the area for a rewritten policy */
     TXB_COMPLEMENT_DRAWN = 12,       /* a complement is drawn from while reading */
     TXB_TOO_MANY_ROWS = 13,          /* a value lists over 128 rows: that of the query, of a definition, or of anything read on the way, as one name's list */
-    TXB_TOO_MANY_DRAWS = 14          /* a draw is due and 1,000,000 were made */
+    TXB_TOO_MANY_DRAWS = 14,         /* a draw is due and 1,000,000 were made */
+    TXB_NOT_EXTERNAL = 15            /* policy: an external rule is broken, or the output would pass 8,192 words */
 };
 
 /* The part that a refusal is about: 0 to 15 a definition, or one of these. */
@@ -102,6 +104,14 @@ uint32_t txb_judge(const uint32_t *policy, size_t policy_words, const uint32_t *
 uint32_t txb_query(const uint32_t *policy, size_t policy_words, const uint32_t *query, size_t query_words, const uint32_t *store, size_t store_words,
                    uint32_t *answer, size_t answer_words, uint32_t *definitions, size_t definitions_words, uint32_t *scratch, size_t scratch_words,
                    uint32_t *part, uint32_t *verdict, uint32_t *draws);
+
+/* Rewrites an external policy, so that it relies on no list of a compromised key. In an external policy definition 0 may be the name 0, -, which lists the
+ * compromised keys; every other definition is +, and none has a difference, an absent guard or code 8. Each key's list (code 4) in a later definition becomes
+ * vetted (code 8, the same words, then definition 0): that list if the key's row is absent from definition 0, no rows otherwise. Without a definition of name
+ * 0, -, the output equals the input. Queries are not rewritten. Returns 0 and the output's length, with the part TXB_NO_PART: the output fills so many words of
+ * the area, and the rest of it is unchanged. Or returns a refusal number and its part, with the length 0: the area is then unchanged. TXB_NOT_EXTERNAL comes
+ * after 1 to 7, TXB_SHORT_AREA after that, if the area has fewer words than the output. */
+uint32_t txb_rewrite(const uint32_t *policy, size_t policy_words, uint32_t *area, size_t area_words, uint32_t *part, size_t *length);
 
 /* Where the words of a part stand (0 to 15 a definition, 16 the query), to show what a refusal is about. Returns how many they are. They start at the word
  * start of the policy, and of_query is 0; or they are the whole query, at any length, of_query is 1 and start 0. There are none if there is no such definition
