@@ -1,4 +1,4 @@
-//! The five calls of `include/txindurbe.h` over slices of words. All of this crate's unsafe code is here.
+//! The six calls of `include/txindurbe.h` over slices of words. All of this crate's unsafe code is here.
 //!
 //! Every call takes any words at all and ends: what is malformed gets its refusal number. Most portals use [`Store`](crate::Store) and
 //! [`Engine`](crate::Engine) instead.
@@ -26,6 +26,7 @@ mod c {
             draws: *mut u32,
         ) -> u32;
         pub fn txb_judge(policy: *const u32, policy_words: usize, query: *const u32, query_words: usize, part: *mut u32, verdict: *mut u32) -> u32;
+        pub fn txb_rewrite(policy: *const u32, policy_words: usize, area: *mut u32, area_words: usize, part: *mut u32, length: *mut usize) -> u32;
         pub fn txb_part(
             policy: *const u32,
             policy_words: usize,
@@ -56,9 +57,17 @@ pub struct Judgement {
     pub verdict: u32,
 }
 
+/// What rewriting hands out beside the output's words: number 0, part 17 and how many words they are; with a refusal its number and part, and length 0.
+#[derive(Clone, Copy, PartialEq, Eq, Debug)]
+pub struct Rewriting {
+    pub number: u32,
+    pub part: u32,
+    pub length: usize,
+}
+
 /// What out-parameters hold before a call. No reply has it, so that one left unwritten would be seen.
 const UNWRITTEN: u32 = u32::MAX;
-const NO_START: usize = usize::MAX;
+const UNWRITTEN_SIZE: usize = usize::MAX;
 
 // SAFETY, of each call below: a slice's pointer is good for its length, the library reads and writes within the lengths handed to it, what it writes is
 // lent to it alone, and it keeps no pointer.
@@ -99,16 +108,23 @@ pub fn judge(policy: &[u32], query: &[u32]) -> Judgement {
     Judgement { number, part, verdict }
 }
 
+/// The output is written to the front of the area.
+pub fn rewrite(policy: &[u32], area: &mut [u32]) -> Rewriting {
+    let (mut part, mut length) = (UNWRITTEN, UNWRITTEN_SIZE);
+    let number = unsafe { c::txb_rewrite(policy.as_ptr(), policy.len(), area.as_mut_ptr(), area.len(), &mut part, &mut length) };
+    Rewriting { number, part, length }
+}
+
 /// 1 for words of the query, 0 for words of the policy, and where in it they stand.
 pub fn part(policy: &[u32], query: &[u32], number: u32) -> (u32, Range<usize>) {
-    let (mut of_query, mut start) = (UNWRITTEN, NO_START);
+    let (mut of_query, mut start) = (UNWRITTEN, UNWRITTEN_SIZE);
     let length = unsafe { c::txb_part(policy.as_ptr(), policy.len(), query.as_ptr(), query.len(), number, &mut of_query, &mut start) };
     (of_query, start..start + length)
 }
 
 /// Where in the store they stand.
 pub fn certificates_of(store: &[u32], key: u32, name: u32, polarity: u32) -> Range<usize> {
-    let mut start = NO_START;
+    let mut start = UNWRITTEN_SIZE;
     let length = unsafe { c::txb_certificates_of(store.as_ptr(), store.len(), key, name, polarity, &mut start) };
     start..start + length
 }

@@ -65,6 +65,20 @@ impl Expression {
         Expression(words)
     }
 
+    /// A key's + list if the key is absent from a definition of compromised keys, no rows otherwise. The definition must be declared −: where it is read from a
+    /// − list, each key counts as compromised until it is certified not to be. [`Policy::rewrite`](crate::Policy::rewrite) writes this for a policy's lists.
+    pub fn vetted_list(key: u32, name: u16, compromised: u32) -> Expression {
+        Expression::vetted_list_of(Term::Atom(key), name, compromised)
+    }
+
+    /// The same of a key that a variable holds.
+    pub fn vetted_list_of(issuer: Term, name: u16, compromised: u32) -> Expression {
+        let mut words = vec![8];
+        term(issuer, &mut words);
+        words.extend([name.into(), Polarity::Plus as u32, compromised]);
+        Expression(words)
+    }
+
     pub fn union(self, other: Expression) -> Expression {
         Expression([vec![5], self.0, other.0].concat())
     }

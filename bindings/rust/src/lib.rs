@@ -1,6 +1,7 @@
 //! Txindurbe for Rust: file certificates, ask queries, get tables marked lower, upper or exact.
 //!
-//! The engine behind it is proved to do what its documents say, on every input. This crate gives it types and owns its areas. Before you show a table, read
+//! The engine behind it is proved to do what its documents say, on every input. This crate gives it types and owns its areas. A policy that is to rely on no
+//! compromised key is written by the external rules and rewritten ([`Policy::rewrite`]). Before you show a table, read
 //! - [`Table`]: what lower, upper and exact promise about lists that the archive holds in part;
 //! - [`Polarity`]: the + list and the − list of one number are two lists;
 //! - [`Rows`]: no set lists over 128 rows, and what would is refused.

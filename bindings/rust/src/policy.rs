@@ -1,3 +1,4 @@
+use crate::sizes::POLICY_WORDS;
 use crate::{calls, Expression, Part, Polarity, Refusal, Verdict};
 
 /// A name, the polarity that it is declared with, and what it stands for.
@@ -40,6 +41,21 @@ impl Policy {
     pub fn judge(&self, query: &Query) -> Result<Verdict, Refusal> {
         let judgement = calls::judge(&self.words, query.words());
         Verdict::from_numbers(judgement.number, judgement.part, judgement.verdict)
+    }
+
+    /// An external policy rewritten, so that it relies on no list of a compromised key.
+    ///
+    /// In an external policy definition 0 may be the name 0, −, which lists the compromised keys. Every other definition is +, and none has a difference, an
+    /// absent guard or a [`vetted_list`](Expression::vetted_list). Each [`list`](Expression::list) in a later definition becomes vetted by definition 0.
+    /// Without a definition of name 0, −, the output equals this policy. A query is not rewritten: it asks for the definitions, or for lists as it names them.
+    pub fn rewrite(&self) -> Result<Policy, Refusal> {
+        let mut words = vec![0; POLICY_WORDS];
+        let rewriting = calls::rewrite(&self.words, &mut words);
+        if rewriting.number > 0 {
+            return Err(Refusal::from_number(rewriting.number, Part::from_number(rewriting.part)));
+        }
+        words.truncate(rewriting.length);
+        Ok(Policy { words })
     }
 
     /// The words of the definition or query that a refusal is about; none if there is no such definition or the policy's table is broken.

@@ -29,7 +29,7 @@ impl Part {
     }
 }
 
-/// Document 01's refusal table: the engine's word for each, its number and what it means.
+/// The documents' refusal table: the engine's word for each, its number and what it means.
 macro_rules! refusal_table {
     ($($kind:ident = $number:literal, $meaning:literal;)*) => {
         /// What was wrong. Later versions may know more kinds.
@@ -68,14 +68,15 @@ refusal_table! {
     BadStore = 8, "the store is too short or unsound";
     BadCertificate = 9, "the certificate is not eight words or unsound";
     StoreFull = 10, "the store holds 2,000 certificates and this one is new";
-    ShortArea = 11, "an area lent to the query is too short";
+    ShortArea = 11, "an area lent to the call is too short";
     ComplementDrawn = 12, "a complement is drawn from while reading";
     TooManyRows = 13, "a value lists over 128 rows";
     TooManyDraws = 14, "a draw is due and 1,000,000 were made";
+    NotExternal = 15, "an external rule is broken, or the output would pass 8,192 words";
 }
 
 impl RefusalKind {
-    /// Document 01's number.
+    /// The documents' number.
     pub fn number(self) -> u32 {
         self as u32
     }
@@ -90,13 +91,13 @@ pub struct Refusal {
 }
 
 impl Refusal {
-    /// Of a number that the library gave. One that document 01 does not list means that another version of the library is linked.
+    /// Of a number that the library gave. One that the documents do not list means that another version of the library is linked.
     pub(crate) fn from_number(number: u32, part: Option<Part>) -> Refusal {
         let kind = RefusalKind::from_number(number).unwrap_or_else(|| panic!("the library linked has a refusal {number}"));
         Refusal { kind, part }
     }
 
-    /// Document 01's number.
+    /// The documents' number.
     pub fn number(&self) -> u32 {
         self.kind.number()
     }

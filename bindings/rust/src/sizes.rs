@@ -18,6 +18,8 @@ pub const STORE_WORDS: usize = 1 + CERTIFICATE_WORDS * MOST_CERTIFICATES;
 
 /// The most definitions of a policy.
 pub const MOST_DEFINITIONS: usize = 16;
+/// The most words of a policy: an area of so many takes every rewritten one.
+pub const POLICY_WORDS: usize = 8_192;
 
 /// The areas that a query is lent.
 pub const ANSWER_WORDS: usize = SET_WORDS;
@@ -32,6 +34,7 @@ mod tests {
     fn the_header_has_the_same() {
         let header = include_str!("../../../include/txindurbe.h");
         let sizes = [
+            ("POLICY", POLICY_WORDS),
             ("STORE", STORE_WORDS),
             ("CERTIFICATE", CERTIFICATE_WORDS),
             ("ANSWER", ANSWER_WORDS),
