@@ -13,8 +13,9 @@ use txindurbe::calls::Reply;
 pub struct Tally {
     pub passed: u64,
     pub failed: u64,
-    /// Replies to filings by number, to queries by refusal number, and answers by verdict and form.
+    /// Replies to filings and to rewritings by number, to queries by refusal number, and answers by verdict and form.
     pub filings: BTreeMap<u32, u64>,
+    pub rewritings: BTreeMap<u32, u64>,
     pub refusals: BTreeMap<u32, u64>,
     pub answers: BTreeMap<(u32, &'static str), u64>,
     /// The first few failures, in full.
@@ -163,12 +164,23 @@ impl<'a> Comparison<'a> {
             equal("the same query with other junk", self.query(case, store)?, reply)?;
         }
         equal("judgement", self.tested.judge(policy, query), Engine::judge(&self.expected, policy, query))?;
+        self.rewrite(policy, case.rewriting_area)?;
         let (of_query, words) = Engine::part(&self.expected, policy, query, case.number);
         let (tested_of_query, tested_words) = self.tested.part(policy, query, case.number);
         equal(&format!("whether part {} is the query", case.number), tested_of_query, of_query)?;
         same_range(&format!("part {}", case.number), tested_words, words)?;
         let certificates = Engine::certificates_of(&self.expected, store, case.name);
         same_range(&format!("certificates of {:?}", case.name), self.tested.certificates_of(store, case.name), certificates)
+    }
+
+    fn rewrite(&mut self, policy: &[u32], length: usize) -> Result<(), String> {
+        let mut expected = self.junk.area(length, &mut self.random);
+        let mut tested = expected.clone();
+        let reply = Engine::rewrite(&self.expected, policy, expected.lent());
+        *self.tally.rewritings.entry(reply.number).or_default() += 1;
+        equal(&format!("rewriting into {length} words"), self.tested.rewrite(policy, tested.lent()), reply)?;
+        same_words("rewritten policy", tested.lent(), expected.lent())?;
+        tested.fences_kept("rewritten policy's")
     }
 
     fn query(&mut self, case: &Case, store: &[u32]) -> Result<Reply, String> {
@@ -226,6 +238,9 @@ mod tests {
         assert_eq!(tally.failed, 0);
         for number in [0, 1, 8, 9, 10] {
             assert!(tally.filings.get(&number) > Some(&20), "filing reply {number}: {:?}", tally.filings);
+        }
+        for number in [0, 1, 2, 3, 4, 5, 6, 7, 11, 15] {
+            assert!(tally.rewritings.get(&number) > Some(&20), "rewriting reply {number}: {:?}", tally.rewritings);
         }
         for number in [1, 2, 3, 4, 5, 6, 7, 8, 11, 13] {
             assert!(tally.refusals.get(&number) > Some(&20), "refusal {number}: {:?}", tally.refusals);

@@ -4,14 +4,15 @@ use crate::evaluator::{certificates_of, Answer, Areas, Evaluator, Filing, Part, 
 use crate::faults::{self, Fault};
 use crate::numbers::NO_PART;
 use std::ops::Range;
-use txindurbe::calls::{Judgement, Reply};
+use txindurbe::calls::{Judgement, Reply, Rewriting};
 
-/// The five calls of `include/txindurbe.h`, with all that they hand out.
+/// The six calls of `include/txindurbe.h`, with all that they hand out.
 pub trait Engine {
     /// 0 Filed, 1 Held, else the refusal's number.
     fn file(&self, store: &mut [u32], certificate: &[u32]) -> u32;
     fn query(&self, policy: &[u32], query: &[u32], store: &[u32], lent: Lent) -> Reply;
     fn judge(&self, policy: &[u32], query: &[u32]) -> Judgement;
+    fn rewrite(&self, policy: &[u32], area: &mut [u32]) -> Rewriting;
     /// 1 for words of the query, 0 for words of the policy, and where in it they stand.
     fn part(&self, policy: &[u32], query: &[u32], number: u32) -> (u32, Range<usize>);
     fn certificates_of(&self, store: &[u32], name: [u32; 3]) -> Range<usize>;
@@ -73,6 +74,16 @@ impl Engine for Evaluator {
 
     fn judge(&self, policy: &[u32], query: &[u32]) -> Judgement {
         judgement(Evaluator::judge(self, policy, query).map(|judged| judged.verdict))
+    }
+
+    fn rewrite(&self, policy: &[u32], area: &mut [u32]) -> Rewriting {
+        match Evaluator::rewrite(self, policy, area) {
+            Ok(length) => Rewriting { number: 0, part: NO_PART, length },
+            Err(Refusal { number, part }) => {
+                let length = if self.has(Fault::RefusedLengthHandedOut) { policy.len() } else { 0 }; // planted
+                Rewriting { number, part, length }
+            }
+        }
     }
 
     fn part(&self, policy: &[u32], query: &[u32], number: u32) -> (u32, Range<usize>) {

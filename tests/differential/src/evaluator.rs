@@ -1,4 +1,4 @@
-//! Document 01, with document 02's N1, as a plain program, section by section, to be read with the documents beside it.
+//! Document 01, with document 02's N1 and N2, as a plain program, section by section, to be read with the documents beside it.
 //!
 //! It is slow and short on purpose: sets are `BTreeSet`s, words are parsed by recursive descent, and nothing is shared with the engine it is compared with.
 //! Places marked `planted`, and calls of [`faults`], are mistakes that are made only when asked for; without a [`Fault`] they do nothing.
@@ -209,10 +209,23 @@ pub enum Expression {
     Rows(Vec<Vec<Term>>),
     AllBut(Vec<Vec<Term>>),
     Definition(usize),
-    List { issuer: Term, name: u32, polarity: u32 },
+    List {
+        issuer: Term,
+        name: u32,
+        polarity: u32,
+    },
+    /// Code 8: a key's + list, vetted by a definition of compromised keys.
+    Vetted {
+        issuer: Term,
+        name: u32,
+        definition: usize,
+    },
     Union(Box<Expression>, Box<Expression>),
     Difference(Box<Expression>, Box<Expression>),
-    Comprehension { guards: Vec<Guard>, head: Vec<Term> },
+    Comprehension {
+        guards: Vec<Guard>,
+        head: Vec<Term>,
+    },
 }
 
 #[derive(Clone, PartialEq, Eq, Debug)]
@@ -235,6 +248,8 @@ struct Parser<'a> {
     /// Variables in scope.
     variables: usize,
     draws: u32,
+    /// Where each code 4 stands with its words.
+    lists: Vec<Range<usize>>,
     evaluator: Evaluator,
 }
 
@@ -263,7 +278,7 @@ impl Parser<'_> {
     }
 
     fn expression(&mut self, depth: u32) -> Numbered<Expression> {
-        let code = self.within(1..=7)?;
+        let code = self.within(1..=8)?;
         let deepest = DEEPEST + self.evaluator.has(Fault::Depth16Passes) as u32; // planted
         if depth > deepest {
             return Err(TOO_DEEP);
@@ -275,7 +290,8 @@ impl Parser<'_> {
             4 => self.list()?,
             5 => Expression::Union(self.inside(depth)?, self.inside(depth)?),
             6 => Expression::Difference(self.inside(depth)?, self.inside(depth)?),
-            _ => self.comprehension(depth)?,
+            7 => self.comprehension(depth)?,
+            _ => self.vetted()?,
         })
     }
 
@@ -319,13 +335,36 @@ impl Parser<'_> {
     }
 
     fn list(&mut self) -> Numbered<Expression> {
-        let issuer = match self.within(0..=1)? {
-            0 => Term::Atom(self.within(FIRST_KEY..=u32::MAX)?),
-            _ => self.variable()?,
-        };
+        let code = self.at - 1;
+        let issuer = self.issuer()?;
         let name = self.within(0..=LAST_NAME)?;
         let polarity = self.within(0..=1)?;
+        self.lists.push(code..self.at);
         Ok(Expression::List { issuer, name, polarity })
+    }
+
+    fn issuer(&mut self) -> Numbered<Term> {
+        match self.within(0..=1)? {
+            0 => Ok(Term::Atom(self.within(FIRST_KEY..=u32::MAX)?)),
+            _ => self.variable(),
+        }
+    }
+
+    /// The same words as a list, of which − is refused, and then a definition.
+    fn vetted(&mut self) -> Numbered<Expression> {
+        let issuer = self.issuer()?;
+        let name = self.within(0..=LAST_NAME)?;
+        let polarity = self.word()?;
+        let late = self.evaluator.has(Fault::VettedMinusRefusedLate); // planted
+        let passes = self.evaluator.has(Fault::VettedMinusPasses) && polarity == 1; // planted
+        if polarity != 0 && !passes && !late {
+            return Err(BAD_WORD);
+        }
+        let definition = self.definition()?;
+        if polarity != 0 && late {
+            return Err(BAD_WORD); // planted
+        }
+        Ok(Expression::Vetted { issuer, name, definition })
     }
 
     fn comprehension(&mut self, depth: u32) -> Numbered<Expression> {
@@ -488,6 +527,7 @@ impl Reading {
             Expression::AllBut(rows) => Ok(Set::Complement(written(rows, values))),
             Expression::Definition(number) => Ok(self.definitions[*number].clone()),
             Expression::List { issuer, name, polarity } => self.list(*issuer, *name, *polarity, values),
+            Expression::Vetted { issuer, name, definition } => self.vetted(*issuer, *name, *definition, values),
             Expression::Union(left, right) => self.union(left, right, values),
             Expression::Difference(left, right) => self.difference(left, right, values),
             Expression::Comprehension { guards, head } => {
@@ -506,6 +546,21 @@ impl Reading {
             Some(planted) => Ok(planted),
             None => limited(set),
         }
+    }
+
+    /// The list if the one-atom row of the issuer is absent from the definition, and no rows otherwise: the list is then not read.
+    fn vetted(&mut self, issuer: Term, name: u32, definition: usize, values: &[u32]) -> Numbered<Set> {
+        let fault = self.evaluator.fault;
+        let definition = if fault == Some(Fault::VettedByDefinition0) { 0 } else { definition }; // planted
+        if fault == Some(Fault::VettedListReadFirst) {
+            self.list(issuer, name, 0, values)?; // planted
+        }
+        self.draws += (fault == Some(Fault::LookUpCountedAsDraw)) as u32; // planted
+        let (compromised, issuer_row) = (&self.definitions[definition], Row::new(&[value(issuer, values)]));
+        if faults::wrong_look_up(fault, compromised, &issuer_row).unwrap_or_else(|| compromised.holds(&issuer_row)) {
+            return Ok(Set::Finite(BTreeSet::new()));
+        }
+        self.list(issuer, name, 0, values)
     }
 
     fn union(&mut self, left: &Expression, right: &Expression, values: &mut Vec<u32>) -> Numbered<Set> {
@@ -726,8 +781,15 @@ impl Evaluator {
         if self.has(Fault::QueryLengthFirst) && !(1..=MOST_QUERY_WORDS).contains(&query.len()) {
             return Err(Refusal { number: BAD_WORD, part: QUERY_PART }); // planted
         }
+        let definitions = self.definitions(policy, &entries)?;
+        let (query, verdict) = in_part(self.judge_query(query, &definitions), QUERY_PART)?;
+        Ok(Judged { definitions, query, verdict })
+    }
+
+    /// 3 to 7 of each definition in turn.
+    fn definitions(&self, policy: &[u32], entries: &[Entry]) -> Result<Vec<Definition>, Refusal> {
         if self.has(Fault::ParsedBeforeJudged) {
-            self.parse_all(policy, &entries)?; // planted
+            self.parse_all(policy, entries)?; // planted
         }
         let mut definitions: Vec<Definition> = Vec::new();
         for (entry, part) in entries.iter().zip(0..) {
@@ -736,20 +798,17 @@ impl Evaluator {
             let definition = self.judge_definition(words, entry.polarity, &definitions);
             definitions.push(in_part(definition, part)?);
         }
-        let (query, verdict) = in_part(self.judge_query(query, &definitions), QUERY_PART)?;
-        Ok(Judged { definitions, query, verdict })
+        Ok(definitions)
     }
 
-    /// Planted with `ParsedBeforeJudged`.
-    fn parse_all(&self, policy: &[u32], entries: &[Entry]) -> Result<(), Refusal> {
-        for (entry, part) in entries.iter().zip(0..) {
-            in_part(self.parser(&policy[entry.part.clone()], part as usize).expression(1), part)?;
-        }
-        Ok(())
+    /// Planted with `ParsedBeforeJudged` and `NotExternalBeforePolarity`.
+    fn parse_all(&self, policy: &[u32], entries: &[Entry]) -> Result<Vec<Expression>, Refusal> {
+        let parsed = |(entry, part): (&Entry, u32)| in_part(self.parser(&policy[entry.part.clone()], part as usize).expression(1), part);
+        entries.iter().zip(0..).map(parsed).collect()
     }
 
     fn parser<'a>(&self, words: &'a [u32], available: usize) -> Parser<'a> {
-        Parser { words, at: 0, available, variables: 0, draws: 0, evaluator: *self }
+        Parser { words, at: 0, available, variables: 0, draws: 0, lists: Vec::new(), evaluator: *self }
     }
 
     fn judge_definition(&self, words: &[u32], polarity: u32, earlier: &[Definition]) -> Numbered<Definition> {
@@ -792,6 +851,11 @@ impl Evaluator {
             Expression::Rows(_) | Expression::AllBut(_) => Polarities::BOTH,
             Expression::Definition(number) => Polarities::only(definitions[*number].polarity),
             Expression::List { polarity, .. } => Polarities::only(*polarity),
+            Expression::Vetted { .. } if self.has(Fault::VettedAlwaysPlus) => Polarities::only(0), // planted
+            Expression::Vetted { definition, .. } if self.has(Fault::VettedTurnsRound) => {
+                Polarities::only(definitions[*definition].polarity).opposite()
+            } // planted
+            Expression::Vetted { definition, .. } => Polarities { plus: definitions[*definition].polarity == 1, minus: false },
             Expression::Union(left, right) => of(left).common(of(right)),
             Expression::Difference(left, right) => of(left).common(of(right).opposite()),
             Expression::Comprehension { guards, .. } => guards.iter().fold(Polarities::BOTH, |had, guard| match guard {
@@ -812,6 +876,7 @@ impl Evaluator {
             Expression::Definition(number) => definitions[*number].open,
             Expression::Union(left, right) => of(left) || of(right),
             Expression::Difference(left, right) => of(left) || (self.has(Fault::OpenRightCounts) && of(right)), // the right is planted
+            Expression::Vetted { definition, .. } => self.has(Fault::VettedOpen) && definitions[*definition].open, // planted
             Expression::Rows(_) | Expression::Comprehension { .. } => false,
         }
     }
@@ -828,6 +893,108 @@ impl Evaluator {
             }),
             _ => Ok(()),
         }
+    }
+
+    /// 1 to 7 of the policy alone; 15; 11. Writes the output to the front of the area and gives its length.
+    pub fn rewrite(&self, policy: &[u32], area: &mut [u32]) -> Result<usize, Refusal> {
+        let entries = self.table(policy).or_else(refused)?;
+        if let (true, Ok(parsed)) = (self.has(Fault::NotExternalBeforePolarity), self.parse_all(policy, &entries)) {
+            self.external(&entries, &parsed)?; // planted
+        }
+        let expressions: Vec<Expression> = self.definitions(policy, &entries)?.into_iter().map(|definition| definition.expression).collect();
+        let output = self.rewritten(policy, &entries);
+        if self.has(Fault::ShortAreaBeforeNotExternal) && area.len() < output.len() {
+            return refused(SHORT_AREA); // planted
+        }
+        self.external(&entries, &expressions)?;
+        if output.len() > MOST_POLICY_WORDS - self.has(Fault::OutputOf8192Refused) as usize && !self.has(Fault::OutputOf8193Passes) {
+            return refused(NOT_EXTERNAL); // the faults are planted
+        }
+        let fits = output.len().min(area.len());
+        if self.has(Fault::ShortAreaWritten) {
+            area[..fits].copy_from_slice(&output[..fits]); // planted
+        }
+        if area.len() < output.len() && !(self.has(Fault::AreaAsLongAsTheInput) && area.len() >= policy.len()) {
+            return refused(SHORT_AREA); // the exception is planted
+        }
+        area[..fits].copy_from_slice(&output[..fits]);
+        if self.has(Fault::PastOutputCleared) {
+            area[fits..].iter_mut().take(1).for_each(|word| *word = 0); // planted
+        }
+        Ok(output.len())
+    }
+
+    /// Document 02's definition 0, the negative name 0.
+    fn lists_compromised(&self, number: usize, entry: &Entry) -> bool {
+        let named = entry.name == COMPROMISED || self.has(Fault::MinusOfAnotherNameCompromised); // planted
+        let minus = entry.polarity == 1 || self.has(Fault::NamePlusCompromised); // planted
+        number == 0 && named && minus
+    }
+
+    /// 15, an external rule is broken: definition 0 may be the negative name 0 and reads only − names; every other one is + and reads only + names.
+    fn external(&self, entries: &[Entry], expressions: &[Expression]) -> Result<(), Refusal> {
+        let unasked = self.has(Fault::RulesAskedOfCompromisedAlone) && !entries.first().is_some_and(|entry| self.lists_compromised(0, entry)); // planted
+        for ((entry, expression), number) in entries.iter().zip(expressions).zip(0..) {
+            let declared = entry.polarity == 0 || self.lists_compromised(number, entry) || self.has(Fault::MinusElsewhereAccepted); // planted
+            if !(unasked || declared && self.keeps_rules(expression, entry.polarity)) {
+                let part = if self.has(Fault::NotExternalHasAPart) { number as u32 } else { NO_PART }; // planted
+                return Err(Refusal { number: NOT_EXTERNAL, part });
+            }
+        }
+        Ok(())
+    }
+
+    /// Difference, absent guards and code 8 appear in none, and it reads only names of this polarity.
+    fn keeps_rules(&self, expression: &Expression, polarity: u32) -> bool {
+        let inside = |inner: &Expression| self.keeps_rules(inner, polarity);
+        match expression {
+            Expression::Rows(_) | Expression::AllBut(_) | Expression::Definition(_) => true,
+            Expression::List { polarity: own, .. } => *own == polarity,
+            Expression::Vetted { .. } => self.has(Fault::VettedAccepted), // planted
+            Expression::Union(left, right) => inside(left) && inside(right),
+            Expression::Difference(..) => self.has(Fault::DifferenceAccepted), // planted
+            Expression::Comprehension { guards, .. } => guards.iter().all(|guard| match guard {
+                Guard::Draw { from, .. } => inside(from),
+                Guard::Same(..) | Guard::Different(..) => true,
+                Guard::Absent { .. } => self.has(Fault::AbsentAccepted), // planted
+            }),
+        }
+    }
+
+    /// The output: each code 4 in a later definition becomes code 8 with the same words and then 0; without a definition of name 0 −, it equals the input.
+    fn rewritten(&self, policy: &[u32], entries: &[Entry]) -> Vec<u32> {
+        if !entries.first().is_some_and(|entry| self.lists_compromised(0, entry)) {
+            return policy.to_vec();
+        }
+        let mut table = vec![policy[0], policy[1]];
+        let mut parts: Vec<u32> = Vec::new();
+        for (entry, number) in entries.iter().zip(0..) {
+            let words = &policy[entry.part.clone()];
+            let later = number > 0 || self.has(Fault::Definition0RewrittenToo); // planted
+            let part = if later { self.with_lists_vetted(words, number) } else { words.to_vec() };
+            let moved = if self.has(Fault::OffsetsNotMoved) { entry.part.start } else { 2 + 4 * entries.len() + parts.len() }; // planted
+            let length = if self.has(Fault::LengthsNotChanged) { words.len() } else { part.len() }; // planted
+            table.extend([entry.name, entry.polarity, moved as u32, length as u32]);
+            parts.extend(part);
+        }
+        [table, parts].concat()
+    }
+
+    fn with_lists_vetted(&self, words: &[u32], number: usize) -> Vec<u32> {
+        let mut parser = self.parser(words, number);
+        // What is refused is met before.
+        let _ = parser.expression(1);
+        let mut output = Vec::new();
+        let mut done = 0;
+        for list in faults::lists_rewritten(self.fault, words, parser.lists) {
+            output.extend(&words[done..list.start]);
+            output.push(8);
+            output.extend(&words[list.start + 1..list.end]);
+            output.push(0);
+            done = list.end;
+        }
+        output.extend(&words[done..]);
+        output
     }
 
     /// 1 to 7; 8; 11; then reading.
@@ -873,7 +1040,9 @@ impl Judged {
     }
 
     fn uses(&self, definition: usize) -> bool {
-        self.expressions().iter().any(|expression| **expression == Expression::Definition(definition))
+        self.expressions()
+            .iter()
+            .any(|expression| matches!(expression, Expression::Definition(used) | Expression::Vetted { definition: used, .. } if *used == definition))
     }
 }
 

@@ -276,10 +276,11 @@ fn a_policy_of_8192_words_passes() {
 
 #[test]
 fn expressions_refused_with_3() {
-    let cases: [&[u32]; 19] = [
+    let cases: [&[u32]; 20] = [
         &[],
         &[0],
         &[8],
+        &[9],
         &[1],
         &[1, 129],
         &[1, 1],
@@ -471,6 +472,221 @@ fn a_number_as_issuer_has_no_rows_or_all() {
     let issuer_5 = |polarity: u32| vec![7, 2, 1, 1, 1, 1, 0, 5, 1, 2, 0, 4, 1, 0, 9, 4, 1, 0, 1, polarity, 1, 1, 0];
     assert_eq!(alone(&issuer_5(0)), answer(Upper, 1, Finite(rows([&[5]]))));
     assert_eq!(alone(&issuer_5(1)), answer(Lower, 1, Finite(rows([]))));
+}
+
+// ---- document 02, N2 ----
+
+const K3: u32 = key(3);
+
+/// Source document 000, section 6: Alice, k1, is responsible for key compromise; k2 lists what is released.
+fn delegated_to_alice() -> Vec<u32> {
+    policy(&[(0, 1, &[4, 0, K1, 0, 1]), (10, 0, &[4, 0, K2, 1, 0])])
+}
+
+fn rewrite(policy: &[u32]) -> Result<Vec<u32>, Refusal> {
+    let mut area = vec![77; MOST_POLICY_WORDS];
+    let length = Evaluator::default().rewrite(policy, &mut area)?;
+    assert!(area[length..].iter().all(|&word| word == 77));
+    area.truncate(length);
+    Ok(area)
+}
+
+#[test]
+fn compromised_keys_delegated_to_alice() {
+    let external = delegated_to_alice();
+    assert_eq!(external, [1, 2, 0, 1, 10, 5, 10, 0, 15, 5, 4, 0, K1, 0, 1, 4, 0, K2, 1, 0]);
+    let rewritten = rewrite(&external).unwrap();
+    assert_eq!(rewritten, [1, 2, 0, 1, 10, 5, 10, 0, 15, 6, 4, 0, K1, 0, 1, 8, 0, K2, 1, 0, 0]);
+    let mut store = empty_store();
+    assert_eq!(ask(&rewritten, &[3, 0], &store), answer(Upper, 0, Complement(rows([]))));
+    file(&mut store, certificate(K2, 1, 0, &[7]));
+    assert_eq!(ask(&external, &[3, 1], &store), answer(Lower, 0, Finite(rows([&[7]]))));
+    assert_eq!(ask(&rewritten, &[3, 1], &store), answer(Lower, 0, Finite(rows([]))));
+    // what begins with k2 says nothing of k2
+    file(&mut store, certificate(K1, 0, 1, &[K2, 7]));
+    assert_eq!(ask(&rewritten, &[3, 1], &store), answer(Lower, 0, Finite(rows([]))));
+    file(&mut store, certificate(K1, 0, 1, &[K2]));
+    assert_eq!(ask(&rewritten, &[3, 1], &store), answer(Lower, 0, Finite(rows([&[7]]))));
+    assert_eq!(ask(&rewritten, &[3, 0], &store), answer(Upper, 0, Complement(rows([&[K2], &[K2, 7]]))));
+    // the query's own list is not vetted
+    assert_eq!(ask(&rewritten, &[4, 0, K3, 1, 0], &store_of([certificate(K3, 1, 0, &[9])])), answer(Lower, 0, Finite(rows([&[9]]))));
+}
+
+#[test]
+fn a_compromised_issuer_has_no_rows() {
+    let words = policy(&[(0, 1, &[1, 1, 1, 0, K2]), (10, 0, &[5, 8, 0, K2, 1, 0, 0, 8, 0, K3, 1, 0, 0])]);
+    let store = store_of([certificate(K2, 1, 0, &[7]), certificate(K3, 1, 0, &[8])]);
+    assert_eq!(ask(&words, &[3, 1], &store), answer(Lower, 0, Finite(rows([&[8]]))));
+    assert_eq!(ask(&words, &[8, 0, K2, 1, 0, 0], &store), answer(Lower, 0, Finite(rows([]))));
+    assert_eq!(ask(&words, &[8, 0, K3, 1, 0, 0], &store), answer(Lower, 0, Finite(rows([&[8]]))));
+}
+
+#[test]
+fn variable_issuers_are_vetted_one_by_one() {
+    // each x in the name 1 of a key in k1's name 6
+    let delegation = [7, 2, 1, 4, 0, K1, 6, 0, 1, 2, 0, 1, 4, 1, 0, 1, 0, 1, 2, 1, 1, 1, 1];
+    let vetted = [7, 2, 1, 8, 0, K1, 6, 0, 0, 1, 2, 0, 1, 8, 1, 0, 1, 0, 0, 1, 2, 1, 1, 1, 1];
+    let compromised: (u32, u32, &[u32]) = (0, 1, &[1, 1, 1, 0, K3]);
+    let rewritten = rewrite(&policy(&[compromised, (10, 0, &delegation)])).unwrap();
+    assert_eq!(rewritten, policy(&[compromised, (10, 0, &vetted)]));
+    let trusted = [K2, K3, 5].map(|trusted| certificate(K1, 6, 0, &[trusted]));
+    let store = store_of(trusted.into_iter().chain([certificate(K2, 1, 0, &[7]), certificate(K3, 1, 0, &[8])]));
+    // three rows of k1's, then one of k2's: the look-ups are no draws, and 5 has no rows
+    assert_eq!(ask(&rewritten, &[3, 1], &store), answer(Lower, 4, Finite(rows([&[7]]))));
+}
+
+#[test]
+fn code_8_word_by_word() {
+    let minus = policy(&[(10, 1, &[1, 0])]);
+    let ask = |query: &[u32]| ask(&minus, query, &empty_store()).map(|answer| answer.verdict);
+    assert_eq!(ask(&[8, 0, K1, 1, 0, 0]), Ok(Lower));
+    assert_eq!(ask(&[8, 0, K1, LAST_NAME, 0, 0]), Ok(Lower));
+    let refused_with_3: [&[u32]; 9] = [
+        &[8, 2, K1, 1, 0, 0],
+        &[8, 0, 5, 1, 0, 0],
+        &[8, 0, K1, 65_536, 0, 0],
+        &[8, 0, K1, 1, 1, 0],
+        &[8, 0, K1, 1, 1, 9], // at the polarity, before 4 at the definition
+        &[8, 0, K1, 1, 2, 0],
+        &[8, 0, K1, 1, 0],
+        &[8, 0, K1, 1, 0, 0, 0],
+        &[8, 0, K1],
+    ];
+    for query in refused_with_3 {
+        assert_eq!(ask(query), refusal(3, QUERY_PART), "{query:?}");
+    }
+    assert_eq!(ask(&[8, 0, K1, 1, 0, 1]), refusal(4, QUERY_PART));
+    assert_eq!(ask(&[8, 1, 0, 1, 0, 0]), refusal(4, QUERY_PART));
+    // in a definition an earlier one alone
+    let own = policy(&[(10, 0, &[8, 0, K1, 1, 0, 0])]);
+    assert_eq!(Evaluator::default().judge(&own, &[1, 0]).map(|judged| judged.verdict), refusal(4, 0));
+    // it stands at a depth as any expression does
+    let deep = |unions: usize| [vec![5; unions], [1, 0].repeat(unions), vec![8, 0, K1, 1, 0, 0]].concat();
+    assert_eq!(ask(&deep(14)), Ok(Lower));
+    assert_eq!(ask(&deep(15)), refusal(5, QUERY_PART));
+}
+
+#[test]
+fn code_8_is_plus_over_a_definition_that_is_minus_and_never_open() {
+    let both = policy(&[(10, 1, &[2, 0]), (11, 0, &[1, 0])]);
+    let verdict = |query: &[u32]| ask(&both, query, &empty_store()).map(|answer| answer.verdict);
+    let (by_minus, by_plus) = ([8, 0, K1, 1, 0, 0], [8, 0, K1, 1, 0, 1]);
+    assert_eq!(verdict(&by_minus), Ok(Lower));
+    assert_eq!(verdict(&by_plus), refusal(6, QUERY_PART));
+    // not even on the right of a difference
+    assert_eq!(verdict(&[&[6, 2, 0], &by_plus[..]].concat()), refusal(6, QUERY_PART));
+    assert_eq!(verdict(&[&[6, 2, 0], &by_minus[..]].concat()), Ok(Upper));
+    let from = |expression: &[u32]| [&[7, 1, 1], expression, &[1, 2, 0, 1, 1, 0]].concat();
+    assert_eq!(verdict(&from(&by_minus)), Ok(Lower));
+    assert_eq!(verdict(&from(&by_plus)), refusal(6, QUERY_PART));
+    for (polarity, definition, refused) in [(0, 0, None), (1, 0, Some(6)), (0, 1, Some(6)), (1, 1, Some(6))] {
+        let third = policy(&[(10, 1, &[2, 0]), (11, 0, &[1, 0]), (12, polarity, &[8, 0, K1, 1, 0, definition])]);
+        let judged = Evaluator::default().judge(&third, &[1, 0]).map(|judged| judged.verdict);
+        assert_eq!(judged, refused.map_or(Ok(Exact), |number| refusal(number, 2)));
+    }
+}
+
+#[test]
+fn the_list_of_a_compromised_issuer_is_not_read() {
+    let store = store_of((0..129).map(|n| certificate(K1, 1, 0, &[n])));
+    let vetted = [8, 0, K1, 1, 0, 0];
+    assert_eq!(ask(&policy(&[(10, 1, &[2, 0])]), &vetted, &store), answer(Lower, 0, Finite(rows([]))));
+    assert_eq!(ask(&policy(&[(10, 1, &[1, 1, 1, 0, K1])]), &vetted, &store), answer(Lower, 0, Finite(rows([]))));
+    assert_eq!(ask(&policy(&[(10, 1, &[1, 0])]), &vetted, &store), refusal(13, QUERY_PART));
+}
+
+#[test]
+fn without_compromised_keys_the_output_equals_the_input() {
+    let list: &[u32] = &[4, 0, K2, 1, 0];
+    for external in [NOTHING.to_vec(), policy(&[(10, 0, list)]), policy(&[(0, 0, list), (10, 0, list)]), policy(&[(10, 0, list), (0, 0, list)])] {
+        assert_eq!(rewrite(&external), Ok(external));
+    }
+}
+
+#[test]
+fn broken_external_rules_get_15() {
+    let (compromised, list): (&[u32], &[u32]) = (&[4, 0, K1, 0, 1], &[4, 0, K2, 1, 0]);
+    let (difference, absent): (&[u32], &[u32]) = (&[6, 4, 0, K2, 1, 0, 1, 0], &[7, 1, 4, 1, 0, 7, 1, 0, 1, 0, 7]);
+    let in_a_draw = [&[7, 1, 1], difference, &[1, 2, 0, 1, 1, 0]].concat();
+    let to_the_right = [&[5, 1, 0], absent].concat();
+    let broken = [
+        policy(&[(1, 1, compromised)]),
+        policy(&[(10, 0, list), (0, 1, compromised)]),
+        policy(&[(0, 1, compromised), (10, 1, &[1, 0])]),
+        policy(&[(0, 1, compromised), (10, 0, difference)]),
+        policy(&[(0, 1, compromised), (10, 0, absent)]),
+        policy(&[(0, 1, compromised), (10, 0, &[8, 0, K2, 1, 0, 0])]),
+        policy(&[(0, 1, compromised), (10, 0, list), (11, 0, &in_a_draw)]),
+        policy(&[(0, 1, compromised), (10, 0, list), (11, 0, &to_the_right)]),
+        policy(&[(0, 1, &[6, 4, 0, K1, 0, 1, 1, 0])]),
+        policy(&[(0, 1, absent), (10, 0, list)]),
+        // the rules hold also without a definition of name 0 −
+        policy(&[(10, 0, difference)]),
+        policy(&[(10, 0, absent)]),
+    ];
+    for words in broken {
+        assert_eq!(rewrite(&words), refusal(15, NO_PART), "{words:?}");
+        // 11 comes after it
+        assert_eq!(Evaluator::default().rewrite(&words, &mut []), refusal(15, NO_PART));
+    }
+}
+
+#[test]
+fn rewriting_refuses_1_to_7_first() {
+    let difference: &[u32] = &[6, 4, 0, K2, 1, 0, 1, 0];
+    let second = |words: &[u32]| policy(&[(10, 0, difference), (11, 0, words)]);
+    assert_eq!(rewrite(&[2, 0]), refusal(1, NO_PART));
+    assert_eq!(rewrite(&[1, 0, 0]), refusal(2, NO_PART));
+    assert_eq!(rewrite(&second(&[9])), refusal(3, 1));
+    assert_eq!(rewrite(&second(&[3, 1])), refusal(4, 1));
+    assert_eq!(rewrite(&second(&nested_unions(15))), refusal(5, 1));
+    // names of the other polarity are met as 6
+    assert_eq!(rewrite(&second(&[4, 0, K2, 1, 1])), refusal(6, 1));
+    assert_eq!(rewrite(&policy(&[(0, 1, &[4, 0, K1, 0, 0])])), refusal(6, 0));
+    assert_eq!(rewrite(&policy(&[(0, 1, &[4, 0, K1, 0, 1]), (10, 0, &[3, 0])])), refusal(6, 1));
+    assert_eq!(rewrite(&second(&[7, 1, 1, 2, 0, 1, 2, 0, 1, 1, 0])), refusal(7, 1));
+}
+
+/// Definition 0 has these words; seven others are each a list united with a literal of 1,154 words, and each grows by a word.
+fn long_external(compromised: &[u32]) -> Vec<u32> {
+    let rows = [4, 0, 9, 0, 9, 0, 9, 0, 9].repeat(128);
+    let united = [&[5, 4, 0, K1, 1, 0, 1, 128], &rows[..]].concat();
+    let mut definitions: Vec<(u32, u32, &[u32])> = vec![(0, 1, compromised)];
+    definitions.extend((1..8).map(|name| (name, 0, united.as_slice())));
+    policy(&definitions)
+}
+
+#[test]
+fn an_output_of_8192_words_passes_and_one_of_8193_does_not() {
+    // 2 + 4 × 8 words of table, 31 or 32 of definition 0, 7 × 1,160 of the others
+    let eight_rows = [1, 0, 7].repeat(8);
+    let of_31 = [&[1, 9], &eight_rows[..], &[2, 0, 7, 0, 8]].concat();
+    let of_32 = [&[1, 10], &eight_rows[..], &[1, 0, 7, 1, 0, 8]].concat();
+    let (just, over) = (long_external(&of_31), long_external(&of_32));
+    assert_eq!((just.len(), over.len()), (8_185, 8_186));
+    let output = rewrite(&just).unwrap();
+    assert_eq!(output.len(), 8_192);
+    assert_eq!(output[..14], [1, 8, 0, 1, 34, 31, 1, 0, 65, 1_161, 2, 0, 1_226, 1_161]);
+    assert_eq!(output[65..75], [5, 8, 0, K1, 1, 0, 0, 1, 128, 4]);
+    assert!(Evaluator::default().judge(&output, &[3, 7]).is_ok());
+    assert_eq!(rewrite(&over), refusal(15, NO_PART));
+    assert!(Evaluator::default().judge(&over, &[3, 7]).is_ok());
+    // too long for any output, and the area too
+    assert_eq!(Evaluator::default().rewrite(&over, &mut []), refusal(15, NO_PART));
+    assert_eq!(Evaluator::default().rewrite(&just, &mut [0; 8_191]), refusal(11, NO_PART));
+}
+
+#[test]
+fn a_short_area_gets_11_and_stays() {
+    let external = delegated_to_alice();
+    let mut area = [77; 25];
+    for length in [0, 20] {
+        assert_eq!(Evaluator::default().rewrite(&external, &mut area[..length]), refusal(11, NO_PART));
+    }
+    assert_eq!(area, [77; 25]);
+    assert_eq!(Evaluator::default().rewrite(&external, &mut area[..21]), Ok(21));
+    assert_eq!(area[21..], [77; 4]);
+    assert_eq!(Evaluator::default().rewrite(NOTHING, &mut area[..1]), refusal(11, NO_PART));
 }
 
 #[test]

@@ -4,6 +4,7 @@ use crate::evaluator::{is_key, limited, value, Numbered, Row, Set, Term};
 use crate::numbers::{MOST_ROWS, TOO_MANY_ROWS};
 use std::cmp::{Ordering, Reverse};
 use std::collections::BTreeSet;
+use std::ops::Range;
 
 /// One mistake. Document 01's "Curators' errors" come first.
 #[derive(Clone, Copy, PartialEq, Eq, Debug)]
@@ -44,11 +45,44 @@ pub enum Fault {
     AtomsFromTheLast,
     FiledByWidth,
     DrawnByWidth,
+    VettedListReadFirst,
+    VettedNotLookedUp,
+    LookUpTurnedRound,
+    LookUpAmongListed,
+    LookUpByFirstAtom,
+    LookUpCountedAsDraw,
+    VettedByDefinition0,
+    VettedMinusPasses,
+    VettedMinusRefusedLate,
+    VettedAlwaysPlus,
+    VettedTurnsRound,
+    VettedOpen,
+    NotExternalBeforePolarity,
+    ShortAreaBeforeNotExternal,
+    NotExternalHasAPart,
+    MinusElsewhereAccepted,
+    MinusOfAnotherNameCompromised,
+    NamePlusCompromised,
+    RulesAskedOfCompromisedAlone,
+    DifferenceAccepted,
+    AbsentAccepted,
+    VettedAccepted,
+    OutputOf8192Refused,
+    OutputOf8193Passes,
+    Definition0RewrittenToo,
+    VariableIssuerNotRewritten,
+    OneListRewritten,
+    OffsetsNotMoved,
+    LengthsNotChanged,
+    AreaAsLongAsTheInput,
+    ShortAreaWritten,
+    PastOutputCleared,
+    RefusedLengthHandedOut,
 }
 
 impl Fault {
     /// Every fault; `--plant K` plants the one at K, counted from 1.
-    pub const ALL: [Fault; 36] = [
+    pub const ALL: [Fault; 69] = [
         Fault::UnknownListTakenAsEmpty,
         Fault::ComparedTermsCounted,
         Fault::AbsentNotTurnedRound,
@@ -85,6 +119,39 @@ impl Fault {
         Fault::AtomsFromTheLast,
         Fault::FiledByWidth,
         Fault::DrawnByWidth,
+        Fault::VettedListReadFirst,
+        Fault::VettedNotLookedUp,
+        Fault::LookUpTurnedRound,
+        Fault::LookUpAmongListed,
+        Fault::LookUpByFirstAtom,
+        Fault::LookUpCountedAsDraw,
+        Fault::VettedByDefinition0,
+        Fault::VettedMinusPasses,
+        Fault::VettedMinusRefusedLate,
+        Fault::VettedAlwaysPlus,
+        Fault::VettedTurnsRound,
+        Fault::VettedOpen,
+        Fault::NotExternalBeforePolarity,
+        Fault::ShortAreaBeforeNotExternal,
+        Fault::NotExternalHasAPart,
+        Fault::MinusElsewhereAccepted,
+        Fault::MinusOfAnotherNameCompromised,
+        Fault::NamePlusCompromised,
+        Fault::RulesAskedOfCompromisedAlone,
+        Fault::DifferenceAccepted,
+        Fault::AbsentAccepted,
+        Fault::VettedAccepted,
+        Fault::OutputOf8192Refused,
+        Fault::OutputOf8193Passes,
+        Fault::Definition0RewrittenToo,
+        Fault::VariableIssuerNotRewritten,
+        Fault::OneListRewritten,
+        Fault::OffsetsNotMoved,
+        Fault::LengthsNotChanged,
+        Fault::AreaAsLongAsTheInput,
+        Fault::ShortAreaWritten,
+        Fault::PastOutputCleared,
+        Fault::RefusedLengthHandedOut,
     ];
 
     pub fn meaning(self) -> &'static str {
@@ -125,6 +192,39 @@ impl Fault {
             Fault::AtomsFromTheLast => "an answer's rows are compared from the last atom on",
             Fault::FiledByWidth => "a record's place is found by its words as they stand, by width first",
             Fault::DrawnByWidth => "rows are drawn by width first",
+            Fault::VettedListReadFirst => "code 8 reads the list before it looks the issuer up",
+            Fault::VettedNotLookedUp => "code 8 is read as the list itself",
+            Fault::LookUpTurnedRound => "code 8 reads the list of an issuer that is in the definition, and of no other",
+            Fault::LookUpAmongListed => "code 8 looks the issuer up among the rows listed, also those of a complement",
+            Fault::LookUpByFirstAtom => "code 8 takes a longer row that begins with the issuer for the issuer's",
+            Fault::LookUpCountedAsDraw => "code 8's look-up counts as a draw",
+            Fault::VettedByDefinition0 => "code 8 looks the issuer up in definition 0, whatever its number",
+            Fault::VettedMinusPasses => "code 8 with − passes",
+            Fault::VettedMinusRefusedLate => "code 8's polarity is tested after its definition",
+            Fault::VettedAlwaysPlus => "code 8 has + whatever its definition declares",
+            Fault::VettedTurnsRound => "code 8 has the polarity opposite to its definition's, − too",
+            Fault::VettedOpen => "code 8 is open if its definition is",
+            Fault::NotExternalBeforePolarity => "15 comes before 6 and 7",
+            Fault::ShortAreaBeforeNotExternal => "11 comes before 15",
+            Fault::NotExternalHasAPart => "15 comes with the definition that breaks the rule",
+            Fault::MinusElsewhereAccepted => "a later definition of an external policy may be −",
+            Fault::MinusOfAnotherNameCompromised => "definition 0 lists compromised keys under any − name",
+            Fault::NamePlusCompromised => "definition 0 lists compromised keys under the name 0 + too",
+            Fault::RulesAskedOfCompromisedAlone => "the external rules are asked only of a policy that lists compromised keys",
+            Fault::DifferenceAccepted => "an external policy may have a difference",
+            Fault::AbsentAccepted => "an external policy may have an absent guard",
+            Fault::VettedAccepted => "an external policy may have code 8",
+            Fault::OutputOf8192Refused => "an output of 8,192 words is refused",
+            Fault::OutputOf8193Passes => "the output's length is not bounded",
+            Fault::Definition0RewrittenToo => "the lists of definition 0 are rewritten too",
+            Fault::VariableIssuerNotRewritten => "a list whose issuer is a variable is not rewritten",
+            Fault::OneListRewritten => "only the first list of a definition is rewritten",
+            Fault::OffsetsNotMoved => "the output's offsets are those of the input",
+            Fault::LengthsNotChanged => "the output's lengths are those of the input",
+            Fault::AreaAsLongAsTheInput => "an area as long as the input is taken as long enough",
+            Fault::ShortAreaWritten => "the area is written before 11 is known",
+            Fault::PastOutputCleared => "the word past the output is cleared",
+            Fault::RefusedLengthHandedOut => "a refused rewriting hands out the input's length",
         }
     }
 }
@@ -178,4 +278,26 @@ pub fn wrong_layout(fault: Option<Fault>, set: &Set) -> Option<Vec<u32>> {
 fn longer_first(a: &&Row, b: &&Row) -> Ordering {
     let shared = a.width.min(b.width) as usize;
     a.used()[..shared].cmp(&b.used()[..shared]).then_with(|| Reverse(a.width).cmp(&Reverse(b.width)))
+}
+
+/// Whether the issuer's row is wrongly found among the compromised ones.
+pub fn wrong_look_up(fault: Option<Fault>, compromised: &Set, issuer: &Row) -> Option<bool> {
+    let listed = compromised.listed();
+    match fault? {
+        Fault::VettedNotLookedUp => Some(false),
+        Fault::LookUpTurnedRound => Some(!compromised.holds(issuer)),
+        Fault::LookUpAmongListed => Some(listed.contains(issuer)),
+        Fault::LookUpByFirstAtom => Some(listed.iter().any(|row| row.atoms[0] == issuer.atoms[0]) == matches!(compromised, Set::Finite(_))),
+        _ => None,
+    }
+}
+
+/// The lists, by where their words stand, that become code 8: all, unless a fault leaves some out.
+pub fn lists_rewritten(fault: Option<Fault>, words: &[u32], mut lists: Vec<Range<usize>>) -> Vec<Range<usize>> {
+    match fault {
+        Some(Fault::VariableIssuerNotRewritten) => lists.retain(|list| words[list.start + 1] == 0),
+        Some(Fault::OneListRewritten) => lists.truncate(1),
+        _ => {}
+    }
+    lists
 }

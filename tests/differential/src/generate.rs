@@ -3,8 +3,8 @@
 //! Expressions are written by the grammar, with a polarity and openness in mind, so that most are answered and many answers are not empty: keys, names and
 //! atoms come from a small universe. Then single words are changed, words cut off or added, and each limit of document 01 is approached from both sides.
 
-use crate::evaluator::{key, Areas, Record, Row};
-use crate::numbers::{LAST_NAME, MOST_CERTIFICATES, MOST_VARIABLES, RECORD_WORDS, STORE_WORDS};
+use crate::evaluator::{key, Areas, Evaluator, Record, Refusal, Row};
+use crate::numbers::{COMPROMISED, LAST_NAME, MOST_CERTIFICATES, MOST_POLICY_WORDS, MOST_VARIABLES, RECORD_WORDS, STORE_WORDS};
 use crate::random::Random;
 use std::collections::BTreeSet;
 
@@ -37,6 +37,8 @@ pub struct Case {
     pub policy: Vec<u32>,
     pub query: Vec<u32>,
     pub areas: Areas,
+    /// The length of the area that the policy is rewritten into.
+    pub rewriting_area: usize,
     /// A part to hand back.
     pub number: u32,
     /// A name whose certificates to hand back.
@@ -91,21 +93,23 @@ struct Writer<'a> {
     random: &'a mut Random,
     universe: &'a Universe,
     definitions: &'a [Declared],
+    /// Whether the external rules are kept: no difference, no absent guard and no code 8.
+    external: bool,
     words: Vec<u32>,
     variables: u32,
     draws: u32,
 }
 
 impl<'a> Writer<'a> {
-    fn new(random: &'a mut Random, universe: &'a Universe, definitions: &'a [Declared]) -> Writer<'a> {
-        Writer { random, universe, definitions, words: Vec::new(), variables: 0, draws: 0 }
+    fn new(random: &'a mut Random, universe: &'a Universe, definitions: &'a [Declared], external: bool) -> Writer<'a> {
+        Writer { random, universe, definitions, external, words: Vec::new(), variables: 0, draws: 0 }
     }
 
     fn expression(&mut self, want: Want, depth: u32) {
         let slip = self.random.chance(12);
         let want = if slip { Want::any(self.random) } else { want };
         let leaf = depth >= self.universe.depth || self.words.len() > 400;
-        let codes: &[u32] = if leaf { &[1, 1, 2, 3, 3, 4, 4, 4] } else { &[1, 2, 3, 3, 4, 4, 5, 6, 7, 7, 7, 7] };
+        let codes = self.codes(leaf);
         loop {
             let code = self.random.pick(codes);
             if self.fits(code, want) {
@@ -115,12 +119,22 @@ impl<'a> Writer<'a> {
         }
     }
 
+    fn codes(&self, leaf: bool) -> &'static [u32] {
+        match (self.external, leaf) {
+            (false, true) => &[1, 1, 2, 3, 3, 4, 4, 4, 8, 8],
+            (false, false) => &[1, 2, 3, 3, 4, 4, 5, 6, 7, 7, 7, 7, 8],
+            (true, true) => &[1, 2, 3, 4, 4, 4],
+            (true, false) => &[1, 2, 3, 4, 4, 5, 5, 7, 7, 7],
+        }
+    }
+
     fn fits(&self, code: u32, want: Want) -> bool {
         match code {
             2 => !want.closed,
             3 => self.definitions.iter().any(|&declared| want.fits(declared)),
             4 => !want.exact() && (want.plus || !want.closed),
             7 => self.draws < 6,
+            8 => want.plus && !want.minus && self.definitions.iter().any(|declared| declared.polarity == 1),
             _ => true,
         }
     }
@@ -138,7 +152,8 @@ impl<'a> Writer<'a> {
                 self.expression(want, depth + 1);
                 self.expression(want.opposite(), depth + 1);
             }
-            _ => self.comprehension(want, depth),
+            7 => self.comprehension(want, depth),
+            _ => self.vetted(),
         }
     }
 
@@ -177,10 +192,19 @@ impl<'a> Writer<'a> {
 
     fn list(&mut self, polarity: u32) {
         let issuer =
-            if self.variables > 0 && self.random.chance(250) { [1, self.some_variable()] } else { [0, self.random.pick(self.universe.keys)] };
+            if self.variables > 0 && self.random.chance(400) { [1, self.some_variable()] } else { [0, self.random.pick(self.universe.keys)] };
         self.words.extend(issuer);
         let name = self.random.pick(self.universe.names);
         self.words.extend([name, polarity]);
+    }
+
+    /// Mostly by a definition that is −, sometimes by one that is not or is not there, and sometimes with −.
+    fn vetted(&mut self) {
+        let minus = self.random.chance(15);
+        self.list(minus as u32);
+        let fitting: Vec<u32> = (0..).zip(self.definitions).filter(|(_, declared)| declared.polarity == 1).map(|(d, _)| d).collect();
+        let definition = if self.random.chance(25) { self.random.between(0, self.definitions.len() as u32) } else { self.random.pick(&fitting) };
+        self.words.push(definition);
     }
 
     fn comprehension(&mut self, want: Want, depth: u32) {
@@ -195,7 +219,11 @@ impl<'a> Writer<'a> {
     }
 
     fn guard(&mut self, want: Want, depth: u32) {
-        let guard = if self.draws < 8 { self.random.pick(&[1, 1, 1, 1, 2, 3, 4, 4]) } else { self.random.between(2, 4) };
+        let guard = match (self.draws < 8, self.external) {
+            (true, false) => self.random.pick(&[1, 1, 1, 1, 2, 3, 4, 4]),
+            (true, true) => self.random.pick(&[1, 1, 1, 1, 2, 3]),
+            (false, external) => self.random.between(2, if external { 3 } else { 4 }),
+        };
         self.words.push(guard);
         match guard {
             1 => {
@@ -261,6 +289,25 @@ fn draws_from(sources: &[Vec<u32>], head: &[u32]) -> Vec<u32> {
     }
     words.extend(head);
     words
+}
+
+/// The union of these, halved again and again, so that many are not deep.
+fn united(parts: &[Vec<u32>]) -> Vec<u32> {
+    match parts {
+        [part] => part.clone(),
+        _ => {
+            let (left, right) = parts.split_at(parts.len() / 2);
+            [vec![5], united(left), united(right)].concat()
+        }
+    }
+}
+
+/// What an external policy is rewritten into.
+pub fn rewritten(policy: &[u32]) -> Result<Vec<u32>, Refusal> {
+    let mut area = vec![0; MOST_POLICY_WORDS];
+    let length = Evaluator::default().rewrite(policy, &mut area)?;
+    area.truncate(length);
+    Ok(area)
 }
 
 /// Name, polarity and words.
@@ -406,10 +453,10 @@ impl Generator {
     // ---- policies and queries ----
 
     pub fn case(&mut self) -> Case {
-        if self.random.chance(1) {
+        if self.random.chance(2) {
             return if self.random.chance(700) { self.many_draws_made() } else { self.many_draws_of_two_widths() };
         }
-        let (policy, declared) = self.policy();
+        let (policy, declared) = if self.random.chance(250) { self.external_policy() } else { self.policy() };
         let query = self.query(&declared);
         self.asked(policy, query)
     }
@@ -417,14 +464,35 @@ impl Generator {
     fn asked(&mut self, policy: Vec<u32>, query: Vec<u32>) -> Case {
         let number = if self.random.chance(900) { self.random.between(0, 18) } else { self.random.word() };
         let name = self.record().name;
-        Case { policy, query, areas: self.areas(), number, name }
+        let rewriting_area = self.rewriting_area(&policy);
+        Case { policy, query, areas: self.areas(), rewriting_area, number, name }
+    }
+
+    /// Often just the output's length, or one word less; sometimes as long as the input.
+    fn rewriting_area(&mut self, policy: &[u32]) -> usize {
+        let needed = rewritten(policy).map_or(policy.len(), |output| output.len());
+        match self.random.below(10) {
+            0..=3 => needed,
+            4..=6 => needed + self.random.below(20),
+            7 => needed.saturating_sub(1),
+            8 => policy.len(),
+            _ => self.random.below(needed + 1),
+        }
     }
 
     /// A policy and a query over this universe alone, without damage.
     pub fn sound_pair(&mut self) -> (Vec<u32>, Vec<u32>) {
         let count = self.random.between(0, 2);
         let (definitions, declared) = self.definitions(count, 0);
-        (assemble(&definitions), self.expression(Want::any, &declared))
+        (assemble(&definitions), self.expression(Want::any, &declared, false))
+    }
+
+    /// The same with an external policy that lists compromised keys; the query is for the rewritten one.
+    pub fn external_pair(&mut self) -> (Vec<u32>, Vec<u32>) {
+        let entries = [(COMPROMISED, 1), (10, 0), (11, 0)];
+        let count = self.random.between(2, 3) as usize;
+        let (definitions, declared) = self.external_definitions(&entries[..count], None);
+        (assemble(&definitions), self.expression(Want::any, &declared, false))
     }
 
     fn areas(&mut self) -> Areas {
@@ -444,9 +512,9 @@ impl Generator {
         areas
     }
 
-    fn expression(&mut self, want: impl FnOnce(&mut Random) -> Want, declared: &[Declared]) -> Vec<u32> {
+    fn expression(&mut self, want: impl FnOnce(&mut Random) -> Want, declared: &[Declared], external: bool) -> Vec<u32> {
         let want = want(&mut self.random);
-        let mut writer = Writer::new(&mut self.random, self.universe, declared);
+        let mut writer = Writer::new(&mut self.random, self.universe, declared, external);
         writer.expression(want, 1);
         writer.words
     }
@@ -459,7 +527,7 @@ impl Generator {
             let polarity = self.random.between(0, 1);
             let closed = self.random.chance(500);
             let want = Want { closed, ..Want::polarity(polarity) };
-            let mut words = self.expression(|_| want, &declared);
+            let mut words = self.expression(|_| want, &declared, false);
             if self.random.chance(damaged) {
                 words = if self.random.chance(300) { self.near_a_limit() } else { words };
                 self.mutate(&mut words);
@@ -486,6 +554,101 @@ impl Generator {
             self.damage_table(&mut words, count as usize);
         }
         (words, declared)
+    }
+
+    // ---- external policies ----
+
+    /// Mostly external; or it breaks a rule, is damaged, or is rewritten already.
+    fn external_policy(&mut self) -> (Vec<u32>, Vec<Declared>) {
+        if self.random.chance(12) {
+            return (self.long_output(), Vec::new());
+        }
+        let count = self.random.pick(&[0, 1, 1, 1, 2, 2, 3, 4]);
+        let mut entries: Vec<(u32, u32)> = (0..count).map(|d| (10 + d, 0)).collect();
+        match self.random.below(10) {
+            0 => {}
+            1 => entries.insert(0, (COMPROMISED, 0)), // an ordinary name
+            _ => entries.insert(0, (COMPROMISED, 1)),
+        }
+        let rule = if self.random.chance(350) { self.random.between(1, 7) } else { 0 };
+        match rule {
+            1 => entries.push((20, 1)),
+            2 => entries.insert(0, (21, 0)), // another one is definition 0
+            3 if !entries.is_empty() => entries[0] = (22, 1),
+            _ => {}
+        }
+        let chosen = self.random.below(entries.len().max(1));
+        let (mut definitions, declared) = self.external_definitions(&entries, (rule == 4).then_some(chosen));
+        if let Some((_, polarity, words)) = definitions.get_mut(chosen) {
+            if *polarity == 0 && self.random.chance(50) {
+                *words = self.deep_lists();
+            }
+            let vetted = [8, 0, self.universe.keys[0], 1, 0, 0];
+            match rule {
+                5 => *words = [&[6], &words[..], &[1, 0]].concat(),
+                6 => *words = [&[5], &words[..], &[7, 1, 4, 1, 0, 7, 1, 0, 1, 0, 7]].concat(), // an absent guard alone
+                7 if chosen > 0 => *words = [&[5], &words[..], &vetted].concat(),
+                _ => {}
+            }
+            if self.random.chance(60) {
+                self.mutate(words);
+                words.resize(words.len().max(1), 0);
+            }
+        }
+        let words = assemble(&definitions);
+        match rewritten(&words) {
+            Ok(output) if self.random.chance(400) => (output, declared),
+            _ => (words, declared),
+        }
+    }
+
+    /// Definitions of these names and polarities, by the external rules but for one.
+    fn external_definitions(&mut self, entries: &[(u32, u32)], by_none: Option<usize>) -> (Vec<Definition>, Vec<Declared>) {
+        let mut definitions = Vec::new();
+        let mut declared = Vec::new();
+        for (d, &(name, polarity)) in entries.iter().enumerate() {
+            let closed = self.random.chance(500);
+            let want = Want { closed, ..Want::polarity(polarity) };
+            definitions.push((name, polarity, self.expression(|_| want, &declared, by_none != Some(d))));
+            declared.push(Declared { polarity, open: !closed });
+        }
+        (definitions, declared)
+    }
+
+    /// Lists under unions and draws, the innermost at depth 14 to 16.
+    fn deep_lists(&mut self) -> Vec<u32> {
+        let mut words = Vec::new();
+        let mut after: Vec<u32> = Vec::new();
+        let list = [4, 0, self.universe.keys[0], 1, 0];
+        for _ in 0..self.random.between(13, 15) {
+            match self.random.below(5) {
+                0 => words.extend([&[5], &list[..]].concat()),
+                1 => {
+                    words.extend([7, 1, 1]);
+                    after.splice(0..0, [1, 0, 7, 1, 0, 7]);
+                }
+                _ => {
+                    words.push(5);
+                    after.splice(0..0, list);
+                }
+            }
+        }
+        [words, list.to_vec(), after].concat()
+    }
+
+    /// An external policy with an output of 8,190 to 8,194 words.
+    fn long_output(&mut self) -> Vec<u32> {
+        let lists = 180;
+        let mut definitions = Vec::new();
+        for name in 1..7 {
+            let parts: Vec<Vec<u32>> = (0..lists).map(|_| vec![4, 0, self.random.pick(self.universe.keys), self.random.between(0, 9), 0]).collect();
+            definitions.push((name, 0, united(&parts)));
+        }
+        // With its union a list takes six words, and seven when it is vetted.
+        let rest = MOST_POLICY_WORDS - (2 + 4 * 7) - 6 * (7 * lists - 1);
+        let compromised = literal_of(rest - 2 + self.random.below(5));
+        definitions.insert(0, (COMPROMISED, 1, compromised));
+        assemble(&definitions)
     }
 
     /// Of 8,190 to 8,194 words.
@@ -527,7 +690,19 @@ impl Generator {
                 let polarity = self.random.between(0, 1);
                 vec![4, 0, self.universe.keys[0], CROWD, polarity]
             }
-            _ => self.expression(Want::any, declared),
+            18..=20 if declared.first().is_some_and(|first| first.polarity == 1) => vec![8, 0, self.universe.keys[0], CROWD, 0, 0],
+            // By any definition, or by one that is not there.
+            21..=22 => {
+                let [polarity, definition] = [self.random.pick(&[0, 0, 1]), self.random.between(0, declared.len() as u32)];
+                vec![8, 0, self.universe.keys[0], 1, polarity, definition]
+            }
+            // It has no polarity, and sometimes words are left over.
+            23 => {
+                let list = [4, 0, self.universe.keys[0], 1, 0];
+                let left_over = self.random.pick(&[&[][..], &[0]]);
+                [&[6], &list[..], &list, left_over].concat()
+            }
+            _ => self.expression(Want::any, declared, false),
         };
         if self.random.chance(150) {
             self.mutate(&mut words);
@@ -570,7 +745,7 @@ impl Generator {
                 }
             }
         }
-        words.extend(self.random.pick(&[[1, 0], [2, 0], [9, 0], [7, 9], [4, 0]]));
+        words.extend(self.random.pick(&[[1, 0], [2, 0], [9, 0], [7, 9], [4, 0], [8, 0]]));
         words.extend(after);
         words
     }
@@ -617,7 +792,7 @@ impl Generator {
     /// About 1,000,000 draws, in one part or two.
     fn many_draws_made(&mut self) -> Case {
         let sizes = self.random.pick(&[[100, 100, 98], [100, 99, 100], [99, 100, 100], [100, 100, 100], [100, 100, 100]]);
-        let head = self.random.pick(&[[1, 0, 7], [1, 1, 1]]);
+        let head = self.random.pick(&[[1, 0, 7], [1, 1, 1], [1, 1, 1]]);
         let sources = sizes.map(|size| numbers(1, 0, size));
         let comprehension = draws_from(&sources, &head);
         let part = if self.random.chance(500) { [vec![5], numbers(1, 1_000, 100), comprehension].concat() } else { comprehension };
@@ -683,7 +858,7 @@ impl Generator {
 #[cfg(test)]
 mod tests {
     use super::*;
-    use crate::evaluator::{certificates, Evaluator};
+    use crate::evaluator::certificates;
 
     #[test]
     fn literals_have_the_length_asked_for() {
@@ -698,6 +873,23 @@ mod tests {
         for _ in 0..300 {
             assert!(certificates(&generator.sound_store()).is_some());
         }
+    }
+
+    #[test]
+    fn external_pairs_are_mostly_rewritten_and_the_output_passes() {
+        let mut generator = Generator::new(1, &PORTAL);
+        let outputs: Vec<Vec<u32>> = (0..1_000).filter_map(|_| rewritten(&generator.external_pair().0).ok()).collect();
+        assert!(outputs.len() > 700, "{}", outputs.len());
+        for output in outputs {
+            assert!(Evaluator::default().judge(&output, &[1, 0]).is_ok(), "{output:?}");
+        }
+    }
+
+    #[test]
+    fn long_outputs_have_the_length_asked_for() {
+        let mut generator = Generator::new(1, &PORTAL);
+        let outputs: BTreeSet<Option<usize>> = (0..100).map(|_| rewritten(&generator.long_output()).ok().map(|output| output.len())).collect();
+        assert_eq!(outputs, BTreeSet::from([None, Some(8_190), Some(8_191), Some(8_192)]));
     }
 
     #[test]

@@ -2,7 +2,7 @@
 
 use crate::engine::{Engine, Lent};
 use std::ops::Range;
-use txindurbe::calls::{self, Judgement, Reply};
+use txindurbe::calls::{self, Judgement, Reply, Rewriting};
 
 pub struct Library;
 
@@ -17,6 +17,10 @@ impl Engine for Library {
 
     fn judge(&self, policy: &[u32], query: &[u32]) -> Judgement {
         calls::judge(policy, query)
+    }
+
+    fn rewrite(&self, policy: &[u32], area: &mut [u32]) -> Rewriting {
+        calls::rewrite(policy, area)
     }
 
     fn part(&self, policy: &[u32], query: &[u32], number: u32) -> (u32, Range<usize>) {

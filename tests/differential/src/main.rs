@@ -71,6 +71,10 @@ fn print_tally(tally: &Tally, seen: &Seen) {
         let reply = ["Filed", "Held"].get(*reply as usize).map_or(format!("refused with {reply}"), |word| word.to_string());
         println!("filing {reply}: {count}");
     }
+    for (number, count) in &tally.rewritings {
+        let reply = if *number == 0 { "done".into() } else { format!("refused with {number}") };
+        println!("rewriting {reply}: {count}");
+    }
     for (number, count) in &tally.refusals {
         println!("query refused with {number}: {count}");
     }
@@ -79,8 +83,8 @@ fn print_tally(tally: &Tally, seen: &Seen) {
     }
     let [exact, lower, upper] = seen.points;
     println!(
-        "held against worlds: {exact} exact, {lower} lower and {upper} upper answers, {} worlds, {} rows that worlds differ on",
-        seen.worlds, seen.undecided_rows
+        "held against worlds: {exact} exact, {lower} lower and {upper} upper answers, {} policies rewritten, {} worlds, {} rows that worlds differ on",
+        seen.rewritten, seen.worlds, seen.undecided_rows
     );
     for report in &tally.reports {
         println!("FAILED {report}");

@@ -1,4 +1,4 @@
-//! Document 01's numbers, written from document 01 and not taken from the engine or its binding.
+//! The documents' numbers, written from the documents and not taken from the engine or its binding.
 
 // ---- Rows, sets ----
 
@@ -26,6 +26,9 @@ pub const MOST_DEFINITIONS: u32 = 16;
 pub const MOST_POLICY_WORDS: usize = 8_192;
 pub const MOST_QUERY_WORDS: usize = 1_024;
 
+/// The name, with −, that lists compromised keys in an external policy.
+pub const COMPROMISED: u32 = 0;
+
 // ---- Expressions ----
 
 pub const MOST_GUARDS: u32 = 8;
@@ -50,6 +53,7 @@ pub const SHORT_AREA: u32 = 11;
 pub const COMPLEMENT_DRAWN: u32 = 12;
 pub const TOO_MANY_ROWS: u32 = 13;
 pub const TOO_MANY_DRAWS: u32 = 14;
+pub const NOT_EXTERNAL: u32 = 15;
 
 /// The part that is the query, after 0 to 15, the definitions.
 pub const QUERY_PART: u32 = 16;
@@ -73,6 +77,7 @@ mod tests {
         assert_eq!(sizes::MOST_CERTIFICATES, super::MOST_CERTIFICATES);
         assert_eq!(sizes::STORE_WORDS, super::STORE_WORDS);
         assert_eq!(sizes::MOST_DEFINITIONS, super::MOST_DEFINITIONS as usize);
+        assert_eq!(sizes::POLICY_WORDS, super::MOST_POLICY_WORDS);
         assert_eq!(sizes::ANSWER_WORDS, super::SET_WORDS);
         assert_eq!(sizes::DEFINITIONS_WORDS, super::DEFINITIONS_WORDS);
         assert_eq!(sizes::SCRATCH_WORDS, super::SCRATCH_WORDS);

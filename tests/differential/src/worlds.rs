@@ -10,8 +10,8 @@
 
 use crate::engine::{Engine, Lent};
 use crate::evaluator::{key, row_of, value, Areas, Evaluator, Expression, Guard, Judged, Record, Row, Set, Slot, Term, Verdict};
-use crate::generate::{lay_out, Generator, Universe};
-use crate::numbers::{FIRST_KEY, STORE_WORDS};
+use crate::generate::{lay_out, rewritten, Generator, Universe};
+use crate::numbers::{FIRST_KEY, MOST_POLICY_WORDS, STORE_WORDS};
 use crate::random::Random;
 use std::collections::{BTreeMap, BTreeSet};
 
@@ -111,11 +111,16 @@ fn turn_round(list: &mut List, row: &Option<Row>) {
 
 // ---- belonging, as document 01's section has it ----
 
+#[derive(Clone, Copy)]
 struct Belonging<'a> {
     judged: &'a Judged,
     world: &'a World<'a>,
     /// Where values are sought.
     atoms: &'a BTreeSet<u32>,
+    /// Whether the policy is an external one, whose definition 0 lists compromised keys, and this is inside a later definition of it. The source's transformation
+    /// (document 000, section 6) then reads e$u as {x | e ∉ Compromised, x ∈ e$u}.
+    external: bool,
+    later: bool,
 }
 
 impl Belonging<'_> {
@@ -124,15 +129,25 @@ impl Belonging<'_> {
         match expression {
             Expression::Rows(rows) => written(rows),
             Expression::AllBut(rows) => !written(rows),
-            Expression::Definition(number) => self.belongs(row, &self.judged.definitions[*number].expression, &[]),
+            Expression::Definition(number) => self.belongs_to_definition(row, *number),
             Expression::List { issuer, name, polarity } => match value(*issuer, values) {
                 number if number < FIRST_KEY => *polarity == 1,
+                issuer if self.later && self.belongs_to_definition(&Row::new(&[issuer]), 0) => false,
                 issuer => self.world.gives([issuer, *name, *polarity], row),
+            },
+            Expression::Vetted { issuer, name, definition } => match value(*issuer, values) {
+                number if number < FIRST_KEY => false,
+                issuer => !self.belongs_to_definition(&Row::new(&[issuer]), *definition) && self.world.gives([issuer, *name, 0], row),
             },
             Expression::Union(left, right) => self.belongs(row, left, values) || self.belongs(row, right, values),
             Expression::Difference(left, right) => self.belongs(row, left, values) && !self.belongs(row, right, values),
             Expression::Comprehension { guards, head } => self.some_values(row, guards, head, values),
         }
+    }
+
+    fn belongs_to_definition(&self, row: &Row, number: usize) -> bool {
+        let inside = Belonging { later: self.external && number > 0, ..*self };
+        inside.belongs(row, &self.judged.definitions[number].expression, &[])
     }
 
     /// Some values of the comprehension's own variables pass every guard and make the head this row. They are sought guard by guard, to be quick.
@@ -188,23 +203,30 @@ struct Point {
 }
 
 /// What a check has looked at.
-#[derive(Default, Clone, Copy)]
+#[derive(Default, Clone, Copy, Debug)]
 pub struct Seen {
     /// Queries that are refused before reading have no worlds to be held against.
     pub refused: u64,
+    /// Policies that were rewritten.
+    pub rewritten: u64,
     pub points: [u64; 3],
     pub worlds: u64,
     /// Rows that are in some of a point's worlds and not in others: there the bounds say something.
     pub undecided_rows: u64,
 }
 
-/// A random policy and query at several points of a random list of filings.
+/// A random policy and query at several points of a random list of filings. An external policy is rewritten by the engine, and what it answers under the output
+/// is held against the policy as it was written.
 pub fn check(engine: &dyn Engine, generator: &mut Generator, seen: &mut Seen) -> Result<(), String> {
-    let (policy, query) = generator.sound_pair();
-    let Ok(judged) = Evaluator::default().judge(&policy, &query) else {
+    let external = generator.random.chance(300);
+    let (written, query) = if external { generator.external_pair() } else { generator.sound_pair() };
+    let output = if external { rewritten(&written) } else { Ok(written.clone()) };
+    let (Ok(judged), Ok(_)) = (Evaluator::default().judge(&written, &query), output) else {
         seen.refused += 1;
         return Ok(());
     };
+    let policy = if external { rewritten_by(engine, &written)? } else { written };
+    seen.rewritten += external as u64;
     let names = names_asked(&judged);
     let points = points(engine, generator, &names, &policy, &query)?;
     let universe = universe(&points, &mut generator.random);
@@ -212,7 +234,8 @@ pub fn check(engine: &dyn Engine, generator: &mut Generator, seen: &mut Seen) ->
     let show = |report| format!("{report}\n  policy {policy:?}\n  query {query:?}");
     for point in &points {
         let worlds = consistent_worlds(&names, &universe, &point.accepted, &mut generator.random);
-        let belonging: Vec<Belonging> = worlds.iter().map(|world| Belonging { judged: &judged, world, atoms: &atoms }).collect();
+        let belonging: Vec<Belonging> =
+            worlds.iter().map(|world| Belonging { judged: &judged, world, atoms: &atoms, external, later: false }).collect();
         for row in rows_asked(&universe, &atoms, &points) {
             let belongs: Vec<bool> = belonging.iter().map(|world| world.belongs(&row, &judged.query, &[])).collect();
             seen.undecided_rows += (belongs.contains(&true) && belongs.contains(&false)) as u64;
@@ -277,6 +300,16 @@ fn points(engine: &dyn Engine, generator: &mut Generator, names: &BTreeSet<Name>
     Ok(points)
 }
 
+fn rewritten_by(engine: &dyn Engine, policy: &[u32]) -> Result<Vec<u32>, String> {
+    let mut area = vec![9; MOST_POLICY_WORDS];
+    let reply = engine.rewrite(policy, &mut area);
+    if reply.number > 0 {
+        return Err(format!("no output where no refusal applies: {reply:?}\n  policy {policy:?}"));
+    }
+    area.truncate(reply.length);
+    Ok(area)
+}
+
 /// Mostly a certificate of a name that the query asks, sometimes words that are none.
 fn filed(generator: &mut Generator, names: &BTreeSet<Name>) -> Vec<u32> {
     let mut record = generator.record();
@@ -315,8 +348,10 @@ fn names_asked(judged: &Judged) -> BTreeSet<Name> {
     };
     let mut names = BTreeSet::new();
     for expression in judged.expressions() {
-        if let Expression::List { issuer, name, polarity } = expression {
-            names.extend(keys(*issuer).into_iter().map(|key| [key, *name, *polarity]));
+        match expression {
+            Expression::List { issuer, name, polarity } => names.extend(keys(*issuer).into_iter().map(|key| [key, *name, *polarity])),
+            Expression::Vetted { issuer, name, .. } => names.extend(keys(*issuer).into_iter().map(|key| [key, *name, 0])),
+            _ => {}
         }
     }
     names
@@ -374,8 +409,8 @@ mod tests {
         for engine in engines {
             let (result, seen) = run(engine, 400);
             assert_eq!(result, Ok(()));
-            println!("points {:?}, worlds {}, undecided rows {}, refused {}", seen.points, seen.worlds, seen.undecided_rows, seen.refused);
-            assert!(seen.points.iter().all(|&count| count > 100) && seen.undecided_rows > 1_000, "{:?}", seen.points);
+            println!("{seen:?}");
+            assert!(seen.points.iter().all(|&count| count > 100) && seen.undecided_rows > 1_000 && seen.rewritten > 50, "{seen:?}");
         }
     }
 
@@ -388,9 +423,18 @@ mod tests {
             Fault::NumberIssuerHasNoRows,
             Fault::PatternVariableNotCompared,
             Fault::AbsentNotTurnedRound,
+            Fault::VettedNotLookedUp,
+            Fault::LookUpTurnedRound,
+            Fault::LookUpAmongListed,
+            Fault::LookUpByFirstAtom,
+            Fault::VettedByDefinition0,
+            Fault::Definition0RewrittenToo,
+            Fault::OneListRewritten,
+            Fault::OffsetsNotMoved,
+            Fault::LengthsNotChanged,
         ];
         for fault in meanings {
-            let (result, _) = run(&Evaluator { fault: Some(fault) }, 4_000);
+            let (result, _) = run(&Evaluator { fault: Some(fault) }, 8_000);
             assert!(result.is_err(), "{fault:?} is not noticed");
         }
     }
