@@ -1,5 +1,5 @@
 /*
- * A portal in C: certificates arrive, a curator's policy stands, an astronomer searches.
+ * A portal in C: certificates arrive, a curator's policy stands, an astronomer searches; then keys are vetted.
  *
  *     rt staticlib capi
  *     cc -Iinclude examples/portal.c target/staticlib/libcapi.a -o portal && ./portal
@@ -7,33 +7,55 @@
 #include <stdio.h>
 #include "txindurbe.h"
 
+#define ARCHIVE TXB_KEY(0)
 #define OBSERVATORY TXB_KEY(1)
-enum { RELEASED = 1, WITHDRAWN = 2 };
+enum { COMPROMISED = 0, RELEASED = 1, WITHDRAWN = 2 };
 #define WORDS(area) (sizeof(area) / sizeof((area)[0]))
 
 /* One definition, name 10, +: draw x from what is released; x is absent from what is withdrawn; head x. */
-static const uint32_t policy[] = {
+static const uint32_t not_withdrawn[] = {
     1, 1, 10, TXB_PLUS, 6, 23,
     7, 2,
     1, 4, 0, OBSERVATORY, RELEASED, TXB_PLUS, 1, 2, 0,
     4, 1, 1, 0, 4, 0, OBSERVATORY, WITHDRAWN, TXB_MINUS,
     1, 1, 0};
-static const uint32_t everything_public[] = {3, 0};
+
+/* Name 0, -, the compromised keys: what the archive says of them. Name 10, +: what is released. */
+static const uint32_t external[] = {
+    1, 2, COMPROMISED, TXB_MINUS, 10, 5, 10, TXB_PLUS, 15, 5,
+    4, 0, ARCHIVE, COMPROMISED, TXB_MINUS,
+    4, 0, OBSERVATORY, RELEASED, TXB_PLUS};
+static uint32_t rewritten[TXB_POLICY_WORDS];
+
+/* The policy that stands, and the search for its last definition. */
+static const uint32_t *policy = not_withdrawn;
+static size_t policy_words = WORDS(not_withdrawn);
+static uint32_t everything_public[] = {3, 0};
 
 static uint32_t store[TXB_STORE_WORDS]; /* starts empty: its count is 0 */
 static uint32_t answer[TXB_ANSWER_WORDS], definitions[TXB_DEFINITIONS_WORDS], scratch[TXB_SCRATCH_WORDS];
 
 /* The signature has been checked before. */
-static void arrives(uint32_t name, uint32_t polarity, uint32_t observation) {
-    const uint32_t certificate[TXB_CERTIFICATE_WORDS] = {OBSERVATORY, name, polarity, 1, observation};
+static void arrives(uint32_t key, uint32_t name, uint32_t polarity, uint32_t atom) {
+    const uint32_t certificate[TXB_CERTIFICATE_WORDS] = {key, name, polarity, 1, atom};
     uint32_t reply = txb_file(store, WORDS(store), certificate, WORDS(certificate));
     if (reply > TXB_HELD)
         printf("the certificate was refused with %u\n", (unsigned)reply);
 }
 
+/* The external policy now stands, rewritten so that each key is vetted. */
+static void rewrite(void) {
+    uint32_t part;
+    uint32_t number = txb_rewrite(external, WORDS(external), rewritten, WORDS(rewritten), &part, &policy_words);
+    if (number != 0)
+        printf("the policy was refused with %u in part %u\n", (unsigned)number, (unsigned)part);
+    policy = rewritten;
+    everything_public[1] = 1;
+}
+
 static void search(void) {
     uint32_t part, verdict, draws;
-    uint32_t number = txb_query(policy, WORDS(policy), everything_public, WORDS(everything_public), store, WORDS(store), answer, WORDS(answer), definitions,
+    uint32_t number = txb_query(policy, policy_words, everything_public, WORDS(everything_public), store, WORDS(store), answer, WORDS(answer), definitions,
                                 WORDS(definitions), scratch, WORDS(scratch), &part, &verdict, &draws);
     if (number != 0) {
         printf("the search was refused with %u in part %u\n", (unsigned)number, (unsigned)part);
@@ -51,11 +73,15 @@ static void search(void) {
 
 int main(void) {
     search();                       /* lower, 0 draws, rows: */
-    arrives(RELEASED, TXB_PLUS, 7);
+    arrives(OBSERVATORY, RELEASED, TXB_PLUS, 7);
     search();                       /* lower, 1 draws, rows: */
-    arrives(WITHDRAWN, TXB_MINUS, 7);
+    arrives(OBSERVATORY, WITHDRAWN, TXB_MINUS, 7);
     search();                       /* lower, 1 draws, rows: 7 */
-    arrives(RELEASED, TXB_PLUS, 8);
+    arrives(OBSERVATORY, RELEASED, TXB_PLUS, 8);
     search();                       /* lower, 2 draws, rows: 7 */
+    rewrite();
+    search();                       /* lower, 0 draws, rows: */
+    arrives(ARCHIVE, COMPROMISED, TXB_MINUS, OBSERVATORY);
+    search();                       /* lower, 0 draws, rows: 7 8 */
     return 0;
 }

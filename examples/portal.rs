@@ -1,14 +1,17 @@
-//! A portal in Rust: a curator's policies are judged, certificates arrive, and the tables that an astronomer gets follow them.
+//! A portal in Rust: a curator's policies are judged or rewritten, certificates arrive, and the tables that an astronomer gets follow them.
 //!
 //!     bash run
 //!
 //! What it prints is in `portal.expected`, which was worked out from the documents by hand.
 
 use txindurbe::{
-    key, Certificate, Definition, Engine, Expression, Filing, Guard, Polarity, Policy, Query, Refusal, Row, Rows, Slot, Store, Table, Term, Verdict,
+    key, Certificate, Definition, Engine, Expression, Filing, Guard, Part, Polarity, Policy, Query, Refusal, Row, Rows, Slot, Store, Table, Term,
+    Verdict,
 };
 
+const ARCHIVE: u32 = key(0);
 const OBSERVATORY: u32 = key(1);
+const COMPROMISED: u16 = 0;
 const RELEASED: u16 = 1;
 const WITHDRAWN: u16 = 2;
 /// The name that the policy gives its definition.
@@ -41,6 +44,15 @@ fn refused_policy() -> Policy {
     Policy::new(&[Definition { name: PUBLIC, polarity: Polarity::Minus, expression }])
 }
 
+/// What is released, and before it whose word is taken for which keys are compromised.
+fn external_policy() -> Policy {
+    let compromised = Expression::list(ARCHIVE, COMPROMISED, Polarity::Minus);
+    Policy::new(&[
+        Definition { name: COMPROMISED, polarity: Polarity::Minus, expression: compromised },
+        Definition { name: PUBLIC, polarity: Polarity::Plus, expression: released() },
+    ])
+}
+
 struct Portal {
     policy: Policy,
     public: Query,
@@ -51,14 +63,15 @@ struct Portal {
 }
 
 impl Portal {
-    fn new() -> Portal {
-        let (public, catalogue, embargo) = (Expression::definition(0), observations([7, 8, 9]), observations([9]));
+    /// The policy's last definition says what is public.
+    fn new(policy: Policy, last: u32, store: Store) -> Portal {
+        let (public, catalogue, embargo) = (Expression::definition(last), observations([7, 8, 9]), observations([9]));
         Portal {
-            policy: policy(),
+            policy,
             public: Query::new(&public),
             not_public: Query::new(&catalogue.clone().minus(public)),
             not_under_embargo: Query::new(&catalogue.minus(embargo)),
-            store: Store::new(),
+            store,
             engine: Engine::new(),
         }
     }
@@ -75,7 +88,11 @@ impl Portal {
 
     /// The certificate's signature has been checked before.
     fn arrives(&mut self, certificate: Certificate) -> Result<(), Refusal> {
-        let list = if certificate.name == RELEASED { "released" } else { "withdrawn" };
+        let list = match certificate.name {
+            COMPROMISED => "compromised",
+            RELEASED => "released",
+            _ => "withdrawn",
+        };
         let is = if certificate.polarity == Polarity::Plus { "is" } else { "is not" };
         print!("{} certifies that {} {is} {list}: ", atom(certificate.key), row(&certificate.row));
         match self.store.file(&certificate) {
@@ -120,6 +137,10 @@ fn row(row: &Row) -> String {
     row.atoms().iter().map(|&word| atom(word)).collect::<Vec<_>>().join("/")
 }
 
+fn words(words: &[u32]) -> String {
+    words.iter().map(|&word| atom(word)).collect::<Vec<_>>().join(" ")
+}
+
 fn atom(word: u32) -> String {
     if word < key(0) {
         word.to_string()
@@ -129,7 +150,7 @@ fn atom(word: u32) -> String {
 }
 
 fn main() -> Result<(), Refusal> {
-    let mut portal = Portal::new();
+    let mut portal = Portal::new(policy(), 0, Store::new());
     println!("The policy: an observation is public if observatory k1 released it and did not withdraw it.");
     portal.judge("is public", &portal.public)?;
     portal.judge("of 7, 8 and 9 is not public", &portal.not_public)?;
@@ -140,8 +161,7 @@ fn main() -> Result<(), Refusal> {
     if let Err(refusal) = other.judge(&portal.public) {
         println!("  {refusal}");
         if let Some(part) = refusal.part {
-            let words = other.part(&portal.public, part).iter().map(|&word| atom(word)).collect::<Vec<_>>();
-            println!("  its words: {}", words.join(" "));
+            println!("  its words: {}", words(other.part(&portal.public, part)));
         }
     }
 
@@ -158,5 +178,13 @@ fn main() -> Result<(), Refusal> {
         let answer = portal.engine.query(&portal.policy, &Query::new(&list), &portal.store)?;
         println!("Now k1's {name} list has, {}", table(&answer.table));
     }
-    Ok(())
+
+    println!("An external policy: an observation is public if k1 released it, and k0 says which keys are compromised. Rewritten, it vets each key:");
+    let external = external_policy();
+    let rewritten = external.rewrite()?;
+    println!("  what is public: {}", words(external.part(&portal.public, Part::Definition(1))));
+    println!("  rewritten: {}", words(rewritten.part(&portal.public, Part::Definition(1))));
+    let mut portal = Portal::new(rewritten, 1, portal.store);
+    portal.show_tables()?;
+    portal.arrives(Certificate::not_listed(ARCHIVE, COMPROMISED, [OBSERVATORY]))
 }
