@@ -3,7 +3,7 @@
 //! Behind a test of the store they make each draw, as document 01 asks of the engine. The free ones are the quickest way to the same rows: the store is
 //! trusted, and no draw is made that is not needed. Where both are the same program, it stands here once.
 
-use crate::tasks::{Asked, Record, ARCHIVE, LEFT, OBSERVATORY, RELEASED, RIGHT, SMALL, TRUSTED, WITHDRAWN};
+use crate::tasks::{Asked, Record, ARCHIVE, COMPROMISED, LEFT, OBSERVATORY, RELEASED, RIGHT, SMALL, TRUSTED, WITHDRAWN};
 use std::hint::black_box;
 use txindurbe::sizes::{CERTIFICATE_WORDS, MOST_CERTIFICATES, MOST_ROWS, ROW_WORDS, STORE_WORDS};
 
@@ -180,6 +180,22 @@ pub fn delegation(asked: &Asked, answer: &mut [u32]) -> Option<u32> {
     Some(draws)
 }
 
+/// The policy takes the archive's word for which keys are compromised: its own must not be either.
+pub fn vetted_delegation(asked: &Asked, answer: &mut [u32]) -> Option<u32> {
+    let not_compromised: Vec<u32> = atoms(rows_of_name(asked, ARCHIVE, COMPROMISED, 1)?).collect();
+    let vetted = |key: &u32| not_compromised.binary_search(key).is_ok();
+    let trusted = if vetted(&ARCHIVE) { rows_of_name(asked, ARCHIVE, TRUSTED, 0)? } else { &[] };
+    let mut draws = trusted.len() as u32;
+    let mut observations = Vec::with_capacity(MOST_CERTIFICATES);
+    for observatory in atoms(trusted).filter(vetted) {
+        let released = rows_of_name(asked, observatory, RELEASED, 0)?;
+        draws += released.len() as u32;
+        observations.extend(atoms(released).map(|observation| [observation]));
+    }
+    sorted(observations, answer);
+    Some(draws)
+}
+
 fn left_and_right(asked: &Asked) -> Option<[&[Record]; 2]> {
     Some([rows_of_name(asked, OBSERVATORY, LEFT, 0)?, rows_of_name(asked, OBSERVATORY, RIGHT, 0)?])
 }
@@ -300,6 +316,88 @@ pub fn file_free(store: &mut [u32], record: &Record) -> bool {
 
 pub fn file(store: &mut [u32], record: &Record) -> bool {
     sound(store) && sound_record(record) && (store[0] as usize) < MOST_CERTIFICATES && file_free(store, record)
+}
+
+/// A policy whose definition 0 lists compromised keys, with its output's words. Gives their count; nothing where an external rule is broken.
+pub fn rewrite(policy: &[u32], area: &mut [u32]) -> Option<usize> {
+    let count = policy[1] as usize;
+    let (table, first) = (2 + 4 * count, 2 + 4 * count + policy[5] as usize);
+    let mut rewriter = Rewriter { from: policy, at: first, area, end: first };
+    rewriter.area[..first].copy_from_slice(&policy[..first]);
+    for entry in (6..table).step_by(4) {
+        let offset = rewriter.end;
+        rewriter.area[entry + 2] = offset as u32;
+        rewriter.expression()?;
+        rewriter.area[entry + 3] = (rewriter.end - offset) as u32;
+    }
+    Some(rewriter.end)
+}
+
+/// Words copied from one place to another, with each list vetted.
+struct Rewriter<'a> {
+    from: &'a [u32],
+    at: usize,
+    area: &'a mut [u32],
+    end: usize,
+}
+
+impl Rewriter<'_> {
+    fn words(&mut self, count: usize) {
+        self.area[self.end..self.end + count].copy_from_slice(&self.from[self.at..self.at + count]);
+        self.at += count;
+        self.end += count;
+    }
+
+    /// A width, and two words for each atom; so are patterns.
+    fn row(&mut self) {
+        self.words(1 + 2 * self.from[self.at] as usize);
+    }
+
+    fn expression(&mut self) -> Option<()> {
+        match self.from[self.at] {
+            1 | 2 => {
+                let count = self.from[self.at + 1];
+                self.words(2);
+                (0..count).for_each(|_| self.row());
+            }
+            3 => self.words(2),
+            4 => {
+                let code = self.end;
+                self.words(5);
+                self.area[code] = 8;
+                self.area[self.end] = 0;
+                self.end += 1;
+            }
+            5 => {
+                self.words(1);
+                self.expression()?;
+                self.expression()?;
+            }
+            7 => {
+                let guards = self.from[self.at + 1];
+                self.words(2);
+                for _ in 0..guards {
+                    self.guard()?;
+                }
+                self.row();
+            }
+            _ => return None,
+        }
+        Some(())
+    }
+
+    fn guard(&mut self) -> Option<()> {
+        match self.from[self.at] {
+            1 => {
+                self.words(1);
+                self.expression()?;
+                self.row();
+            }
+            2 | 3 => self.words(5),
+            _ => return None,
+        }
+        Some(())
+    }
 }
 
 pub fn small(asked: &Asked, answer: &mut [u32]) -> Option<u32> {

@@ -1,4 +1,4 @@
-//! The library beside a straightforward evaluator, hand-tuned programs and SQLite, on nine tasks.
+//! The library beside a straightforward evaluator, hand-tuned programs and SQLite, on eleven tasks.
 //!
 //!     cargo run --release --offline [-- ROUNDS]
 //!     cargo run --release --offline -- --check
@@ -22,7 +22,7 @@ use sqlite::{Database, Statement};
 use std::process::ExitCode;
 use std::rc::Rc;
 use tasks::{Asked, Certificates, Record};
-use txindurbe::sizes::{ANSWER_WORDS, DEFINITIONS_WORDS, ROW_WORDS, SCRATCH_WORDS, STORE_WORDS};
+use txindurbe::sizes::{ANSWER_WORDS, DEFINITIONS_WORDS, POLICY_WORDS, ROW_WORDS, SCRATCH_WORDS, STORE_WORDS};
 
 /// What a run found: how many rows, and the sum of their atoms.
 #[derive(Clone, Copy, PartialEq, Eq, Debug, Default)]
@@ -168,8 +168,31 @@ fn filing_task(records: &[Record]) -> Task {
     Task { name: "d: 2,000 certificates filed in random order", draws: 0, contestants }
 }
 
+/// Rewrites the policy into an area: the rows are the output's words.
+fn rewriting(policy: &[u32], mut rewrite: impl FnMut(&[u32], &mut [u32]) -> Option<usize>) -> impl FnMut() -> Option<Outcome> {
+    let (policy, mut area) = (policy.to_vec(), vec![0; POLICY_WORDS]);
+    move || {
+        let length = rewrite(&policy, &mut area)?;
+        Some(Outcome { rows: length as u64, sum: area[..length].iter().map(|&word| u64::from(word)).sum(), draws: None })
+    }
+}
+
+/// SQLite takes no part.
+fn rewriting_task(policy: &[u32]) -> Task {
+    let mut contestants = Vec::new();
+    for (name, engine) in engines() {
+        let rewrite =
+            move |policy: &[u32], area: &mut [u32]| Some(engine.rewrite(policy, area)).filter(|reply| reply.number == 0).map(|reply| reply.length);
+        contestants.push(contestant(name, rewriting(policy, rewrite)));
+    }
+    contestants.push(contestant(HAND, rewriting(policy, hand::rewrite)));
+    contestants.push(contestant(FREE, rewriting(policy, hand::rewrite)));
+    Task { name: "k: an external policy of 16 definitions rewritten, 8,177 words", draws: 0, contestants }
+}
+
 fn tasks() -> Vec<Task> {
     let (certificates, delegations, observations) = (tasks::certificates(), tasks::delegations(), tasks::observations());
+    let vetted_delegations = tasks::vetted_delegations();
     let filed = tasks::in_random_order(&certificates);
     let asked = |policy: &[u32], query: Vec<u32>| Asked { policy: policy.to_vec(), query, store: tasks::store_of(&certificates) };
     let alone = |query: Vec<u32>| asked(tasks::EMPTY_POLICY, query);
@@ -213,18 +236,26 @@ fn tasks() -> Vec<Task> {
             hand::small,
             hand::small,
         ),
+        query_task(
+            "j: delegation to 40 observatories under a rewritten policy, 640 draws",
+            Asked { policy: tasks::vetted_policy(), query: tasks::VETTED_QUERY.to_vec(), store: tasks::store_of(&vetted_delegations) },
+            640,
+            hand::vetted_delegation,
+            hand::vetted_delegation,
+        ),
+        rewriting_task(&tasks::long_external_policy()),
     ];
-    for (task, run) in tasks.iter_mut().zip(sqlite_runs([&certificates, &delegations, &observations], filed)) {
+    for (task, run) in tasks.iter_mut().zip(sqlite_runs([&certificates, &delegations, &observations, &vetted_delegations], filed)) {
         task.contestants.push(Contestant { name: SQLITE, run });
     }
     tasks
 }
 
-/// In the order of the tasks. The databases live as long as the program.
+/// In the order of the tasks, of which the last has none. The databases live as long as the program.
 #[cfg(sqlite)]
-fn sqlite_runs(stores: [&Certificates; 3], filed: Vec<Record>) -> [Run; 9] {
+fn sqlite_runs(stores: [&Certificates; 4], filed: Vec<Record>) -> [Run; 10] {
     let kept = |database: Database| -> &'static Database { Box::leak(Box::new(database)) };
-    let [held, delegations, observations] = stores.map(|certificates| kept(Database::holding(tasks::words_of(certificates))));
+    let [held, delegations, observations, vetted_delegations] = stores.map(|certificates| kept(Database::holding(tasks::words_of(certificates))));
     let (empty, literals) = (kept(Database::holding([])), kept(Database::of_literals()));
     held.hold("embargoed", tasks::embargoed());
     let answered = |mut statement: Statement<'static>, columns| -> Run { Box::new(move || Some(statement.run(&[], columns))) };
@@ -239,11 +270,12 @@ fn sqlite_runs(stores: [&Certificates; 3], filed: Vec<Record>) -> [Run; 9] {
         answered(delegations.delegation(), 1),
         answered(held.embargo(), 1),
         answered(observations.small(), 4),
+        answered(vetted_delegations.vetted_delegation(), 1),
     ]
 }
 
 #[cfg(not(sqlite))]
-fn sqlite_runs(_: [&Certificates; 3], _: Vec<Record>) -> [Run; 0] {
+fn sqlite_runs(_: [&Certificates; 4], _: Vec<Record>) -> [Run; 0] {
     []
 }
 
@@ -351,6 +383,14 @@ mod tests {
     fn agree(outcomes: [Option<Outcome>; 2]) -> Result<(), String> {
         let [first, second] = outcomes.map(|outcome| contestant("one of two", move || outcome));
         Task { name: "a task", draws: 5, contestants: vec![first, second] }.agree()
+    }
+
+    #[test]
+    fn the_rewritten_policy_has_the_length_that_its_task_says() {
+        let mut task = rewriting_task(&tasks::long_external_policy());
+        let lengths: Vec<u64> = task.contestants.iter_mut().filter_map(|contestant| (contestant.run)()).map(|outcome| outcome.rows).collect();
+        assert_eq!(lengths, [8_177; 4]);
+        assert!(task.name.contains("8,177"));
     }
 
     #[test]

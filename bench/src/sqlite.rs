@@ -1,6 +1,6 @@
 //! As much of SQLite's C interface as the tasks need, and the tasks as SQL: in memory, indexed by the primary key, prepared once.
 
-use crate::tasks::{Record, ARCHIVE, LEFT, OBSERVATORY, RELEASED, RIGHT, SIZES, SMALL, TRUSTED, WITHDRAWN};
+use crate::tasks::{Record, ARCHIVE, COMPROMISED, LEFT, OBSERVATORY, RELEASED, RIGHT, SIZES, SMALL, TRUSTED, WITHDRAWN};
 use crate::Outcome;
 use std::ffi::{c_char, c_int, c_void, CStr, CString};
 use std::fmt::Display;
@@ -130,6 +130,19 @@ impl Database {
     pub fn delegation(&self) -> Statement<'_> {
         let trusted = of_name("t", ARCHIVE, TRUSTED, 0, 1);
         self.prepare(&format!("SELECT DISTINCT r.a FROM certificate t, certificate r WHERE {trusted} AND {} ORDER BY r.a", public("t.a")))
+    }
+
+    /// The archive's key must not be compromised either.
+    pub fn vetted_delegation(&self) -> Statement<'_> {
+        let (trusted, released) = (of_name("t", ARCHIVE, TRUSTED, 0, 1), of_name("r", "t.a", RELEASED, 0, 1));
+        let vetted = |key: &str| {
+            let certified = of_name("n", ARCHIVE, COMPROMISED, 1, 1);
+            format!("EXISTS (SELECT 1 FROM certificate n WHERE {certified} AND n.a = {key} AND n.b = 0 AND n.c = 0 AND n.d = 0)")
+        };
+        let (archive, observatory) = (vetted(&ARCHIVE.to_string()), vetted("t.a"));
+        self.prepare(&format!(
+            "SELECT DISTINCT r.a FROM certificate t, certificate r WHERE {trusted} AND {released} AND {archive} AND {observatory} ORDER BY r.a"
+        ))
     }
 
     /// The definition is a table, `embargoed`.

@@ -1,6 +1,7 @@
 //! What is measured: the words of each task, the same for all.
 
 use differential::evaluator::{self, Row};
+use differential::generate::{assemble, rewritten, united};
 use differential::random::Random;
 use std::collections::BTreeSet;
 use txindurbe::key;
@@ -17,6 +18,8 @@ pub const RIGHT: u32 = 4;
 pub const SMALL: u32 = 5;
 /// The archive's list of the observatories that it trusts.
 pub const TRUSTED: u32 = 6;
+/// The archive's list, −, of compromised keys; also the name that an external policy has for them.
+pub const COMPROMISED: u32 = 0;
 
 /// A certificate's words.
 pub type Record = [u32; CERTIFICATE_WORDS];
@@ -92,6 +95,33 @@ pub fn embargo_query() -> Vec<u32> {
     vec![7, 2, 1, 4, 0, OBSERVATORY, RELEASED, 0, 1, 2, 0, 4, 1, 1, 0, 3, 0, 1, 1, 0]
 }
 
+/// Released by an observatory that this key trusts.
+fn delegation(key: u32) -> Vec<u32> {
+    let trusted = [1, 4, 0, key, TRUSTED, 0, 1, 2, 0];
+    let released = [1, 4, 1, 0, RELEASED, 0, 1, 2, 1];
+    [&[7, 2], &trusted[..], &released, &[1, 1, 1]].concat()
+}
+
+/// An external policy, rewritten: the archive says which observatories it trusts and which keys are compromised.
+pub fn vetted_policy() -> Vec<u32> {
+    let compromised = vec![4, 0, ARCHIVE, COMPROMISED, 1];
+    let external = assemble(&[(COMPROMISED, 1, compromised), (10, 0, delegation(ARCHIVE))]);
+    rewritten(&external).expect("it is external")
+}
+
+pub const VETTED_QUERY: &[u32] = &[3, 1];
+
+/// An external policy of 16 definitions: 128 compromised keys, then 15 times a delegation united with 70 lists. Its output has 66 words of table, 386 of
+/// definition 0 and 15 times 1 + 25 + 489.
+pub fn long_external_policy() -> Vec<u32> {
+    let mut definitions = vec![(COMPROMISED, 1, literal((0..128).map(key)))];
+    for name in 1..16 {
+        let lists: Vec<Vec<u32>> = (0..70).map(|n| vec![4, 0, key(64 + n), name, 0]).collect();
+        definitions.push((name, 0, [vec![5], delegation(key(name)), united(&lists)].concat()));
+    }
+    assemble(&definitions)
+}
+
 fn certificate(issuer: u32, name: u32, polarity: u32, row: &[u32]) -> evaluator::Record {
     evaluator::Record { name: [issuer, name, polarity], row: Row::new(row) }
 }
@@ -121,6 +151,13 @@ pub fn delegations() -> Certificates {
         let even = (0..40).map(observed).filter(|observation| observation % 2 == 0);
         all.extend(even.map(|observation| certificate(observatory, WITHDRAWN, 1, &[observation])));
     }
+    all
+}
+
+/// The same, and 31 of keys that are not compromised: the archive's own and those of 30 observatories.
+pub fn vetted_delegations() -> Certificates {
+    let mut all = delegations();
+    all.extend((0..=30).map(|n| certificate(ARCHIVE, COMPROMISED, 1, &[key(n)])));
     all
 }
 

@@ -292,7 +292,7 @@ fn draws_from(sources: &[Vec<u32>], head: &[u32]) -> Vec<u32> {
 }
 
 /// The union of these, halved again and again, so that many are not deep.
-fn united(parts: &[Vec<u32>]) -> Vec<u32> {
+pub fn united(parts: &[Vec<u32>]) -> Vec<u32> {
     match parts {
         [part] => part.clone(),
         _ => {
@@ -314,7 +314,7 @@ pub fn rewritten(policy: &[u32]) -> Result<Vec<u32>, Refusal> {
 type Definition = (u32, u32, Vec<u32>);
 
 /// The policy's table and parts.
-fn assemble(definitions: &[Definition]) -> Vec<u32> {
+pub fn assemble(definitions: &[Definition]) -> Vec<u32> {
     let mut words = vec![1, definitions.len() as u32];
     let mut offset = 2 + 4 * definitions.len() as u32;
     for (name, polarity, part) in definitions {
