@@ -180,11 +180,13 @@ module _ (p q : List ℕ) (r : PolicyJudged) (h : JudgedAs (checkPolicy p) r) wh
       ]))
       unfolding judge check checkAfter with-query
       at-query y =
-          let t = policy-passing p r h e in
-          (t .exprs, ap (with-query q) (t .passes) ∙ ap (λ y. replyOf (elim y as (λ c. Checked) [
-            | parsed e ↦ checked (t .exprs) e (verdictOf (hasPolarity e (earlierIs (r .earlier)) plus) (hasPolarity e (earlierIs (r .earlier)) minus))
-            | Parse.refused n ↦ Checking.refused n queryPart
-          ])) y)
+          let t = policy-passing p r h e in (
+            t .exprs,
+            ap (with-query q) (t .passes) ∙ ap (λ y. replyOf (elim y as (λ c. Checked) [
+              | parsed e ↦ checked (t .exprs) e (verdictOf (hasPolarity e (earlierIs (r .earlier)) plus) (hasPolarity e (earlierIs (r .earlier)) minus))
+              | Parse.refused n ↦ Checking.refused n queryPart
+            ])) y,
+          )
 
       pub query-unjudged : {m : ℕ} → w ≡ whole.Refused m → judgement.Refused m queryPart ≡ judgementFor (judge p q)
       unfolding replyOf judgementFor

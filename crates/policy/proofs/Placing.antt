@@ -43,8 +43,16 @@ placed-sound : (policy : List ℕ) (due : ℕ) (earlier : List Entry) (y : Entry
     y .offset ≡ due → 1 ≤ y .size → due + y .size ≤ length policy → T (soundEntry policy due earlier y)
 unfolding soundEntry
 placed-sound policy due earlier y a b c o d e =
-    T-and (isName (y .name)) _ .1 (a, T-and (isPolarity (y .polarity)) _ .1 (b, T-and (eqb (y .offset) due) _ .1 (T-true (eq-eqb (y .offset) due o),
-    T-and (leb 1 (y .size)) _ .1 (le→leb 1 (y .size) d, T-and (leb (y .offset + y .size) (length policy)) (not (named earlier y)) .1 (le→leb (y .offset + y .size) (length policy) (omega arith), c)))))
+    T-and (isName (y .name)) _ .1 (
+      a,
+      T-and (isPolarity (y .polarity)) _ .1 (
+        b,
+        T-and (eqb (y .offset) due) _ .1 (
+          T-true (eq-eqb (y .offset) due o),
+          T-and (leb 1 (y .size)) _ .1 (le→leb 1 (y .size) d, T-and (leb (y .offset + y .size) (length policy)) (not (named earlier y)) .1 (le→leb (y .offset + y .size) (length policy) (omega arith), c)),
+        ),
+      ),
+    )
 
 -- the four words of an entry, where they stand
 same-entry : (a b c d : ℕ) (y : Entry) → a ≡ y .name → b ≡ y .polarity → c ≡ y .offset → d ≡ y .size → record { name = a; polarity = b; offset = c; size = d } ≡ y
@@ -94,7 +102,7 @@ entries-placed (x ∷ xs) (e ∷ es) policy at due rest old new alike p was by f
     (entries-placed xs es policy (at + 4) (due + size) rest (x ∷ old) (here ∷ new) (alike-one old new x here refl refl alike) p (was + 4) (x .offset + x .size) (fine .2) (omega arith)
     (sym (drop-drop 4 at policy) ∙ ap (λ (ws : List ℕ). drop 4 ws) h) longer)
 
-cells-length : (due : ℕ) (xs : List Entry) (es : List Expr) → length xs ≡ length es → length (each entryFour (placed due xs es)) ≡ 4 * length xs
+pub cells-length : (due : ℕ) (xs : List Entry) (es : List Expr) → length xs ≡ length es → length (each entryFour (placed due xs es)) ≡ 4 * length xs
 unfolding placed each entryFour
 cells-length due [] [] l = refl
 cells-length due [] (e ∷ es) l = absurd (omega arith)
@@ -115,8 +123,16 @@ table-read policy xs es h l short =
     let size = policy-length format xs es l in
     let n = length (policyWords format xs es) in
     let header : T (soundHeader (policyWords format xs es)) =
-        T-and (leb 2 n) _ .1 (le→leb 2 n (omega arith), T-and (leb n 8192) _ .1 (le→leb n 8192 short, T-and (eqb format 1) _ .1 (h .header .format,
-        T-and (leb (length xs) 16) (leb (2 + 4 * length xs) n) .1 (le→leb (length xs) 16 few, le→leb (2 + 4 * length xs) n (omega arith))))) in
+    T-and (leb 2 n) _ .1 (
+      le→leb 2 n (omega arith),
+      T-and (leb n 8192) _ .1 (
+        le→leb n 8192 short,
+        T-and (eqb format 1) _ .1 (
+          h .header .format,
+          T-and (leb (length xs) 16) (leb (2 + 4 * length xs) n) .1 (le→leb (length xs) 16 few, le→leb (2 + 4 * length xs) n (omega arith)),
+        ),
+      ),
+    ) in
     subst (λ (b : Bool). (elim b as (λ c. Table) [
       | true ↦ entries (length xs) (policyWords format xs es) 2 (2 + 4 * length xs) []
       | false ↦ refused badHeader

@@ -150,18 +150,20 @@ module _ (ks : List Known) where
       pub vet-has : (e : Expr) → T (externalExpr plus e) → T (hasPolarity e ks plus) → T (hasPolarity (vet e) ks plus)
       vet-has (leaf x) t h = has-leaf x t h
       vet-has (union a b) t h =
-          T-and (hasPolarity (vet a) ks plus) (hasPolarity (vet b) ks plus) .1
-          (vet-has a (T-left (externalExpr plus a) (externalExpr plus b) t) (T-left (hasPolarity a ks plus) (hasPolarity b ks plus) h),
-          vet-has b (T-right (externalExpr plus a) (externalExpr plus b) t) (T-right (hasPolarity a ks plus) (hasPolarity b ks plus) h))
+          T-and (hasPolarity (vet a) ks plus) (hasPolarity (vet b) ks plus) .1 (
+            vet-has a (T-left (externalExpr plus a) (externalExpr plus b) t) (T-left (hasPolarity a ks plus) (hasPolarity b ks plus) h),
+            vet-has b (T-right (externalExpr plus a) (externalExpr plus b) t) (T-right (hasPolarity a ks plus) (hasPolarity b ks plus) h),
+          )
       vet-has (difference a b) t h = absurd t
       vet-has (comprehension b) t h = body-has b t h
 
       body-has : (b : Body) → T (externalBody plus b) → T (guardsHave b ks plus) → T (guardsHave (vetBody b) ks plus)
       body-has (head r) t h = tt
       body-has (draw e s b) t h =
-          T-and (hasPolarity (vet e) ks plus) (guardsHave (vetBody b) ks plus) .1
-          (vet-has e (T-left (externalExpr plus e) (externalBody plus b) t) (T-left (hasPolarity e ks plus) (guardsHave b ks plus) h),
-          body-has b (T-right (externalExpr plus e) (externalBody plus b) t) (T-right (hasPolarity e ks plus) (guardsHave b ks plus) h))
+          T-and (hasPolarity (vet e) ks plus) (guardsHave (vetBody b) ks plus) .1 (
+            vet-has e (T-left (externalExpr plus e) (externalBody plus b) t) (T-left (hasPolarity e ks plus) (guardsHave b ks plus) h),
+            body-has b (T-right (externalExpr plus e) (externalBody plus b) t) (T-right (hasPolarity e ks plus) (guardsHave b ks plus) h),
+          )
       body-has (same x y b) t h = body-has b t h
       body-has (different x y b) t h = body-has b t h
       body-has (absent r e b) t h = absurd t

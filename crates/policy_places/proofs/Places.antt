@@ -3,7 +3,7 @@ use Prim.Native.Nat.{ℕ, _+_, _-_, _*_, _≤_, _<_}
 use mathlib.Core.Path.{_≡_, refl, sym, ap, subst, _∙_}
 use mathlib.Core.Logic.{_⊎_, inl, inr}
 use mathlib.Core.Bool.{true, false}
-use mathlib.Core.List.{List, [], _∷_, _++_, append-assoc}
+use mathlib.Core.List.{List, [], _∷_, _++_, append-assoc, append-nil}
 use native.Mathlib.Omega.{arith}
 use lib.ListN.{length, drop, getD, length-append, length-drop}
 use lib.Seq.{drop-drop, drop-append-seam, getD-drop}
@@ -15,7 +15,9 @@ use Rattle.policy.specs.Syntax.{Term, atom, var, Slot, old, new, Expr, leaf, un
 use Rattle.policy.specs.Words.{termWords, each, termRowWords, slotWords, fresh, guardCount, exprWords, bodyWords}
 use Rattle.policy.specs.WellFormed.{FitSlots, Fit}
 use Rattle.policy.specs.Decode.{Code, isLeaf, isUnion, isDifference, isComprehension, codeOf, isNode}
+use Rattle.policy.specs.Parse.{parse, parsed}
 use Rattle.policy.proofs.LeafDecoding.{leaf-coded, no-node}
+use Rattle.policy.proofs.Decoding.{parse-words, parse-fits}
 use Rattle.policy.specs.Held.{termIs, Opening, drawOpens, absentOpens, sameOpens, differentOpens, guardIs, opens}
 use Rattle.policy_places.specs.Places.{At, patternWords, StandsRow, StandsPattern, StandsLeaf, Stands, StandsBody, StandsTwo, StandsDraw, StandsAbsent, SomeRow, SomePattern, IsGuard}
 use Rattle.policy.specs.declared.Term as Held-term
@@ -328,3 +330,7 @@ unfolding FitSlots fresh
 slots-scope n [] h f = omega arith
 slots-scope n (old t ∷ p) h f = slots-scope n p h (f .1)
 slots-scope n (new ∷ p) h f = let g = slots-scope (n + 1) p (omega (arith, f .0)) (f .1) in omega arith
+
+-- a whole definition or query stands at its first word
+pub whole-here : (m : ℕ) (ws : List ℕ) (e : Expr) → parse m ws ≡ parsed e → Stands m 0 ws 0 e
+whole-here m ws e h = record { words = record { rest = []; spelled = parse-words m ws e h ∙ sym (append-nil (exprWords e 0)) }; fit = parse-fits m ws e h .fit }

@@ -96,7 +96,7 @@ one-laid {ws} {area₀} {area} {area′} {start} {to} {until} {next} {end} l h m
     let long : k < length (drop start ws) = omega (arith, length-drop start ws) in
     let here : start + k ≡ next = omega arith in
     let more : take (suc k) (drop start ws) ≡ there ++ (getD ws next 0 ∷ []) =
-        take-suc (drop start ws) k 0 long ∙ ap (λ (w : ℕ). there ++ (w ∷ [])) (getD-drop start ws k 0 ∙ ap (λ (i : ℕ). getD ws i 0) here) in
+    take-suc (drop start ws) k 0 long ∙ ap (λ (w : ℕ). there ++ (w ∷ [])) (getD-drop start ws k 0 ∙ ap (λ (i : ℕ). getD ws i 0) here) in
     let last : end ≡ to + length there = omega (arith, length-take-le k (drop start ws) (omega arith)) in
     let count : next + 1 - start ≡ suc k = omega arith in
     record {

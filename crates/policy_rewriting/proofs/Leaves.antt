@@ -1,5 +1,5 @@
 -- The walk over a leaf.
-use Prim.Native.Nat.{ℕ, _+_, _-_, _≤_, _<_}
+use Prim.Native.Nat.{ℕ, _+_, _-_, _≤_}
 use mathlib.Core.Path.{_≡_, refl, sym, _∙_, ap, subst}
 use mathlib.Core.Bool.{Bool, true, false, not}
 use mathlib.Core.List.{List, [], _∷_, _++_, append-assoc}
@@ -133,8 +133,10 @@ module _ {keys : Bool} {p : Polarity} {ws : List ℕ} {at to : ℕ} {before : Li
         let code : getD ws at 0 ≡ leafCode x = at-word (s .words) in
         let no-name : (leafCode x ≡ 4 → ⊥) = λ e. h (code ∙ e) in
         record {
-          answer = (other-external p x no-name (λ e. k (code ∙ e)),
-          subst (λ (y : Leaf). Laying at (length (leafWords x)) to (leafWords y) before next end after) (sym (kept-leaf keys p x no-name)) (copied (leafWords x) (s .words) (past .past m n x s) l));
+          answer = (
+            other-external p x no-name (λ e. k (code ∙ e)),
+            subst (λ (y : Leaf). Laying at (length (leafWords x)) to (leafWords y) before next end after) (sym (kept-leaf keys p x no-name)) (copied (leafWords x) (s .words) (past .past m n x s) l),
+          );
         };
   }
 

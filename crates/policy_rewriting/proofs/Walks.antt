@@ -8,14 +8,13 @@ use native.Mathlib.Omega.{arith}
 use lib.ListN.{length, getD, take, drop, length-append}
 use lib.Seq.{take-append-seam}
 use Rattle.rows.specs.Name.{Polarity}
-use Rattle.policy.specs.Leaf.{Leaf}
-use Rattle.policy.specs.Syntax.{Term, Slot, Expr, union, difference, comprehension, Body, head, draw, same, different, absent}
-use Rattle.policy.specs.Words.{termWords, termRowWords, slotWords, fresh, guardCount, exprWords, bodyWords}
+use Rattle.policy.specs.Syntax.{Term, union, comprehension, draw, same}
+use Rattle.policy.specs.Words.{termWords, termRowWords, fresh, guardCount, exprWords, bodyWords}
 use Rattle.policy.specs.Decode.{isNode}
 use Rattle.policy.specs.External.{externalExpr, externalBody, eachLeaf}
 use Rattle.policy.proofs.Vetting.{each-guards}
 use Rattle.policy_places.specs.Places.{At, patternWords, Stands, StandsBody, SomeRow, SomeExpr, SomeBody, PastRow, PastExpr, PastPattern}
-use Rattle.policy_places.proofs.Places.{at-front, at-word, at-long, union-or-difference, on-leaf, on-union, on-difference, on-comprehension, in-leaf, in-union, in-comprehension, in-head, in-draw, in-same, in-different, on-head, on-draw, on-absent, term-length, inside, inside-body}
+use Rattle.policy_places.proofs.Places.{at-front, at-long, union-or-difference, on-leaf, on-union, on-difference, on-comprehension, in-leaf, in-union, in-comprehension, in-head, in-draw, in-same, in-different, on-head, on-draw, on-absent, term-length, inside, inside-body}
 use Rattle.policy_places.proofs.Held.{is-draw, is-absent}
 use Rattle.policy_places.proofs.Past.{right-here, pattern-here, rest-here, on-test, some-first, some-second, some-operand, some-pattern, draw-rest, test-rest}
 use Rattle.policy_rewriting.specs.Laid.{laid}
@@ -93,7 +92,7 @@ module _ {ws before mid : List ℕ} {at to past : ℕ} (l : (past ≡ to + (at +
   unfolding Answered
   compared {external} {r} {after} code x y v us h w =
       let long : 5 + length v ≡ length (code ∷ (termWords x ++ (termWords y ++ v))) =
-          omega (arith, length-append (termWords x) (termWords y ++ v), length-append (termWords y) v, term-length x, term-length y) in
+      omega (arith, length-append (termWords x) (termWords y ++ v), length-append (termWords y) v, term-length x, term-length y) in
       let spelled : (code ∷ (termWords x ++ termWords y)) ++ us ≡ code ∷ (termWords x ++ (termWords y ++ us)) = ap (λ (u : List ℕ). code ∷ u) (append-assoc (termWords x) (termWords y) us) in
       subst (λ (u : List ℕ). Walked external at (length (code ∷ (termWords x ++ (termWords y ++ v)))) to u before r after) spelled
       (sized long (both-walked {a = true} (record { answer = (refl, five code x y v h) }) w))
@@ -118,6 +117,9 @@ module _ {keys : Bool} {p : Polarity} {ws : List ℕ} {at to : ℕ} {before : Li
       let ends = l .ends in
       let few = l .few in
       record { on = omega arith; few = omega arith }
+
+pub answer-told : {external : Bool} {at size to : ℕ} {ws before after : List ℕ} {r r′ : Vetted} → Walked external at size to ws before r after → r ≡ r′ → Walked external at size to ws before r′ after
+answer-told {external} {at} {size} {to} {ws} {before} {after} w e = subst (λ (r : Vetted). Walked external at size to ws before r after) e w
 
 pub told : {keys : Bool} {p : Polarity} {ws : List ℕ} {at to : ℕ} {before after : List ℕ} {r r′ : Vetted} → WalkedExpr keys p ws at to before r after → r ≡ r′ →
     WalkedExpr keys p ws at to before r′ after
@@ -271,7 +273,7 @@ module _ {keys : Bool} {p : Polarity} {ws : List ℕ} {at left to : ℕ} {before
             let pattern : Walked true next (length (patternWords n u)) end (patternWords n u) mid (To rest past) last = record { answer = (refl, copied (patternWords n u) (there .words) (q .past n u there) l) } in
             let body = k .walked m (n + fresh u) b (rest-here (past-walked g) d q) in
             let long : 1 + (length (exprWords e n) + (length (patternWords n u) + length (bodyWords b (n + fresh u)))) ≡ length (bodyWords (draw e u b) n) =
-                omega (arith, length-append (exprWords e n) (patternWords n u ++ bodyWords b (n + fresh u)), length-append (patternWords n u) (bodyWords b (n + fresh u))) in
+            omega (arith, length-append (exprWords e n) (patternWords n u ++ bodyWords b (n + fresh u)), length-append (patternWords n u) (bodyWords b (n + fresh u))) in
             sized long (front-walked 1 (1 ∷ []) (f ∙ ap (λ (w : ℕ). laid to (w ∷ []) before) c) (omega arith)
             (both-walked (g .walked m n e (d .operand)) (both-walked pattern body)))) s;
       }

@@ -62,7 +62,10 @@ fn vet_name(
     lay(area, to, CODE_VETTED);
     let last = lay_words(words, at + 1, next, area, to + 1);
     lay(area, last, KEYS);
-    Vetted::To { next, end: last + 1 }
+    Vetted::To {
+        next,
+        end: last + 1,
+    }
 }
 
 // A leaf.

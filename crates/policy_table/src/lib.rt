@@ -11,7 +11,7 @@ use rows::LAST_NAME;
 
 const FORMAT: u32 = 1;
 
-const MOST_WORDS: usize = 8192;
+pub const MOST_WORDS: usize = 8192;
 
 const MOST_DEFINITIONS: u32 = 16;
 

@@ -1,15 +1,12 @@
 -- A whole definition or query: what was checked stands at its first word, and the area has room for the sets that it needs.
 use Prim.Native.Nat.{ℕ, _+_, _≤_}
-use mathlib.Core.Path.{_≡_, sym, _∙_}
-use mathlib.Core.List.{List, [], append-nil}
+use mathlib.Core.List.{List}
 use native.Mathlib.Omega.{arith}
 use lib.ListN.{length}
 use Rattle.policy.specs.Syntax.{Expr, leaf, union, difference, comprehension, Body, head, draw, same, different, absent}
-use Rattle.policy.specs.Words.{exprWords}
 use Rattle.policy.specs.WellFormed.{depth, bodyDepth, drawCount, bodyDraws}
-use Rattle.policy.specs.Parse.{parse, parsed}
-use Rattle.policy.proofs.Decoding.{parse-words, parse-fits}
-use Rattle.policy_places.specs.Places.{Stands}
+use Rattle.policy.proofs.Decoding.{parse-fits}
+use Rattle.policy_places.proofs.Places.{whole-here}
 use Rattle.read_values.specs.From.{From}
 use Rattle.read_expressions.specs.Room.{roomOf, bodyRoom, Theorem}
 use Rattle.read_expressions.specs.Readers.{AskExpr, SayExpr, AskWhole, SayWhole}
@@ -38,9 +35,6 @@ room-enough known e w =
     let shallow = w .shallow in
     let draws = w .draws in
     omega (arith, room-needed e)
-
-whole-here : (m : ℕ) (ws : List ℕ) (e : Expr) → parse m ws ≡ parsed e → Stands m 0 ws 0 e
-whole-here m ws e h = record { words = record { rest = []; spelled = parse-words m ws e h ∙ sym (append-nil (exprWords e 0)) }; fit = parse-fits m ws e h .fit }
 
 module _ {f : From} {ws : List ℕ} {values area : List ℕ} where
   pub ask-whole : 16 ≤ length values → AskWhole f ws area → AskExpr f ws 0 values 0 area

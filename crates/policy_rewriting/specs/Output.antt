@@ -1,0 +1,70 @@
+-- What the code answers of a whole policy: its output, measured and laid, and the reply of `rewrite`.
+use Prim.Native.Nat.{ℕ, zero, suc, _+_, _≤_}
+use mathlib.Core.Path.{_≡_}
+use mathlib.Core.Bool.{Bool, true, false, _&&_}
+use mathlib.Core.List.{List}
+use lib.ListN.{length}
+use Rattle.rows.specs.Name.{Polarity, plus, minus, polarityOf}
+use Rattle.policy.specs.Syntax.{Expr}
+use Rattle.policy.specs.Words.{exprWords}
+use Rattle.policy.specs.Parse.{parsed, parse}
+use Rattle.policy.specs.Polarity.{Known}
+use Rattle.policy.specs.Table.{Entry, entryAt, entryWords}
+use Rattle.policy.specs.Definitions.{passed, checkPolicy}
+use Rattle.policy.specs.External.{externalExpr, keysListed, isExternal, output, Rewriting, rewritten, refused}
+use Rattle.policy_table.specs.Entries.{entryPlace}
+use Rattle.policy_rewriting.specs.Laid.{laid}
+use Rattle.policy_rewriting.specs.Walks.{out, Walked, Roomy}
+use Rattle.policy_rewriting.specs.declared.vetting.Vetted.{Vetted}
+use Rattle.policy_rewriting.specs.declared.Measured.{Measured}
+use Rattle.policy_rewriting.specs.declared.Measured.the-variants.{Words, Broken}
+use Rattle.policy_rewriting.specs.declared.Rewritten.{Rewritten}
+use Rattle.policy_rewriting.specs.declared.Rewritten.the-variants as reply
+
+-- a policy that passed 1 to 7
+pub record Passing (policy : List ℕ) : Type 0 where
+  pub entries : List Entry
+  pub exprs : List Expr
+  pub known : List Known
+  pub passes : checkPolicy policy ≡ passed entries exprs known
+
+pub record SayKeys (policy : List ℕ) (r : Bool) : Type 0 where
+  pub says : (xs : List Entry) (es : List Expr) (ks : List Known) → checkPolicy policy ≡ passed xs es ks → r ≡ keysListed xs
+
+-- may definition i have this polarity: − is for definition 0 alone, where that lists compromised keys
+unfoldable pub mayBe : Bool → ℕ → Polarity → Bool
+mayBe keys i plus = true
+mayBe true zero minus = true
+mayBe true (suc i) minus = false
+mayBe false i minus = false
+
+abbrev pub sign : Entry → Polarity
+sign x = polarityOf (x .polarity)
+
+-- definition i stands in the policy, and its output has room from word `to` on
+pub record AskDefinition (policy : List ℕ) (i to : ℕ) : Type 0 where
+  pub few : i ≤ 15
+  pub inside : entryPlace i + 4 ≤ length policy
+  pub ends : entryAt policy (entryPlace i) .offset + entryAt policy (entryPlace i) .size ≤ length policy
+  pub known : ℕ
+  pub expr : Expr
+  pub parses : parse known (entryWords policy (entryAt policy (entryPlace i))) ≡ parsed expr
+  pub room : Roomy (entryWords policy (entryAt policy (entryPlace i))) 0 to
+
+pub record WalkedDefinition (keys : Bool) (policy : List ℕ) (i to : ℕ) (before : List ℕ) (r : Vetted) (after : List ℕ) : Type 0 where
+  pub walked : (m : ℕ) (e : Expr) → parse m (entryWords policy (entryAt policy (entryPlace i))) ≡ parsed e →
+      let p = sign (entryAt policy (entryPlace i)) in
+      Walked (mayBe keys i p && externalExpr p e) 0 (length (exprWords e 0)) to (exprWords (out keys p e) 0) before r after
+
+-- the output's length, the output being laid from the first word on; or the policy is not external
+unfoldable pub MeasuredAs : Bool → List ℕ → List ℕ → Measured → List ℕ → Type 0
+MeasuredAs external ws before (Words n) after = (external ≡ true) × (n ≡ length ws) × (after ≡ laid 0 ws before)
+MeasuredAs external ws before Broken after = external ≡ false
+
+pub record SayWords (policy before : List ℕ) (r : Measured) (after : List ℕ) : Type 0 where
+  pub says : (xs : List Entry) (es : List Expr) (ks : List Known) → checkPolicy policy ≡ passed xs es ks → MeasuredAs (isExternal xs es) (output policy xs es) before r after
+
+-- the reply has the output's length; its words stand in the area
+unfoldable pub rewrittenFor : Rewriting → Rewritten
+rewrittenFor (rewritten ws) = reply.Length (length ws)
+rewrittenFor (refused n part) = reply.Refused n part
