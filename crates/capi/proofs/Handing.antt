@@ -1,4 +1,4 @@
--- What filing, judging and asking hand out is what their definitions say, one law for each way that a call returns.
+-- What filing, judging, rewriting and asking hand out is what their definitions say, one law for each way that a call returns.
 use Prim.Native.Nat.{ℕ}
 use mathlib.Core.Path.{_≡_, sym, _∙_, ap}
 use mathlib.Core.List.{List}
@@ -12,11 +12,16 @@ use Rattle.policy.proofs.Basics.{impossible}
 use Rattle.judging.specs.Reply.{judgementFor}
 use Rattle.judging.specs.declared.Judgement.{Judgement}
 use Rattle.judging.specs.declared.Judgement.the-variants as judgement
+use Rattle.policy.specs.External.{Rewriting, rewritten, rewriteInto, areaAfter}
+use Rattle.policy.specs.External as External
+use Rattle.policy_rewriting.specs.Output.{rewrittenFor}
+use Rattle.policy_rewriting.specs.declared.Rewritten.{Rewritten}
+use Rattle.policy_rewriting.specs.declared.Rewritten.the-variants as rewrittenReply
 use Rattle.demands.specs.Query.{Outcome, answered, refused, Call, queryCall, drawsOf}
 use Rattle.engine.specs.Reply.{replyFor, Replied}
 use Rattle.engine.specs.declared.Reply.{Reply}
 use Rattle.engine.specs.declared.Reply.the-variants as reply
-use Rattle.capi.specs.Replies.{filingWord, noRefusal, noVerdict, handJudgement, handOutcome, Asked}
+use Rattle.capi.specs.Replies.{filingWord, noRefusal, noVerdict, handJudgement, handRewriting, RewrittenInto, handOutcome, Asked}
 
 -- filing
 module _ (f : FilingReply) (r : Filing) (is : filingIs r ≡ f) where
@@ -44,6 +49,24 @@ pub hands-refused-judgement : (j : Judged.JudgementReply) (r : Judgement) → r 
 unfolding judgementFor handJudgement
 hands-refused-judgement (Judged.verdict w) r is n part e = impossible cc
 hands-refused-judgement (Judged.refused m p) r is n part e = cc
+
+-- rewriting
+length-handed : (o : Rewriting) (r : Rewritten) → r ≡ rewrittenFor o → (n : ℕ) → r ≡ rewrittenReply.Length n → handRewriting o ≡ record { number = noRefusal; part = noPart; size = n }
+unfolding rewrittenFor handRewriting
+length-handed (rewritten out) r is n e = cc
+length-handed (External.refused m p) r is n e = impossible cc
+
+refusal-handed : (o : Rewriting) (r : Rewritten) → r ≡ rewrittenFor o → (n part : ℕ) → r ≡ rewrittenReply.Refused n part → handRewriting o ≡ record { number = n; part = part; size = 0 }
+unfolding rewrittenFor handRewriting
+refusal-handed (rewritten out) r is n part e = impossible cc
+refusal-handed (External.refused m p) r is n part e = cc
+
+module _ (policy area : List ℕ) {r : Rewritten} {left : List ℕ} (h : (r ≡ rewrittenFor (rewriteInto policy area)) × (left ≡ areaAfter (rewriteInto policy area) area)) where
+  pub hands-length : (n : ℕ) → r ≡ rewrittenReply.Length n → RewrittenInto policy area (record { number = noRefusal; part = noPart; size = n }) left
+  hands-length n e = record { reply = length-handed (rewriteInto policy area) r (h .0) n e; words = h .1 }
+
+  pub hands-refused-rewriting : (n part : ℕ) → r ≡ rewrittenReply.Refused n part → RewrittenInto policy area (record { number = n; part = part; size = 0 }) left
+  hands-refused-rewriting n part e = record { reply = refusal-handed (rewriteInto policy area) r (h .0) n part e; words = h .1 }
 
 -- asking
 answered-outcome : (o : Outcome) (r : Reply) → r ≡ replyFor o → (v k : ℕ) → r ≡ reply.Answered v k →

@@ -1,11 +1,14 @@
--- What filing, judging and asking hand out: the number returned and each out-parameter, for every reply.
+-- What filing, judging, rewriting and asking hand out: the number returned and each out-parameter, for every reply.
 use Prim.Native.Nat.{ℕ}
 use mathlib.Core.Path.{_≡_}
 use mathlib.Core.List.{List}
+use lib.ListN.{length}
 use Rattle.refusals.specs.RefusalTable.{noPart}
 use Rattle.certificates.specs.Filing.{FilingReply, filed, held, refused}
 use Rattle.policy.specs.Polarity.{verdictWord}
 use Rattle.policy.specs.Judgement as Judgement
+use Rattle.policy.specs.External.{Rewriting, rewritten, rewriteInto, areaAfter}
+use Rattle.policy.specs.External as External
 use Rattle.demands.specs.Query.{Outcome, answered, Call, queryCall, answerArea, drawsOf}
 use Rattle.demands.specs.Query as Query
 
@@ -33,6 +36,22 @@ pub record HandedJudgement : Type 0 where
 unfoldable pub handJudgement : Judgement.JudgementReply → HandedJudgement
 handJudgement (Judgement.verdict v) = record { number = noRefusal; part = noPart; verdict = verdictWord v }
 handJudgement (Judgement.refused n p) = record { number = n; part = p; verdict = noVerdict }
+
+-- what rewriting hands out beside the output, which is in the area
+pub record HandedRewriting : Type 0 where
+  pub number : ℕ
+  pub part : ℕ
+  pub size : ℕ
+
+-- "the answer is the output's length"; of what is refused the length is 0
+unfoldable pub handRewriting : Rewriting → HandedRewriting
+handRewriting (rewritten out) = record { number = noRefusal; part = noPart; size = length out }
+handRewriting (External.refused n p) = record { number = n; part = p; size = 0 }
+
+-- rewriting the policy into the area handed this out, and left these words in the area
+pub record RewrittenInto (policy area : List ℕ) (handed : HandedRewriting) (left : List ℕ) : Type 0 where
+  pub reply : handRewriting (rewriteInto policy area) ≡ handed
+  pub words : left ≡ areaAfter (rewriteInto policy area) area
 
 -- what a query call hands out beside the set, which is in the answer area
 pub record HandedOutcome : Type 0 where

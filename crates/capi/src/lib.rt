@@ -2,6 +2,7 @@
 mod asking;
 mod filing;
 mod judgement;
+mod rewriting;
 
 // What is returned where nothing is refused.
 const NO_REFUSAL: u32 = 0;
