@@ -42,7 +42,7 @@ badCertificate = 9
 abbrev pub storeFull : ℕ
 storeFull = 10
 
--- 11: answer area under 642 words, definition area under 10,272, scratch area under 16,384
+-- 11: answer area under 642 words, definition area under 10,272, scratch area under 16,384; document 02, N2: an output area too short
 abbrev pub shortArea : ℕ
 shortArea = 11
 
