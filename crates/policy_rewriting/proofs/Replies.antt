@@ -5,7 +5,7 @@ use mathlib.Core.Bool.{Bool, true, false, _&&_}
 use mathlib.Core.List.{List, [], _∷_, _++_}
 use native.Mathlib.Omega.{arith}
 use lib.Dec.{leb}
-use lib.ListN.{length, drop}
+use lib.ListN.{length}
 use borrow.Author.Tests.{le-leb, lt-leb}
 use Rattle.refusals.specs.RefusalTable.{shortArea, notExternal, noPart}
 use Rattle.rows.proofs.Case.{never}
@@ -16,7 +16,6 @@ use Rattle.policy.proofs.Basics.{impossible}
 use Rattle.judging.specs.Reply.{JudgedAs}
 use Rattle.judging.specs.declared.PolicyJudgement.the-variants as policyJudgement
 use Rattle.judging.specs.declared.PolicyJudged.{PolicyJudged}
-use Rattle.policy_rewriting.specs.Laid.{laid}
 use Rattle.policy_rewriting.specs.Output.{Passing, MeasuredAs, SayWords, rewrittenFor}
 use Rattle.policy_rewriting.specs.declared.Measured.{Measured}
 use Rattle.policy_rewriting.specs.declared.Measured.the-variants.{Words, Broken}

@@ -8,7 +8,7 @@ use native.Mathlib.Omega.{arith}
 use lib.ListN.{length, getD, take, drop, length-append}
 use lib.Seq.{take-append-seam}
 use Rattle.rows.specs.Name.{Polarity}
-use Rattle.policy.specs.Syntax.{Term, union, comprehension, draw, same}
+use Rattle.policy.specs.Syntax.{Term, comprehension, draw, same}
 use Rattle.policy.specs.Words.{termWords, termRowWords, fresh, guardCount, exprWords, bodyWords}
 use Rattle.policy.specs.Decode.{isNode}
 use Rattle.policy.specs.External.{externalExpr, externalBody, eachLeaf}

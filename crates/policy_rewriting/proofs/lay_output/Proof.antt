@@ -1,21 +1,14 @@
 -- The invariant: once the definitions left are laid too, the output is, but for its header.
-use borrow.Author.Needs.{needs}
-use Prim.Native.Nat.{_-_}
+use Prim.Native.Nat.{_-_, _<_}
 use mathlib.Core.Path.{_≡_, _∙_, ap}
 use native.Mathlib.Omega.{arith}
-use lib.ListN.{length, getD}
+use lib.ListN.{getD}
 use Rattle.policy_table.specs.Entries.{entryPlace}
 use Rattle.policy_rewriting.proofs.Entries.{table-of}
 use Rattle.policy_rewriting.proofs.Output.{OutputLeft, none-laid, next-asked, next-broken, next-room, next-laid, all-laid}
+use borrow.Author.Needs.{needs}
 use Rattle.policy_rewriting.proofs.lay_output.Statement.{statement}
 use Rattle.policy_rewriting.proofs.lay_output.Tie as tie
-use Rattle.policy_rewriting.proofs.lay_output.Reads as reads
-use Rattle.policy_rewriting.proofs.lay_output.Lts as lts
-use Rattle.policy_rewriting.proofs.lay_entry.Reads as lay-entry-reads
-use Rattle.policy_rewriting.proofs.laying.lay_words.Reads as lay-words-reads
-use Rattle.policy_rewriting.proofs.vet_definition.Reads as vet-definition-reads
-use Rattle.policy_table.proofs.entry_place.Reads as entry-place-reads
-use Rattle.row_words.proofs.wide.Reads as wide-reads
 
 abbrev Inv-loop : tie.InvT-loop
 Inv-loop policy keys area₀ count to₀ i₀ area to i = (count ≡ getD policy 1 0) × OutputLeft policy area₀ keys i to area
@@ -23,69 +16,72 @@ Inv-loop policy keys area₀ count to₀ i₀ area to i = (count ≡ getD policy
 abbrev μ-loop : tie.MeasureT-loop
 μ-loop policy keys area₀ count to₀ i₀ area to i = count - i
 
--- src/lib.rt:91:22
+-- ---- places
+
+-- where the walk starts, from where the count is read
+abbrev start : tie.After-wide Inv-loop μ-loop → tie.Start Inv-loop μ-loop
+start c = c .before .before .before .before
+
+-- in the loop, from where a definition is walked
+abbrev again : tie.After-vet-definition Inv-loop μ-loop → tie.In-loop Inv-loop μ-loop
+again c = c .before .before
+
+-- where a definition is walked, from where its end is told
+abbrev walked : tie.After-next Inv-loop μ-loop → tie.After-vet-definition Inv-loop μ-loop
+walked c = c .before .before .before .before
+
+-- there is such a definition
+listed : (c : tie.In-loop Inv-loop μ-loop) → c .before .loop .i < getD (start (c .before .before .before) .args .policy .now) 1 0
+listed c = omega (arith, c .loop-test .taken, c .before .loop .inv .0)
+
+-- ---- answers
+
 shared-slice-read-wide : tie.Need-shared-slice-read-wide Inv-loop μ-loop
 shared-slice-read-wide c = omega (arith, table-of (c .before .before .before .pre .0) .header .two)
 
--- src/lib.rt:91:9
-wide-requires : tie.Need-wide-requires Inv-loop μ-loop
-wide-requires c κs = search needs
-
--- src/lib.rt:92:9
 entry-place-requires : tie.Need-entry-place-requires Inv-loop μ-loop
-entry-place-requires c κs = omega (arith, table-of (c .before .before .before .before .pre .0) .header .count, c .wide .ensures)
+entry-place-requires c κs = omega (arith, table-of (start c .pre .0) .header .count, c .wide .ensures)
 
--- src/lib.rt:94:5
 loop-holds : tie.Need-loop-holds Inv-loop μ-loop
-loop-holds c = (c .before .wide .ensures, none-laid (c .before .before .before .before .before .args .policy .now) (c .before .before .before .before .before .args .area .now) (c .before .before .before .before .before .pre .1) (c .before .before .before .before .before .pre .0) (c .entry-place .ensures ∙ ap (λ n. entryPlace n) (c .before .wide .ensures)))
+loop-holds c =
+    let count = c .before .wide .ensures in
+    let s = start (c .before) in
+    let a = s .args in
+    (count, none-laid (a .policy .now) (a .area .now) (s .pre .1) (s .pre .0) (c .entry-place .ensures ∙ ap (λ n. entryPlace n) count))
 
--- src/lib.rt:95:40
 vet-definition-requires : tie.Need-vet-definition-requires Inv-loop μ-loop
-vet-definition-requires c κs = next-asked (c .before .before .loop .inv .1) (omega (arith, c .before .loop-test .taken, c .before .before .loop .inv .0))
+vet-definition-requires c κs = next-asked (c .before .before .loop .inv .1) (listed (c .before))
 
--- src/lib.rt:95:26
-enum-known-next : tie.Need-enum-known-next Inv-loop μ-loop
-enum-known-next c = search needs
-
--- src/lib.rt:96:13
-enum-told : tie.Need-enum-told Inv-loop μ-loop
-enum-told c = search needs
-
--- src/lib.rt:96:13
-same-length : tie.Need-same-length Inv-loop μ-loop
-same-length c = search needs
-
--- src/lib.rt:96:13
 returns : tie.Need-returns Inv-loop μ-loop
-returns c = next-broken (c .before .before .before .before .before .before .before .loop .inv .1) (omega (arith, c .before .before .before .before .before .before .loop-test .taken, c .before .before .before .before .before .before .before .loop .inv .0)) (c .before .before .before .before .vet-definition .ensures) (c .enum-told .given .1)
+returns c =
+    let w = c .before .before .before .before in
+    next-broken (again w .before .loop .inv .1) (listed (again w)) (w .vet-definition .ensures) (c .enum-told .given .1)
 
--- src/lib.rt:98:9
 lay-entry-requires : tie.Need-lay-entry-requires Inv-loop μ-loop
-lay-entry-requires c κs = next-room (c .before .before .before .before .before .before .before .before .before .loop .inv .1) (omega (arith, c .before .before .before .before .before .before .before .before .loop-test .taken, c .before .before .before .before .before .before .before .before .before .loop .inv .0)) (c .before .before .before .before .before .before .vet-definition .ensures) (c .before .before .next .given .1)
+lay-entry-requires c κs =
+    let next = c .before .before in
+    let w = walked next in
+    next-room (again w .before .loop .inv .1) (listed (again w)) (w .vet-definition .ensures) (next .next .given .1)
 
--- src/lib.rt:100:9
-add-i : tie.Need-add-i Inv-loop μ-loop
-add-i c = search needs
-
--- src/lib.rt:94:5
-loop-less : tie.Need-loop-less Inv-loop μ-loop
-loop-less c = search needs
-
--- src/lib.rt:94:5
 loop-again : tie.Need-loop-again Inv-loop μ-loop
-loop-again c = (c .before .before .before .before .before .before .before .before .before .before .before .before .loop .inv .0, next-laid (c .before .before .before .before .before .before .before .before .before .before .before .before .loop .inv .1) (omega (arith, c .before .before .before .before .before .before .before .before .before .before .before .loop-test .taken, c .before .before .before .before .before .before .before .before .before .before .before .before .loop .inv .0)) (c .before .before .before .before .before .before .before .before .before .vet-definition .ensures) (c .before .before .before .before .before .next .given .1) (c .before .before .lay-entry .ensures))
+loop-again c =
+    let entry = c .before .before in
+    let next = entry .before .before .before in
+    let w = walked next in
+    let inv = again w .before .loop .inv in
+    (inv .0, next-laid (inv .1) (listed (again w)) (w .vet-definition .ensures) (next .next .given .1) (entry .lay-entry .ensures))
 
--- src/lib.rt:102:5
 lay-words-requires : tie.Need-lay-words-requires Inv-loop μ-loop
-lay-words-requires c κs = let two = table-of (c .before .before .before .before .before .before .before .before .pre .0) .header .two in (omega arith, omega arith, omega arith)
+lay-words-requires c κs =
+    let two = table-of (start (c .before .before .before .before) .pre .0) .header .two in
+    (omega arith, omega arith, omega arith)
 
--- src/lib.rt:87:1
-same-length-2 : tie.Need-same-length-2 Inv-loop μ-loop
-same-length-2 c = search needs
-
--- src/lib.rt:87:1
 returns-2 : tie.Need-returns-2 Inv-loop μ-loop
-returns-2 c = all-laid (c .before .before .before .before .before .loop .inv .1) (omega (arith, c .before .before .before .before .loop-test .left, c .before .before .before .before .before .loop .inv .0)) (c .before .before .lay-words .ensures .1)
+returns-2 c =
+    let header = c .before .before in
+    let end = header .before .before in
+    let inv = end .before .loop .inv in
+    all-laid (inv .1) (omega (arith, end .loop-test .left, inv .0)) (header .lay-words .ensures .1)
 
 pub lay-output-spec : {M : Type 1} → statement M
 lay-output-spec =
@@ -94,18 +90,18 @@ lay-output-spec =
     Inv-loop
     μ-loop
     shared-slice-read-wide
-    wide-requires
+    (λ c κs. search needs)
     entry-place-requires
     loop-holds
     vet-definition-requires
-    enum-known-next
-    enum-told
-    same-length
+    (λ c. search needs)
+    (λ c. search needs)
+    (λ c. search needs)
     returns
     lay-entry-requires
-    add-i
-    loop-less
+    (λ c. search needs)
+    (λ c. search needs)
     loop-again
     lay-words-requires
-    same-length-2
+    (λ c. search needs)
     returns-2)

@@ -1,11 +1,8 @@
 -- The invariant: the words before `next` are laid.
-use borrow.Author.Needs.{needs}
 use Prim.Native.Nat.{_-_}
-use mathlib.Core.Path.{sym, _∙_, ap}
 use native.Mathlib.Omega.{arith}
-use lib.ListN.{length, take, drop}
-use Rattle.policy_rewriting.specs.Laid.{laid}
-use Rattle.policy_rewriting.proofs.Laid.{laid-length, LayingWords, none-laid, one-laid, all-laid}
+use Rattle.policy_rewriting.proofs.Laid.{LayingWords, none-laid, one-laid, all-laid}
+use borrow.Author.Needs.{needs}
 use Rattle.policy_rewriting.proofs.laying.lay_words.Statement.{statement}
 use Rattle.policy_rewriting.proofs.laying.lay_words.Tie as tie
 
@@ -14,9 +11,6 @@ Inv-loop words from until area₀ to next₀ end₀ area next end = LayingWords 
 
 abbrev μ-loop : tie.MeasureT-loop
 μ-loop words from until area₀ to next₀ end₀ area next end = until - next
-
-abbrev Loop : Type 0
-Loop = tie.At-loop Inv-loop μ-loop
 
 loop-holds : tie.Need-loop-holds Inv-loop μ-loop
 loop-holds c = let a = c .before .before .args in none-laid (a .words .now) (a .area .now) (c .before .before .pre .0)
