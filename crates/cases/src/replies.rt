@@ -1,4 +1,4 @@
-// What a query call replied, and the set in an answer area that was full of fives before, in words.
+// What a call replied, in words: a refusal, an area's untouched rest, the set in an answer area that was full of fives before.
 ghost use Prim.Native.Nat.{_≤_};
 ghost use lib.ListN.{length};
 use crate::say;
@@ -18,8 +18,9 @@ fn all_are(words: &[u32], word: u32) -> bool {
     true
 }
 
-fn say_rest(words: &[u32]) {
-    if all_are(words, 5) {
+// Is the rest of an area that was full of this word as it was?
+pub fn say_rest(words: &[u32], word: u32) {
+    if all_are(words, word) {
         say(b", the rest stays");
     } else {
         say(b", THE REST IS TOUCHED");
@@ -53,7 +54,7 @@ fn say_rows(answer: &[u32], count: u32)
         say(b":");
         say_words(&answer[2..end]);
     }
-    say_rest(&answer[end..]);
+    say_rest(&answer[end..], 5);
 }
 
 // The set at the front of an answer area that was full of fives: its form, its count and its rows.
@@ -69,6 +70,13 @@ fn say_set(answer: &[u32]) {
     }
 }
 
+pub fn say_refusal(number: u32, part: u32) {
+    say(b"refused ");
+    say_number(number);
+    say(b", part ");
+    say_number(part);
+}
+
 pub fn say_reply(reply: Reply, answer: &[u32]) {
     match reply {
         Reply::Answered { verdict, draws } => {
@@ -78,11 +86,8 @@ pub fn say_reply(reply: Reply, answer: &[u32]) {
             say_set(answer);
         }
         Reply::Refused { number, part } => {
-            say(b"refused ");
-            say_number(number);
-            say(b", part ");
-            say_number(part);
-            say_rest(answer);
+            say_refusal(number, part);
+            say_rest(answer, 5);
         }
     }
 }

@@ -1,6 +1,6 @@
 // Judges the policies and queries of its input and prints what it found. A line of input is a name, a policy and a query, with a bar between
 // them. With a part number after one more bar the words of that part are printed instead. A line without bars is a heading. How words are
-// written is said in the crate `cases`. Each line of `stdout` was checked by hand against document 01.
+// written is said in the crate `cases`. Each line of `stdout` was checked by hand against the documents.
 ghost use Prim.Native.Nat.{_≤_};
 ghost use lib.ListN.{length};
 use cases::after;
@@ -9,6 +9,7 @@ use cases::first_word;
 use cases::is_bar;
 use cases::next_line;
 use cases::read_words;
+use cases::replies::say_refusal;
 use cases::say;
 use cases::say_number;
 use cases::say_words;
@@ -22,12 +23,7 @@ fn say_judgement(judgement: Judgement) {
             say(b"verdict ");
             say_number(verdict);
         }
-        Judgement::Refused { number, part } => {
-            say(b"refused ");
-            say_number(number);
-            say(b", part ");
-            say_number(part);
-        }
+        Judgement::Refused { number, part } => say_refusal(number, part),
     }
 }
 
