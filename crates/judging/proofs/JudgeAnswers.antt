@@ -146,32 +146,37 @@ with-query : List ℕ → PolicyChecked → JudgementReply
 with-query q c = replyOf (elim c [ passed xs es ks ↦ checkAfter es ks q | Definitions.refused n part ↦ Checking.refused n part ])
 
 -- a policy that passed: what is known of its definitions
-record Passing (p : List ℕ) (r : PolicyJudged) : Type 0 where
-  entries : List Entry
-  exprs : List Expr
-  passes : checkPolicy p ≡ passed entries exprs (earlierIs (r .earlier))
-  few : r .earlier .count ≤ 16
+pub record Passing (p : List ℕ) (r : PolicyJudged) : Type 0 where
+  pub entries : List Entry
+  pub exprs : List Expr
+  pub passes : checkPolicy p ≡ passed entries exprs (earlierIs (r .earlier))
+  pub few : r .earlier .count ≤ 16
 
-policy-passing : (p : List ℕ) (r : PolicyJudged) → JudgedAs (checkPolicy p) r → r .judgement ≡ policyJudgement.Passed → Passing p r
-unfolding JudgedAs
-policy-passing p r h e = go (checkPolicy p) refl h
-  where
-    go : (c : PolicyChecked) → checkPolicy p ≡ c → JudgedAs c r → Passing p r
-    go (passed xs es ks) c t = record { entries = xs; exprs = es; passes = rw (t .known) c; few = t .few }
-    go (Definitions.refused n part) c t = impossible cc
+module _ (p : List ℕ) (r : PolicyJudged) (h : JudgedAs (checkPolicy p) r) where
+  pub policy-passes : r .judgement ≡ policyJudgement.Passed → Passing p r
+  unfolding JudgedAs
+  policy-passes e = go (checkPolicy p) refl h
+    where
+      go : (c : PolicyChecked) → checkPolicy p ≡ c → JudgedAs c r → Passing p r
+      go (passed xs es ks) c t = record { entries = xs; exprs = es; passes = rw (t .known) c; few = t .few }
+      go (Definitions.refused n part) c t = impossible cc
+
+  pub policy-refuses : {n part : ℕ} → r .judgement ≡ policyJudgement.Refused n part → checkPolicy p ≡ Definitions.refused n part
+  unfolding JudgedAs
+  policy-refuses {n} {part} e = go (checkPolicy p) h
+    where
+      go : (c : PolicyChecked) → JudgedAs c r → c ≡ Definitions.refused n part
+      go (passed xs es ks) t = let u = t .judged in impossible cc
+      go (Definitions.refused m k) t = let a : m ≡ n = cc in let b : k ≡ part = cc in rw (a, b) refl
 
 module _ (p q : List ℕ) (r : PolicyJudged) (h : JudgedAs (checkPolicy p) r) where
   pub policy-refused : {n part : ℕ} → r .judgement ≡ policyJudgement.Refused n part → judgement.Refused n part ≡ judgementFor (judge p q)
-  unfolding JudgedAs judge check replyOf judgementFor with-query
-  policy-refused {n} {part} e = go (checkPolicy p) h
-    where
-      go : (c : PolicyChecked) → JudgedAs c r → judgement.Refused n part ≡ judgementFor (with-query q c)
-      go (passed xs es ks) t = let u = t .judged in impossible cc
-      go (Definitions.refused m k) t = let a : n ≡ m = cc in let b : part ≡ k = cc in rw (a, b)
+  unfolding judge check replyOf judgementFor with-query
+  policy-refused e = sym (ap (λ (c : PolicyChecked). judgementFor (with-query q c)) (policy-refuses p r h e))
 
   module _ (e : r .judgement ≡ policyJudgement.Passed) where
     pub known-few : r .earlier .count ≤ 16
-    known-few = policy-passing p r h e .few
+    known-few = policy-passes p r h e .few
 
     module _ {w : Whole} (g : w ≡ wholeFor (earlierIs (r .earlier)) (checkQuery (earlierIs (r .earlier)) q)) where
       at-query : {y : Parsed} → checkQuery (earlierIs (r .earlier)) q ≡ y → (es : List Expr) × (judge p q ≡ replyOf (elim y [
@@ -180,7 +185,7 @@ module _ (p q : List ℕ) (r : PolicyJudged) (h : JudgedAs (checkPolicy p) r) wh
       ]))
       unfolding judge check checkAfter with-query
       at-query y =
-          let t = policy-passing p r h e in (
+          let t = policy-passes p r h e in (
             t .exprs,
             ap (with-query q) (t .passes) ∙ ap (λ y. replyOf (elim y as (λ c. Checked) [
               | parsed e ↦ checked (t .exprs) e (verdictOf (hasPolarity e (earlierIs (r .earlier)) plus) (hasPolarity e (earlierIs (r .earlier)) minus))

@@ -12,10 +12,11 @@ use Rattle.rows.proofs.Case.{never}
 use Rattle.policy.specs.Definitions.{PolicyChecked, passed, checkPolicy}
 use Rattle.policy.specs.Definitions as Definitions
 use Rattle.policy.specs.External.{isExternal, output, Rewriting, rewritten, refused, rewrite, rewriteInto, areaAfter}
-use Rattle.policy.proofs.Basics.{impossible}
+use Rattle.check_polarity.specs.Earlier.{earlierIs}
 use Rattle.judging.specs.Reply.{JudgedAs}
 use Rattle.judging.specs.declared.PolicyJudgement.the-variants as policyJudgement
 use Rattle.judging.specs.declared.PolicyJudged.{PolicyJudged}
+use Rattle.judging.proofs.JudgeAnswers.{policy-passes, policy-refuses}
 use Rattle.policy_rewriting.specs.Output.{Passing, MeasuredAs, SayWords, rewrittenFor}
 use Rattle.policy_rewriting.specs.declared.Measured.{Measured}
 use Rattle.policy_rewriting.specs.declared.Measured.the-variants.{Words, Broken}
@@ -99,34 +100,23 @@ module _ (policy area : List ℕ) (g : Passing policy) where
 
 -- passed 1 to 7
 pub policy-passing : {policy : List ℕ} (r : PolicyJudged) → JudgedAs (checkPolicy policy) r → r .judgement ≡ policyJudgement.Passed → Passing policy
-unfolding JudgedAs
-policy-passing {policy} r h e = go (checkPolicy policy) refl h
-  where
-    go : (c : PolicyChecked) → checkPolicy policy ≡ c → JudgedAs c r → Passing policy
-    go (passed xs es ks) c t = record { entries = xs; exprs = es; known = ks; passes = c }
-    go (Definitions.refused n part) c t = impossible cc
+policy-passing {policy} r h e = let g = policy-passes policy r h e in record { entries = g .entries; exprs = g .exprs; known = earlierIs (r .earlier); passes = g .passes }
 
 -- refused with 1 to 7
 pub refusal-passed-on : (policy area : List ℕ) (r : PolicyJudged) {n part : ℕ} → JudgedAs (checkPolicy policy) r → r .judgement ≡ policyJudgement.Refused n part →
     Replied policy area (reply.Refused n part) area
-unfolding JudgedAs rewriteInto rewrite rewrittenFor areaAfter
-refusal-passed-on policy area r {n} {part} h e = go (checkPolicy policy) refl h
-  where
-    go : (c : PolicyChecked) → checkPolicy policy ≡ c → JudgedAs c r → Replied policy area (reply.Refused n part) area
-    go (passed xs es ks) c t = let u = t .judged in impossible cc
-    go (Definitions.refused m k) c t =
-        let a : n ≡ m = cc in
-        let b : part ≡ k = cc in
-        by-outcome policy area (refused m k) (ap (λ (c : PolicyChecked). elim (elim c as (λ d. Rewriting) [
-          | passed xs es ks ↦ elim (isExternal xs es && leb (length (output policy xs es)) 8192) as (λ d. Rewriting) [
-            | true ↦ rewritten (output policy xs es)
-            | false ↦ refused notExternal noPart
-          ]
-          | Definitions.refused n part ↦ refused n part
-        ]) as (λ d. Rewriting) [
-          | rewritten out ↦ elim (leb (length out) (length area)) as (λ d. Rewriting) [ true ↦ rewritten out | false ↦ refused shortArea noPart ]
-          | refused n part ↦ refused n part
-        ]) c) (rw (a, b) refl) refl
+unfolding rewriteInto rewrite rewrittenFor areaAfter
+refusal-passed-on policy area r {n} {part} h e =
+    by-outcome policy area (refused n part) (ap (λ (c : PolicyChecked). elim (elim c as (λ d. Rewriting) [
+      | passed xs es ks ↦ elim (isExternal xs es && leb (length (output policy xs es)) 8192) as (λ d. Rewriting) [
+        | true ↦ rewritten (output policy xs es)
+        | false ↦ refused notExternal noPart
+      ]
+      | Definitions.refused n part ↦ refused n part
+    ]) as (λ d. Rewriting) [
+      | rewritten out ↦ elim (leb (length out) (length area)) as (λ d. Rewriting) [ true ↦ rewritten out | false ↦ refused shortArea noPart ]
+      | refused n part ↦ refused n part
+    ]) (policy-refuses policy r h e)) refl refl
 
 -- a part of no words that was lent
 pub none-lent : (ys area : List ℕ) → length ys ≡ 0 → ys ++ area ≡ area
