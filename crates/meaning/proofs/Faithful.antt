@@ -25,7 +25,7 @@ use Rattle.meaning.specs.Values.{Values, value, rowOf}
 use Rattle.meaning.specs.Evidence.{Evidence}
 use Rattle.meaning.specs.Reading.{done, Reading, drawable, tick, match, onMatch, drawEach, read, gather}
 use Rattle.meaning.specs.World.{World}
-use Rattle.meaning.specs.Belonging.{fill, Matches, Meanings, BelongsBy, Belongs, PassesBy, Passes}
+use Rattle.meaning.specs.Belonging.{fill, Matches, Meanings, BelongsBy, PassesBy, Passes}
 use Rattle.meaning.specs.Faithful.{Tidy, ProperNames, TidySets, Shows, Agree, WheneverRead, JustThose, Theorem}
 use Rattle.meaning.proofs.Steps.{done-value, after-done, either, small-done, within-done, drawable-done}
 use Rattle.meaning.proofs.Rows.{row-of-terms, match-words}
