@@ -1,5 +1,5 @@
 -- The list of compromised keys, a definition by its number, and the words of a table's entry.
-use Prim.Native.Nat.{ℕ, zero, suc, _+_, _-_, _≤_}
+use Prim.Native.Nat.{ℕ, zero, suc, _+_, _-_, _≤_, _<_}
 use mathlib.Core.Path.{_≡_, refl, sym, _∙_, ap, subst}
 use mathlib.Core.Bool.{Bool, true, false, not}
 use mathlib.Core.List.{List, [], _∷_, _++_}
@@ -101,10 +101,15 @@ definition-asked {to = to} a f =
 
 -- ---- the words of an entry
 
+-- the words from one on: that word, and those from the next on
+pub word-first : (ws : List ℕ) (at next : ℕ) → next ≡ suc at → at < length ws → drop at ws ≡ getD ws at 0 ∷ drop next ws
+word-first ws at next e h = rw e (drop-cons ws at 0 h)
+
 pub two-words : (ws : List ℕ) (at : ℕ) → at + 2 ≤ length ws → take 2 (drop at ws) ≡ getD ws at 0 ∷ getD ws (at + 1) 0 ∷ []
 two-words ws at h =
-    let e : suc at ≡ at + 1 = omega arith in
-    ap (take 2) (drop-cons ws at 0 (omega arith) ∙ ap (λ (n : ℕ). getD ws at 0 ∷ drop n ws) e ∙ ap (λ (r : List ℕ). getD ws at 0 ∷ r) (drop-cons ws (at + 1) 0 (omega arith)))
+    let a = word-first ws at (at + 1) (omega arith) (omega arith) in
+    let b = word-first ws (at + 1) (at + 2) (omega arith) (omega arith) in
+    rw (a, b) refl
 
 pub entry-laid : (policy before : List ℕ) (i to size : ℕ) {at offset : ℕ} {a b after : List ℕ} → entryPlace i + 4 ≤ length policy → at ≡ entryPlace i →
     (offset ≡ at + (at + 2 - at)) × (a ≡ laid at (take (at + 2 - at) (drop at policy)) before) → b ≡ laid offset (to ∷ []) a → after ≡ laid (offset + 1) (size ∷ []) b →

@@ -31,7 +31,7 @@ use Rattle.policy_rewriting.specs.declared.vetting.Vetted.{Vetted}
 use Rattle.policy_rewriting.specs.declared.vetting.Vetted.the-variants as vetted
 use Rattle.policy_rewriting.specs.declared.Measured.the-variants.{Words, Broken}
 use Rattle.policy_rewriting.proofs.Laid.{laid-none, laid-length, laid-append, laid-apart}
-use Rattle.policy_rewriting.proofs.Entries.{two-words}
+use Rattle.policy_rewriting.proofs.Entries.{word-first, two-words}
 use Rattle.policy_rewriting.proofs.Walks.{answer-told}
 
 -- ---- the rules and the output, definition by definition
@@ -146,14 +146,11 @@ module _ (p : List ℕ) where
   four-words : (at : ℕ) → at + 4 ≤ length p → drop at p ≡ entryFour (entryAt p at) ++ drop (at + 4) p
   unfolding entryFour entryAt
   four-words at h =
-      let a : suc at ≡ at + 1 = omega arith in
-      let b : suc (at + 1) ≡ at + 2 = omega arith in
-      let c : suc (at + 2) ≡ at + 3 = omega arith in
-      let d : suc (at + 3) ≡ at + 4 = omega arith in
-      let one = drop-cons p (at + 3) 0 (omega arith) ∙ ap (λ (n : ℕ). getD p (at + 3) 0 ∷ drop n p) d in
-      let two = drop-cons p (at + 2) 0 (omega arith) ∙ ap (λ (n : ℕ). getD p (at + 2) 0 ∷ drop n p) c ∙ ap (λ (r : List ℕ). getD p (at + 2) 0 ∷ r) one in
-      let three = drop-cons p (at + 1) 0 (omega arith) ∙ ap (λ (n : ℕ). getD p (at + 1) 0 ∷ drop n p) b ∙ ap (λ (r : List ℕ). getD p (at + 1) 0 ∷ r) two in
-      drop-cons p at 0 (omega arith) ∙ ap (λ (n : ℕ). getD p at 0 ∷ drop n p) a ∙ ap (λ (r : List ℕ). getD p at 0 ∷ r) three
+      let a = word-first p at (at + 1) (omega arith) (omega arith) in
+      let b = word-first p (at + 1) (at + 2) (omega arith) (omega arith) in
+      let c = word-first p (at + 2) (at + 3) (omega arith) (omega arith) in
+      let d = word-first p (at + 3) (at + 4) (omega arith) (omega arith) in
+      rw (a, b, c, d) refl
 
   table-same : (at due : ℕ) (earlier xs : List Entry) → InTable p at due earlier xs → at + 4 * length xs ≤ length p → drop at p ≡ each entryFour xs ++ drop (at + 4 * length xs) p
   unfolding InTable each

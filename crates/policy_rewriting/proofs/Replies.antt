@@ -31,6 +31,28 @@ Replied policy area r after = (r ≡ rewrittenFor (rewriteInto policy area)) × 
 by-outcome : (policy area : List ℕ) {r : Rewritten} {after : List ℕ} (o : Rewriting) → rewriteInto policy area ≡ o → r ≡ rewrittenFor o → after ≡ areaAfter o area → Replied policy area r after
 by-outcome policy area o e f g = (f ∙ ap rewrittenFor (sym e), g ∙ ap (λ (x : Rewriting). areaAfter x area) (sym e))
 
+-- how 15 is tested, of a policy as it was checked
+checked : (policy : List ℕ) {c : PolicyChecked} → checkPolicy policy ≡ c → rewrite policy ≡ elim c [
+  | passed xs es ks ↦ elim (isExternal xs es && leb (length (output policy xs es)) 8192) [ true ↦ rewritten (output policy xs es) | false ↦ refused notExternal noPart ]
+  | Definitions.refused n part ↦ refused n part
+]
+unfolding rewrite
+checked policy e = ap (λ (c : PolicyChecked). elim c as (λ d. Rewriting) [
+  | passed xs es ks ↦ elim (isExternal xs es && leb (length (output policy xs es)) 8192) as (λ d. Rewriting) [ true ↦ rewritten (output policy xs es) | false ↦ refused notExternal noPart ]
+  | Definitions.refused n part ↦ refused n part
+]) e
+
+-- how 11 is tested, of what is rewritten
+into : (policy area : List ℕ) {o : Rewriting} → rewrite policy ≡ o → rewriteInto policy area ≡ elim o [
+  | rewritten out ↦ elim (leb (length out) (length area)) [ true ↦ rewritten out | false ↦ refused shortArea noPart ]
+  | refused n part ↦ refused n part
+]
+unfolding rewriteInto
+into policy area e = ap (λ (o : Rewriting). elim o as (λ d. Rewriting) [
+  | rewritten out ↦ elim (leb (length out) (length area)) as (λ d. Rewriting) [ true ↦ rewritten out | false ↦ refused shortArea noPart ]
+  | refused n part ↦ refused n part
+]) e
+
 module _ (policy area : List ℕ) (g : Passing policy) where
   ws : List ℕ
   ws = output policy (g .entries) (g .exprs)
@@ -39,32 +61,15 @@ module _ (policy area : List ℕ) (g : Passing policy) where
   unfolding ws
   measured w e = rw e at (w .says (g .entries) (g .exprs) (g .known) (g .passes))
 
-  -- how 15 is tested, and then 11
   tested : {b : Bool} → (isExternal (g .entries) (g .exprs) && leb (length ws) 8192) ≡ b → rewrite policy ≡ elim b [ true ↦ rewritten ws | false ↦ refused notExternal noPart ]
-  unfolding rewrite ws
+  unfolding ws
   tested e =
-      ap (λ (c : PolicyChecked). elim c as (λ d. Rewriting) [
-        | passed xs es ks ↦ elim (isExternal xs es && leb (length (output policy xs es)) 8192) as (λ d. Rewriting) [
-          | true ↦ rewritten (output policy xs es)
-          | false ↦ refused notExternal noPart
-        ]
-        | Definitions.refused n part ↦ refused n part
-      ]) (g .passes)
+      checked policy (g .passes)
       ∙ ap (λ (b : Bool). elim b as (λ d. Rewriting) [ true ↦ rewritten (output policy (g .entries) (g .exprs)) | false ↦ refused notExternal noPart ]) e
-
-  into : {o : Rewriting} → rewrite policy ≡ o → rewriteInto policy area ≡ elim o [
-    | rewritten out ↦ elim (leb (length out) (length area)) [ true ↦ rewritten out | false ↦ refused shortArea noPart ]
-    | refused n part ↦ refused n part
-  ]
-  unfolding rewriteInto
-  into e = ap (λ (o : Rewriting). elim o as (λ d. Rewriting) [
-    | rewritten out ↦ elim (leb (length out) (length area)) as (λ d. Rewriting) [ true ↦ rewritten out | false ↦ refused shortArea noPart ]
-    | refused n part ↦ refused n part
-  ]) e
 
   pub not-external : {before after : List ℕ} {r : Measured} → SayWords policy before r after → r ≡ Broken → Replied policy area (reply.Refused notExternal noPart) area
   unfolding MeasuredAs rewrittenFor areaAfter
-  not-external w e = by-outcome policy area (refused notExternal noPart) (into (tested {b = false} (ap (λ (b : Bool). b && leb (length ws) 8192) (measured w e)))) refl refl
+  not-external w e = by-outcome policy area (refused notExternal noPart) (into policy area (tested {b = false} (ap (λ (b : Bool). b && leb (length ws) 8192) (measured w e)))) refl refl
 
   module _ {before after : List ℕ} {r : Measured} {n : ℕ} (w : SayWords policy before r after) (e : r ≡ Words n) where
     size : n ≡ length ws
@@ -77,13 +82,13 @@ module _ (policy area : List ℕ) (g : Passing policy) where
 
     pub too-long : 8192 < n → Replied policy area (reply.Refused notExternal noPart) area
     unfolding rewrittenFor areaAfter
-    too-long h = by-outcome policy area (refused notExternal noPart) (into (tested {b = false} (fits (lt-leb n 8192 h)))) refl refl
+    too-long h = by-outcome policy area (refused notExternal noPart) (into policy area (tested {b = false} (fits (lt-leb n 8192 h)))) refl refl
 
     module _ (few : n ≤ 8192) where
       -- how 11 is tested
       room : {b : Bool} → leb n (length area) ≡ b → rewriteInto policy area ≡ elim b [ true ↦ rewritten ws | false ↦ refused shortArea noPart ]
       room h =
-          into (tested {b = true} (fits (le-leb n 8192 few)))
+          into policy area (tested {b = true} (fits (le-leb n 8192 few)))
           ∙ ap (λ (b : Bool). elim b as (λ d. Rewriting) [ true ↦ rewritten ws | false ↦ refused shortArea noPart ]) (ap (λ (k : ℕ). leb k (length area)) (sym size) ∙ h)
 
       pub too-short : length area < n → Replied policy area (reply.Refused shortArea noPart) area
@@ -105,18 +110,8 @@ policy-passing {policy} r h e = let g = policy-passes policy r h e in record { e
 -- refused with 1 to 7
 pub refusal-passed-on : (policy area : List ℕ) (r : PolicyJudged) {n part : ℕ} → JudgedAs (checkPolicy policy) r → r .judgement ≡ policyJudgement.Refused n part →
     Replied policy area (reply.Refused n part) area
-unfolding rewriteInto rewrite rewrittenFor areaAfter
-refusal-passed-on policy area r {n} {part} h e =
-    by-outcome policy area (refused n part) (ap (λ (c : PolicyChecked). elim (elim c as (λ d. Rewriting) [
-      | passed xs es ks ↦ elim (isExternal xs es && leb (length (output policy xs es)) 8192) as (λ d. Rewriting) [
-        | true ↦ rewritten (output policy xs es)
-        | false ↦ refused notExternal noPart
-      ]
-      | Definitions.refused n part ↦ refused n part
-    ]) as (λ d. Rewriting) [
-      | rewritten out ↦ elim (leb (length out) (length area)) as (λ d. Rewriting) [ true ↦ rewritten out | false ↦ refused shortArea noPart ]
-      | refused n part ↦ refused n part
-    ]) (policy-refuses policy r h e)) refl refl
+unfolding rewrittenFor areaAfter
+refusal-passed-on policy area r {n} {part} h e = by-outcome policy area (refused n part) (into policy area (checked policy (policy-refuses policy r h e))) refl refl
 
 -- a part of no words that was lent
 pub none-lent : (ys area : List ℕ) → length ys ≡ 0 → ys ++ area ≡ area
