@@ -46,10 +46,14 @@ static void arrives(uint32_t key, uint32_t name, uint32_t polarity, uint32_t ato
 /* The external policy now stands, rewritten so that each key is vetted. */
 static void rewrite(void) {
     uint32_t part;
-    uint32_t number = txb_rewrite(external, WORDS(external), rewritten, WORDS(rewritten), &part, &policy_words);
-    if (number != 0)
+    size_t words;
+    uint32_t number = txb_rewrite(external, WORDS(external), rewritten, WORDS(rewritten), &part, &words);
+    if (number != 0) {
         printf("the policy was refused with %u in part %u\n", (unsigned)number, (unsigned)part);
+        return;
+    }
     policy = rewritten;
+    policy_words = words;
     everything_public[1] = 1;
 }
 

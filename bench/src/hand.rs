@@ -318,7 +318,7 @@ pub fn file(store: &mut [u32], record: &Record) -> bool {
     sound(store) && sound_record(record) && (store[0] as usize) < MOST_CERTIFICATES && file_free(store, record)
 }
 
-/// A policy whose definition 0 lists compromised keys, with its output's words. Gives their count; nothing where an external rule is broken.
+/// Rewrites a policy whose definition 0 lists compromised keys. Gives the count of the output's words; nothing where an external rule is broken.
 pub fn rewrite(policy: &[u32], area: &mut [u32]) -> Option<usize> {
     let count = policy[1] as usize;
     let (table, first) = (2 + 4 * count, 2 + 4 * count + policy[5] as usize);

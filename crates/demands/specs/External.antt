@@ -107,7 +107,7 @@ unfolding without BelongsBy meaningsBy InList
 withoutKey key W [] = []
 withoutKey key W (e ∷ es) = meaningsBy (without key (InList W)) es (Belongs W [] e [] ∷ [])
 
--- A row that compromised keys alone would bring in is in no lower answer.
+-- A row that compromised keys alone would bring in is in no lower answer to the query 3 d.
 pub record NoneByCompromised (policy : List ℕ) (entries : List Entry) (source : List Expr) (d : ℕ) (S : RowSet) (a : LowerAnswer policy d S) : Type 1 where
   -- in every world where all certificates accepted so far are true, each of its rows belongs to the source's transformation of the definition
   pub rows : (W : World) → AllTrue W (heldAfter (a .point .passed)) → (r : Row) → IsRow r → T (has S r) → getD (transformed W entries source) d (λ x. ⊥) r

@@ -20,7 +20,7 @@ use Rattle.policy.specs.Definitions as Definitions
 unfoldable pub externalLeaf : Polarity → Leaf → Bool
 externalLeaf p (finite rs) = true
 externalLeaf p (cofinite rs) = true
-externalLeaf p (definition d) = true
+externalLeaf p (definition d) = true  -- of a definition that is read, refusal 6 has asked for the polarity
 externalLeaf p (listed t n q) = samePolarity q p
 externalLeaf p (vetted t n d) = false
 

@@ -126,7 +126,7 @@ pub record AllHold : Type 0 where
       × RewritesInto noDefinitions (9 ∷ []) (refused shortArea noPart) (9 ∷ [])
       × RewritesInto P [] (refused notExternal noPart) []
       × RewritesInto (twoOf 1 allowed 0 (drawAll notSeven)) [] (refused openDraw 1) []
-  -- "15, .. the output would pass 8,192 words": a policy of 8,191 words and one of 8,192, each with one code 4
+  -- "15, .. the output would pass 8,192 words": a policy of 8,191 words and one of 8,192, each with one code 4 in a later definition
   pub long :
       Rewrites (nine 980 (5 ∷ 4 ∷ 0 ∷ k2 ∷ 1 ∷ 0 ∷ literal 0 108)) (rewritten (nine 981 (5 ∷ 8 ∷ 0 ∷ k2 ∷ 1 ∷ 0 ∷ 0 ∷ literal 0 108)))
       × Rewrites (nine 981 (5 ∷ 4 ∷ 0 ∷ k2 ∷ 1 ∷ 0 ∷ literal 4 105)) (refused notExternal noPart)

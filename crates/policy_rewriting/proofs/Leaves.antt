@@ -11,14 +11,35 @@ use Rattle.policy.proofs.Basics.{impossible}
 use Rattle.policy.specs.Leaf.{Leaf, finite, cofinite, definition, listed, vetted, leafCode, leafRest, leafWords}
 use Rattle.policy.specs.Syntax.{Term}
 use Rattle.policy.specs.Words.{termWords}
+use Rattle.policy.specs.Decode.{isNode}
 use Rattle.policy.specs.External.{externalLeaf, vetLeaf}
 use Rattle.policy_places.specs.Places.{At, nameWords, StandsLeaf, SomeLeaf, PastLeaf}
 use Rattle.policy_places.proofs.Places.{at-skip, at-word, at-next, term-length}
 use Rattle.policy_places.proofs.Leaves.{on-listed, on-vetted, in-listed, name-length}
 use Rattle.policy_rewriting.specs.Laid.{laid}
-use Rattle.policy_rewriting.specs.Walks.{signOf, vets, outLeaf, Laying, Answered, Walked, WalkedLeaf, Roomy}
+use Rattle.policy_rewriting.specs.Walks.{NodeRead, signOf, vets, outLeaf, Laying, Answered, Walked, WalkedLeaf, Roomy}
+use Rattle.policy_rewriting.specs.declared.vetting.Node.{Node}
+use Rattle.policy_rewriting.specs.declared.vetting.Node.the-variants as node
+use Rattle.policy_rewriting.specs.declared.vetting.Node.the-variants.{Code}
 use Rattle.policy_rewriting.specs.declared.vetting.Vetted.the-variants.{To, Broken}
 use Rattle.policy_rewriting.proofs.Walks.{then-laid, copied, copy-room}
+
+-- ---- a node's code
+
+pub node-code : {w none c : ℕ} {r : Node} → NodeRead w none r → r ≡ Code c → (c ≡ w) × (w ≡ none → ⊥)
+unfolding NodeRead
+node-code {w} {none} {c} {r} h e = rw e at h
+
+pub node-none : {w none : ℕ} {r : Node} → NodeRead w none r → r ≡ node.Broken → w ≡ none
+unfolding NodeRead
+node-none {w} {none} {r} h e = rw e at h
+
+-- what is known of the code is known of the word
+pub code-node : {c w : ℕ} {b r : Bool} → c ≡ w → r ≡ isNode c → r ≡ b → isNode w ≡ b
+code-node e f g = ap isNode (sym e) ∙ sym f ∙ g
+
+pub code-laid : (to : ℕ) (before : List ℕ) {c w : ℕ} {after : List ℕ} → c ≡ w → after ≡ laid to (c ∷ []) before → after ≡ laid to (w ∷ []) before
+code-laid to before e h = h ∙ ap (λ (x : ℕ). laid to (x ∷ []) before) e
 
 pub sign-minus : (b : Bool) → b ≡ true → 1 ≡ polarityWord (signOf b)
 unfolding polarityWord signOf

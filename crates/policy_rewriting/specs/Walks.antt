@@ -11,8 +11,16 @@ use Rattle.policy.specs.Words.{exprWords, bodyWords}
 use Rattle.policy.specs.External.{externalLeaf, externalExpr, externalBody, vetLeaf, eachLeaf, eachLeafIn}
 use Rattle.policy_places.specs.Places.{StandsLeaf, Stands, StandsBody}
 use Rattle.policy_rewriting.specs.Laid.{laid}
+use Rattle.policy_rewriting.specs.declared.vetting.Node.{Node}
+use Rattle.policy_rewriting.specs.declared.vetting.Node.the-variants as node
+use Rattle.policy_rewriting.specs.declared.vetting.Node.the-variants.{Code}
 use Rattle.policy_rewriting.specs.declared.vetting.Vetted.{Vetted}
 use Rattle.policy_rewriting.specs.declared.vetting.Vetted.the-variants.{To, Broken}
+
+-- the code that stands there, unless it is this one
+unfoldable pub NodeRead : ℕ → ℕ → Node → Type 0
+NodeRead w none (Code c) = (c ≡ w) × (w ≡ none → ⊥)
+NodeRead w none node.Broken = w ≡ none
 
 -- the polarity of a definition: is it −?
 unfoldable pub signOf : Bool → Polarity
@@ -36,7 +44,7 @@ out keys p = eachLeaf (outLeaf keys p)
 abbrev pub outBody : Bool → Polarity → Body → Body
 outBody keys p = eachLeafIn (outLeaf keys p)
 
--- `size` words are passed from word `at` on, and these are laid from word `to` on: no more than two for one
+-- `size` words are passed from word `at` on, and these are laid from word `to` on, at most two for each one passed
 pub record Laying (at size to : ℕ) (ws before : List ℕ) (next end : ℕ) (after : List ℕ) : Type 0 where
   pub passed : next ≡ at + size
   pub ends : end ≡ to + length ws

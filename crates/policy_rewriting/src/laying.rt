@@ -1,4 +1,4 @@
-// Words laid into a lent area as far as it goes: into one of no words nothing is, so that the same walk measures.
+// Words laid into a lent area as far as it goes: into one of no words nothing is laid, so that the same walk measures.
 ghost use Prim.Native.Nat.{_+_, _-_, _≤_};
 ghost use mathlib.Core.Path.{_≡_};
 ghost use mathlib.Core.List.{[], _∷_};

@@ -1,9 +1,10 @@
 // A checked definition walked over: is it external, and its words in the output.
 ghost use mathlib.Core.Path.{_≡_};
-ghost use lib.ListN.{getD};
+ghost use Prim.Native.Nat.{_<_};
+ghost use lib.ListN.{length, getD};
 ghost use Rattle.rows.specs.Name.{polarityWord};
 ghost use Rattle.policy_places.specs.Places.{SomeLeaf, SomeExpr, SomeBody};
-ghost use Rattle.policy_rewriting.specs.Walks.{signOf, vets, Roomy, WalkedLeaf, WalkedExpr, WalkedBody};
+ghost use Rattle.policy_rewriting.specs.Walks.{NodeRead, signOf, vets, Roomy, WalkedLeaf, WalkedExpr, WalkedBody};
 use crate::laying::lay;
 use crate::laying::lay_words;
 use policy::CODE_COMPREHENSION;
@@ -24,6 +25,24 @@ const KEYS: u32 = 0;
 pub enum Vetted {
     To { next: usize, end: usize },
     Broken,
+}
+
+// The code of a node, a leaf or a guard; or an external policy has none of that code.
+enum Node {
+    Code(u32),
+    Broken,
+}
+
+// What stands there, by its code; this one appears in no external policy.
+fn read_node(words: &[u32], at: usize, none: u32) -> Node
+    requires { ⌜ at < length (now words) ⌝ }
+    ensures { λ r. ⌜ NodeRead (getD (now (words .entry)) at 0) none r ⌝ }
+{
+    let code = words[at];
+    if code == none {
+        return Node::Broken;
+    }
+    Node::Code(code)
 }
 
 fn polarity_word(minus: bool) -> u32
@@ -80,12 +99,11 @@ fn vet_leaf(
     requires { ⌜ SomeLeaf (now words) at × Roomy (now words) at to ⌝ }
     ensures { λ r. ⌜ WalkedLeaf keys (signOf minus) (now (words .entry)) at to (now (area .entry)) r (now (area .exit)) ⌝ }
 {
-    let code = words[at];
+    let Node::Code(code) = read_node(words, at, CODE_VETTED) else {
+        return Vetted::Broken;
+    };
     if code == CODE_NAME {
         return vet_name(words, at, minus, keys, area, to);
-    }
-    if code == CODE_VETTED {
-        return Vetted::Broken;
     }
     let next = skip_leaf(words, at);
     let end = lay_words(words, at, next, area, to);
@@ -103,12 +121,11 @@ pub fn vet_expr(
     requires { ⌜ SomeExpr (now words) at × Roomy (now words) at to ⌝ }
     ensures { λ r. ⌜ WalkedExpr keys (signOf minus) (now (words .entry)) at to (now (area .entry)) r (now (area .exit)) ⌝ }
 {
-    let code = words[at];
+    let Node::Code(code) = read_node(words, at, CODE_DIFFERENCE) else {
+        return Vetted::Broken;
+    };
     if !is_node(code) {
         return vet_leaf(words, at, minus, keys, area, to);
-    }
-    if code == CODE_DIFFERENCE {
-        return Vetted::Broken;
     }
     lay(area, to, code);
     if code == CODE_COMPREHENSION {
@@ -140,10 +157,9 @@ fn vet_guards(
         let end = lay_words(words, at, next, area, to);
         return Vetted::To { next, end };
     }
-    let code = words[at];
-    if code == GUARD_ABSENT {
+    let Node::Code(code) = read_node(words, at, GUARD_ABSENT) else {
         return Vetted::Broken;
-    }
+    };
     if code == GUARD_DRAW {
         lay(area, to, code);
         let Vetted::To { next, end } = vet_expr(words, at + 1, minus, keys, area, to + 1) else {

@@ -1,4 +1,5 @@
-// The expressions that hold no other, read: the rows of a literal, an earlier definition, a name, a name whose issuer is looked up. The readers of expressions call one function for all of them.
+// The expressions that hold no other, read: the rows of a literal, an earlier definition, a name, a name whose issuer is looked up. The readers of expressions
+// call one function for all of them.
 ghost use Prim.Native.Nat.{ℕ, _+_, _*_, _≤_, _<_};
 ghost use mathlib.Core.Path.{_≡_};
 ghost use lib.ListN.{length, getD, take, drop};

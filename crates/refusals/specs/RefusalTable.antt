@@ -1,4 +1,4 @@
--- Document 01, "Refusal table": each number is named here, once, and used by this name everywhere else.
+-- Document 01, "Refusal table", with what document 02 adds: each number is named here, once, and used by this name everywhere else.
 use Prim.Native.Nat.{ℕ}
 
 -- 1: under 2 or over 8,192 words, format, n, or table cut short
@@ -62,7 +62,7 @@ tooManyDraws = 14
 abbrev pub notExternal : ℕ
 notExternal = 15
 
--- With a query's refusal comes its part: 0 to 15 a definition, 16 the query, 17 neither.
+-- With a refusal of a policy or a query comes its part: 0 to 15 a definition, 16 the query, 17 neither.
 abbrev pub queryPart : ℕ
 queryPart = 16
 

@@ -561,7 +561,7 @@ fn code_8_word_by_word() {
     let own = policy(&[(10, 0, &[8, 0, K1, 1, 0, 0])]);
     assert_eq!(Evaluator::default().judge(&own, &[1, 0]).map(|judged| judged.verdict), refusal(4, 0));
     // it stands at a depth as any expression does
-    let deep = |unions: usize| [vec![5; unions], [1, 0].repeat(unions), vec![8, 0, K1, 1, 0, 0]].concat();
+    let deep = |unions: usize| [vec![5; unions], vec![8, 0, K1, 1, 0, 0], [1, 0].repeat(unions)].concat();
     assert_eq!(ask(&deep(14)), Ok(Lower));
     assert_eq!(ask(&deep(15)), refusal(5, QUERY_PART));
 }
@@ -671,7 +671,7 @@ fn an_output_of_8192_words_passes_and_one_of_8193_does_not() {
     assert!(Evaluator::default().judge(&output, &[3, 7]).is_ok());
     assert_eq!(rewrite(&over), refusal(15, NO_PART));
     assert!(Evaluator::default().judge(&over, &[3, 7]).is_ok());
-    // too long for any output, and the area too
+    // the output is too long, and the area too short: 15
     assert_eq!(Evaluator::default().rewrite(&over, &mut []), refusal(15, NO_PART));
     assert_eq!(Evaluator::default().rewrite(&just, &mut [0; 8_191]), refusal(11, NO_PART));
 }

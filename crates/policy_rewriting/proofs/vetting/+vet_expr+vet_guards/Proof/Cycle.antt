@@ -14,6 +14,7 @@ use Rattle.policy_places.proofs.skip.skip_pattern.Reads as skip-pattern-reads
 use Rattle.policy_places.proofs.skip.skip_row.Reads as skip-row-reads
 use Rattle.policy_rewriting.proofs.laying.lay.Reads as lay-reads
 use Rattle.policy_rewriting.proofs.laying.lay_words.Reads as lay-words-reads
+use Rattle.policy_rewriting.proofs.vetting.read_node.Reads as read-node-reads
 use Rattle.policy_rewriting.proofs.vetting.vet_leaf.Reads as vet-leaf-reads
 
 abbrev pub μ-vet-expr : Measures 2 vet-expr-kinds.ps ℕ
@@ -40,6 +41,8 @@ vet-guards-below t =
 -- what `vet_expr` knows of the functions that it calls
 abbrev pub vet-expr-claims : ℕ → vet-expr-lts.Claims
 vet-expr-claims t = (
+  read-node-reads.Asked,
+  read-node-reads.Learnt,
   is-node-reads.Asked,
   is-node-reads.Learnt,
   vet-leaf-reads.Asked,
@@ -59,6 +62,8 @@ vet-guards-claims t = (
   skip-row-reads.Learnt,
   lay-words-reads.Asked,
   lay-words-reads.Learnt,
+  read-node-reads.Asked,
+  read-node-reads.Learnt,
   lay-reads.Asked,
   lay-reads.Learnt,
   vet-expr-below t,

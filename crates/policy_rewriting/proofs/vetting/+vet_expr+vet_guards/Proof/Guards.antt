@@ -1,8 +1,11 @@
 -- The needs of `vet_guards`.
+use mathlib.Core.Path.{_≡_, sym, _∙_}
+use lib.ListN.{getD}
 use Prim.Native.Nat.{ℕ}
 use native.Mathlib.Omega.{arith}
 use Rattle.policy_places.proofs.Places.{inside-body}
 use Rattle.policy_places.proofs.Past.{some-head, some-operand, some-pattern}
+use Rattle.policy_rewriting.proofs.Leaves.{node-code, node-none, code-laid}
 use Rattle.policy_rewriting.proofs.Walks.{told, past-walked, row-room, head-walked, absent-broken, draw-broken, Pattern, draw-pattern, draw-walked, Test, test-room, test-walked}
 use Rattle.policy_rewriting.proofs.vetting.vet_guards.Reads as vet-guards
 use Rattle.policy_rewriting.proofs.vetting.+vet_expr+vet_guards.Lts-vet_guards as vet-guards-lts
@@ -28,28 +31,24 @@ returns t c =
 abbrev start : (t : ℕ) → vet-guards-lts.Else1 (vet-guards-claims t) (vet-guards-at t) vet-guards.Post → vet-guards-lts.Start (vet-guards-claims t) (vet-guards-at t) vet-guards.Post
 start t c = c .before .before .before
 
-pub mul-code : (t : ℕ) → vet-guards-lts.Need-mul-code (vet-guards-claims t) (vet-guards-at t) vet-guards.Post
-mul-code t c =
-    let i = inside-body (start t c .pre .1 .0 .here) in
-    let fits = start t c .good in
-    omega arith
-
-pub shared-slice-read-code : (t : ℕ) → vet-guards-lts.Need-shared-slice-read-code (vet-guards-claims t) (vet-guards-at t) vet-guards.Post
-shared-slice-read-code t c =
-    let i = inside-body (start t (c .before) .pre .1 .0 .here) in
-    let fits = start t (c .before) .good in
-    omega arith
+pub read-node-requires : (t : ℕ) → vet-guards-lts.Need-read-node-requires (vet-guards-claims t) (vet-guards-at t) vet-guards.Post
+read-node-requires t c κs = inside-body (start t c .pre .1 .0 .here)
 
 -- an absent guard
 pub returns-2 : (t : ℕ) → vet-guards-lts.Need-returns-2 (vet-guards-claims t) (vet-guards-at t) vet-guards.Post
-returns-2 t c = absent-broken (c .before .before .if1 .left) (c .if2 .taken)
+returns-2 t c =
+    let read = c .before .before in
+    absent-broken (read .before .if1 .left) (node-none (read .read-node .ensures) (c .enum-told .given .1))
 
 -- where a guard is left, from where it is a draw
-abbrev some : (t : ℕ) → vet-guards-lts.Then3 (vet-guards-claims t) (vet-guards-at t) vet-guards.Post → vet-guards-lts.Else1 (vet-guards-claims t) (vet-guards-at t) vet-guards.Post
-some t c = c .before .before .before
+abbrev some : (t : ℕ) → vet-guards-lts.Then2 (vet-guards-claims t) (vet-guards-at t) vet-guards.Post → vet-guards-lts.Else1 (vet-guards-claims t) (vet-guards-at t) vet-guards.Post
+some t c = c .before .before .before .before .before
+
+draws : (t : ℕ) (c : vet-guards-lts.Then2 (vet-guards-claims t) (vet-guards-at t) vet-guards.Post) → getD (start t (some t c) .args .words .now) (start t (some t c) .args .at) 0 ≡ 1
+draws t c = sym (node-code (c .before .before .before .before .read-node .ensures) (c .before .before .code .given .1) .0) ∙ c .if2 .taken
 
 -- where the guard is a draw, from where its operand is walked
-abbrev draw : (t : ℕ) → vet-guards-lts.After-vet-expr (vet-guards-claims t) (vet-guards-at t) vet-guards.Post → vet-guards-lts.Then3 (vet-guards-claims t) (vet-guards-at t) vet-guards.Post
+abbrev draw : (t : ℕ) → vet-guards-lts.After-vet-expr (vet-guards-claims t) (vet-guards-at t) vet-guards.Post → vet-guards-lts.Then2 (vet-guards-claims t) (vet-guards-at t) vet-guards.Post
 draw t c = c .before .before .before .before .before .before
 
 -- where the operand is walked, from where its end is told
@@ -78,19 +77,19 @@ vet-expr-requires t c κs =
     let asked = start t (some t d) .pre .1 in
     let i = inside-body (asked .0 .here) in
     let room = asked .1 .fits in
-    (omega arith, (some-operand (some t d .if1 .left) (d .if3 .taken) (asked .0), record { fits = omega arith }))
+    (omega arith, (some-operand (some t d .if1 .left) (draws t d) (asked .0), record { fits = omega arith }))
 
 pub returns-3 : (t : ℕ) → vet-guards-lts.Need-returns-3 (vet-guards-claims t) (vet-guards-at t) vet-guards.Post
 returns-3 t c =
     let o = c .before .before .before .before in
-    draw-broken (some t (draw t o) .if1 .left) (draw t o .if3 .taken) (told (o .vet-expr .ensures) (c .enum-told .given .1))
+    draw-broken (some t (draw t o) .if1 .left) (draws t (draw t o)) (told (o .vet-expr .ensures) (c .enum-told2 .given .1))
 
 pub skip-pattern-requires : (t : ℕ) → vet-guards-lts.Need-skip-pattern-requires (vet-guards-claims t) (vet-guards-at t) vet-guards.Post
 skip-pattern-requires t c κs =
     let next = c .before in
     let o = operand t next in
     let d = draw t o in
-    some-pattern (some t d .if1 .left) (d .if3 .taken) (past-walked (told (o .vet-expr .ensures) (next .next .given .1))) (origin t next .pre .1 .0)
+    some-pattern (some t d .if1 .left) (draws t d) (past-walked (told (o .vet-expr .ensures) (next .next .given .1))) (origin t next .pre .1 .0)
 
 -- a draw's pattern, and what follows it
 pattern : (t : ℕ) (c : vet-guards-lts.After-skip-pattern (vet-guards-claims t) (vet-guards-at t) vet-guards.Post) →
@@ -102,7 +101,7 @@ pattern t c =
     let o = operand t next in
     let d = draw t o in
     let asked = origin t next .pre .1 in
-    draw-pattern (some t d .if1 .left) (d .if3 .taken) (asked .0) (asked .1) (told (o .vet-expr .ensures) (next .next .given .1)) (c .skip-pattern .ensures)
+    draw-pattern (some t d .if1 .left) (draws t d) (asked .0) (asked .1) (told (o .vet-expr .ensures) (next .next .given .1)) (c .skip-pattern .ensures)
 
 pub lay-words-requires-2 : (t : ℕ) → vet-guards-lts.Need-lay-words-requires-2 (vet-guards-claims t) (vet-guards-at t) vet-guards.Post
 lay-words-requires-2 t c κs = pattern t (c .before) .room
@@ -127,22 +126,33 @@ returns-4 t c =
     let o = operand t next in
     let code = o .before .before .before .before in
     let d = draw t o in
-    draw-walked (some t d .if1 .left) (d .if3 .taken) (code .lay .ensures) (told (o .vet-expr .ensures) (next .next .given .1)) (passed .skip-pattern .ensures) (laid .lay-words2 .ensures)
+    let a = start t (some t d) .args in
+    let is = node-code (d .before .before .before .before .read-node .ensures) (d .before .before .code .given .1) .0 in
+    draw-walked (some t d .if1 .left) (draws t d) (code-laid (a .to) (a .area .now) is (code .lay .ensures)) (told (o .vet-expr .ensures) (next .next .given .1)) (passed .skip-pattern .ensures) (laid .lay-words2 .ensures)
     (rest .vet-guards .ensures)
 
+-- where a guard is left, from where it is a comparison
+abbrev left : (t : ℕ) → vet-guards-lts.Else2 (vet-guards-claims t) (vet-guards-at t) vet-guards.Post → vet-guards-lts.Else1 (vet-guards-claims t) (vet-guards-at t) vet-guards.Post
+left t c = c .before .before .before .before .before
+
+no-draw : (t : ℕ) (c : vet-guards-lts.Else2 (vet-guards-claims t) (vet-guards-at t) vet-guards.Post) → getD (start t (left t c) .args .words .now) (start t (left t c) .args .at) 0 ≡ 1 → ⊥
+no-draw t c e = c .if2 .left (node-code (c .before .before .before .before .read-node .ensures) (c .before .before .code .given .1) .0 ∙ e)
+
+no-absent : (t : ℕ) (c : vet-guards-lts.Else2 (vet-guards-claims t) (vet-guards-at t) vet-guards.Post) → getD (start t (left t c) .args .words .now) (start t (left t c) .args .at) 0 ≡ 4 → ⊥
+no-absent t c = node-code (c .before .before .before .before .read-node .ensures) (c .before .before .code .given .1) .1
+
 -- a comparison, and what follows it
-test : (t : ℕ) (c : vet-guards-lts.Else3 (vet-guards-claims t) (vet-guards-at t) vet-guards.Post) →
-    let a = start t (c .before .before .before) .args in
+test : (t : ℕ) (c : vet-guards-lts.Else2 (vet-guards-claims t) (vet-guards-at t) vet-guards.Post) →
+    let a = start t (left t c) .args in
     Test (a .words .now) (a .at) (a .left) (a .to)
 test t c =
-    let some = c .before .before .before in
-    let asked = start t some .pre .1 in
-    test-room (some .if1 .left) (c .if3 .left) (c .before .if2 .left) (asked .0) (asked .1)
+    let asked = start t (left t c) .pre .1 in
+    test-room (left t c .if1 .left) (no-draw t c) (no-absent t c) (asked .0) (asked .1)
 
 pub add-lay-words : (t : ℕ) → vet-guards-lts.Need-add-lay-words (vet-guards-claims t) (vet-guards-at t) vet-guards.Post
 add-lay-words t c =
     let room = test t c .room .1 in
-    let fits = start t (c .before .before .before) .good in
+    let fits = start t (left t c) .good in
     omega arith
 
 pub lay-words-requires-3 : (t : ℕ) → vet-guards-lts.Need-lay-words-requires-3 (vet-guards-claims t) (vet-guards-at t) vet-guards.Post
@@ -152,14 +162,14 @@ pub add-vet-guards : (t : ℕ) → vet-guards-lts.Need-add-vet-guards (vet-guard
 add-vet-guards t c =
     let e = c .before .before .before .before in
     let room = test t e .room .1 in
-    let fits = start t (e .before .before .before) .good in
+    let fits = start t (left t e) .good in
     omega arith
 
 pub vet-guards-requires-2 : (t : ℕ) → vet-guards-lts.Need-vet-guards-requires-2 (vet-guards-claims t) (vet-guards-at t) vet-guards.Post
 vet-guards-requires-2 t c κs =
     let laid = c .before .before .before in
     let e = laid .before .before in
-    let i = inside-body (start t (e .before .before .before) .pre .1 .0 .here) in
+    let i = inside-body (start t (left t e) .pre .1 .0 .here) in
     (omega arith, (test t e .body, test t e .bodyRoom _ (laid .lay-words3 .ensures .0)))
 
 pub returns-5 : (t : ℕ) → vet-guards-lts.Need-returns-5 (vet-guards-claims t) (vet-guards-at t) vet-guards.Post
@@ -167,4 +177,4 @@ returns-5 t c =
     let rest = c .before .before in
     let laid = rest .before .before .before .before in
     let e = laid .before .before in
-    test-walked (e .before .before .before .if1 .left) (e .if3 .left) (e .before .if2 .left) (laid .lay-words3 .ensures) (rest .vet-guards2 .ensures)
+    test-walked (left t e .if1 .left) (no-draw t e) (no-absent t e) (laid .lay-words3 .ensures) (rest .vet-guards2 .ensures)
