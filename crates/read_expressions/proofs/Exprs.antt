@@ -9,7 +9,7 @@ use lib.Dec.{eqb}
 use lib.ListN.{length, take, drop, getD}
 use borrow.Author.Tests.{eq-eqb, ne-eqb}
 use Rattle.rows.specs.Row.{Row}
-use Rattle.rows.specs.Sets.{RowSet, only, has}
+use Rattle.rows.specs.Sets.{RowSet, only, has, combined}
 use Rattle.rows.specs.Layout.{setIn}
 use Rattle.policy.specs.Decode.{isNode}
 use Rattle.policy.specs.Syntax.{Expr, leaf, union, difference, comprehension}
@@ -20,7 +20,7 @@ use Rattle.policy_places.specs.Places.{Stands, SomeRow, SomeExpr, PastExpr}
 use Rattle.read_values.specs.Answers.{Filled, Empty, setReadIs, testedIs, IfDone}
 use Rattle.read_values.specs.From.{From}
 use Rattle.read_steps.specs.Areas.{Gathering}
-use Rattle.read_steps.specs.Steps.{rowsReadIs, combined, SayCombined, SayHas}
+use Rattle.read_steps.specs.Steps.{rowsReadIs, SayCombined, SayHas}
 use Rattle.read_leaves.specs.Leaves.{AskLeaf, SayLeaf, SayLeafHas}
 use Rattle.read_expressions.specs.Room.{roomOf}
 use Rattle.read_expressions.specs.Readers.{reading, gathering, Means, AskExpr, AskHas, AskTwo, AskBody, SayExpr, SayExprHas, SayTwo, SayBody}

@@ -6,7 +6,7 @@ use mathlib.Core.Bool.{Bool}
 use mathlib.Core.List.{List, []}
 use lib.ListN.{length, take, drop}
 use Rattle.rows.specs.Row.{Row}
-use Rattle.rows.specs.Sets.{RowSet, has}
+use Rattle.rows.specs.Sets.{RowSet, has, combined}
 use Rattle.rows.specs.Layout.{setRoom, rowsIn}
 use Rattle.policy.specs.Syntax.{Term, Slot, Expr, Body, draw, absent}
 use Rattle.policy.specs.Words.{fresh}
@@ -18,7 +18,7 @@ use Rattle.policy_places.specs.Places.{Stands, StandsRow, StandsPattern, Stands
 use Rattle.read_values.specs.Answers.{Filled, setReadIs, testedIs, IfDone}
 use Rattle.read_values.specs.From.{From, names, sets, SoundFrom}
 use Rattle.read_steps.specs.Areas.{Gathering, Kept}
-use Rattle.read_steps.specs.Steps.{rowsReadIs, combined}
+use Rattle.read_steps.specs.Steps.{rowsReadIs}
 use Rattle.read_expressions.specs.Room.{roomOf, bodyRoom}
 use Rattle.read_values.specs.declared.Read.{Read}
 use Rattle.read_values.specs.declared.Tested.{Tested}

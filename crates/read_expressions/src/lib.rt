@@ -14,7 +14,7 @@ use policy_places::skip::skip_row;
 use read_leaves::leaf_has;
 use read_leaves::read_leaf;
 use read_steps::Drawn;
-use read_steps::combine;
+use read_steps::combine_parts;
 use read_steps::draw_next;
 use read_steps::has_row;
 use read_steps::insert_head;
@@ -110,7 +110,7 @@ fn read_two(
                 defs,
             ) {
                 Read::Refused(n) => Read::Refused(n),
-                Read::Done(total) => combine(minus, total, area),
+                Read::Done(total) => combine_parts(minus, total, area),
             }
         }
     }

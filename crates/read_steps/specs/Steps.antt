@@ -8,7 +8,7 @@ use mathlib.Core.Option.{Option, none, some}
 use lib.ListN.{length, getD, take, drop}
 use Rattle.rows.specs.Ordered.{insert}
 use Rattle.rows.specs.Row.{Row, rowBefore}
-use Rattle.rows.specs.Sets.{RowSet, has, unite, subtract}
+use Rattle.rows.specs.Sets.{has, combined}
 use Rattle.rows.specs.Layout.{setRoom, rowsIn, setIn}
 use Rattle.policy.specs.Syntax.{Term, Slot}
 use Rattle.policy.specs.Words.{fresh}
@@ -52,11 +52,6 @@ unfoldable pub InScope : Drawn.Drawn → ℕ → Type 0
 InScope (Drawn.the-variants.Matches next draws scope) n = scope ≡ n
 InScope (Drawn.the-variants.End draws) n = Unit {0}
 InScope (Drawn.the-variants.Refused m) n = Unit {0}
-
--- the value of a union, or of a difference
-unfoldable pub combined : Bool → RowSet → RowSet → RowSet
-combined true x y = subtract x y
-combined false x y = unite x y
 
 -- x is the last of xs
 abbrev pub IsLast : Row → List Row → Type 0

@@ -16,8 +16,8 @@ use read_values::tick;
 use read_values::value_of;
 use refusals::TOO_MANY_ROWS;
 use row_words::wide;
-use set_algebra::subtract;
-use set_algebra::unite;
+use set_algebra::TWO_ROOMS;
+use set_algebra::combine;
 use sets::Inserted;
 use sets::has;
 use sets::insert;
@@ -39,18 +39,12 @@ pub enum Drawn {
     Refused(u32),
 }
 
-// The union or the difference of the set at the front and the one behind it, left at the front.
-pub fn combine(minus: bool, draws: u32, area: &mut [u32]) -> Read
+// The union or the difference of the set at the front and the one behind it, left at the front; 13 "after both parts .. are read".
+pub fn combine_parts(minus: bool, draws: u32, area: &mut [u32]) -> Read
     requires { ⌜ Filled (now area) × Filled (drop setRoom (now area)) ⌝ }
     ensures { λ r. ⌜ SayCombined minus draws (now (area .entry)) r (now (area .exit)) ⌝ }
 {
-    if minus {
-        if subtract(area) {
-            return Read::Done(draws);
-        }
-        return Read::Refused(TOO_MANY_ROWS);
-    }
-    if unite(area) {
+    if combine(minus, &mut area[0..TWO_ROOMS]) {
         return Read::Done(draws);
     }
     Read::Refused(TOO_MANY_ROWS)

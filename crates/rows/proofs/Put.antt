@@ -4,7 +4,7 @@ use mathlib.Core.Path.{_≡_, refl, sym, _∙_, ap}
 use mathlib.Core.List.{List, [], _∷_, _++_, append-assoc}
 use native.Mathlib.Omega.{arith}
 use lib.ListN.{length, getD, take, drop, set, length-append, length-take, length-drop, length-set, take-append-drop, drop-of-length-le, List·getD-append}
-use lib.Seq.{take-append-le, take-at, drop-at, drop-append-add, getD-append-add, length-take-le, take-take, take-all, take-suc, drop-cons, drop-drop, getD-take, getD-drop, ext-getD, set-split, take-append-seam}
+use lib.Seq.{take-append-le, take-at, drop-at, drop-append-add, length-take-le, take-take, take-all, take-suc, drop-cons, drop-drop, getD-take, getD-drop, ext-getD, set-split, set-set, take-set-le, drop-set-add, take-append-seam}
 use Rattle.rows.specs.Layout.{put}
 
 module _ (at : ℕ) (ws area : List ℕ) (room : at + length ws ≤ length area) where
@@ -18,13 +18,6 @@ module _ (at : ℕ) (ws area : List ℕ) (room : at + length ws ≤ length area)
   pub put-before : (i : ℕ) → i < at → getD (put at ws area) i 0 ≡ getD area i 0
   unfolding put
   put-before i h = List·getD-append (take at area) (ws ++ drop (at + length ws) area) 0 i (omega (arith, front-length)) ∙ getD-take at area i 0 h
-
-  pub put-in : (i : ℕ) → i < length ws → getD (put at ws area) (at + i) 0 ≡ getD ws i 0
-  unfolding put
-  put-in i h =
-      ap (λ (k : ℕ). getD (put at ws area) (k + i) 0) (sym front-length)
-      ∙ getD-append-add (take at area) (ws ++ drop (at + length ws) area) i 0
-      ∙ List·getD-append ws (drop (at + length ws) area) 0 i h
 
   -- the words before, and those after, are as they were
   pub put-take : (n : ℕ) → n ≤ at → take n (put at ws area) ≡ take n area
@@ -112,6 +105,30 @@ pub put-less : (at i : ℕ) (u area : List ℕ) (w : ℕ) → at ≡ i + 1 → a
 put-less at i u area w e h =
     set-put (put at u area) i w (omega (arith, put-length at u area h))
     ∙ ap (λ (k : ℕ). put i (w ∷ []) (put k u area)) e ∙ put-then-before i (w ∷ []) u area (omega arith)
+
+-- the first of the words written, written again
+pub put-first : (at w v : ℕ) (ws area : List ℕ) → at + suc (length ws) ≤ length area → set (put at (w ∷ ws) area) at v ≡ put at (v ∷ ws) area
+put-first at w v ws area room =
+    ap (λ (l : List ℕ). set l at v) (sym (put-less (at + 1) at ws area w refl (omega arith))) ∙ set-set (put (at + 1) ws area) at w v
+    ∙ put-less (at + 1) at ws area v refl (omega arith)
+
+set-append-add : (xs ys : List ℕ) (i v : ℕ) → set (xs ++ ys) (length xs + i) v ≡ xs ++ set ys i v
+set-append-add [] ys i v = let e : 0 + i ≡ i = omega arith in ap (λ (k : ℕ). set ys k v) e
+set-append-add (x ∷ xs) ys i v = let e : suc (length xs) + i ≡ suc (length xs + i) = omega arith in rw e (ap (λ (l : List ℕ). x ∷ l) (set-append-add xs ys i v))
+
+-- a word behind them
+pub put-past : (at : ℕ) (ws area : List ℕ) (i v : ℕ) → at + length ws ≤ length area → at + length ws ≤ i → set (put at ws area) i v ≡ put at ws (set area i v)
+unfolding put
+put-past at ws area i v room h =
+    let n : ℕ = at + length ws in
+    let front : List ℕ = take at area ++ ws in
+    let j : ℕ = i - (at + length ws) in
+    let l : length (take at area ++ ws) ≡ at + length ws = omega (arith, length-append (take at area) ws, length-take-le at area (omega arith)) in
+    let e : i ≡ length (take at area ++ ws) + (i - (at + length ws)) = omega arith in
+    let f : at + length ws + (i - (at + length ws)) ≡ i = omega arith in
+    ap (λ (m : List ℕ). set m i v) (sym (append-assoc (take at area) ws (drop n area))) ∙ ap (λ (k : ℕ). set (front ++ drop n area) k v) e ∙ set-append-add front (drop n area) j v
+    ∙ ap (λ (m : List ℕ). front ++ m) (sym (drop-set-add n area j v) ∙ ap (λ (k : ℕ). drop n (set area k v)) f) ∙ append-assoc (take at area) ws (drop n (set area i v))
+    ∙ ap (λ (m : List ℕ). m ++ (ws ++ drop n (set area i v))) (sym (take-set-le at area i v (omega arith)))
 
 -- word by word, from the first on, and from the last on
 module _ (at : ℕ) (ws area : List ℕ) (room : at + length ws ≤ length area) (j : ℕ) (inside : j < length ws) where

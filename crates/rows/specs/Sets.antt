@@ -1,7 +1,7 @@
 -- Document 01, "Rows, sets, worlds": "A set is finite, or the complement of a finite set among all rows."
 use Prim.Native.Nat.{ℕ}
 use mathlib.Core.Path.{_≡_}
-use mathlib.Core.Bool.{Bool, true, not}
+use mathlib.Core.Bool.{Bool, true, false, not}
 use mathlib.Core.List.{List}
 use Rattle.rows.specs.Word.{All}
 use Rattle.rows.specs.Ordered.{tied, lists, join, common, without, ascending}
@@ -45,3 +45,9 @@ subtract (only xs) (only ys) = only (without rowBefore xs ys)
 subtract (only xs) (allBut ys) = only (common rowBefore xs ys)
 subtract (allBut xs) (only ys) = allBut (join rowBefore ys xs)
 subtract (allBut xs) (allBut ys) = only (without rowBefore ys xs)
+
+-- the value of a union or, with `minus`, of a difference
+unfoldable pub combined : Bool → RowSet → RowSet → RowSet
+unfolding unite subtract
+combined true s t = subtract s t
+combined false s t = unite s t

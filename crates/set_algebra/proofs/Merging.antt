@@ -8,9 +8,9 @@ use lib.ListN.{length, getD, take, drop, length-append, length-drop, take-append
 use lib.Seq.{take-all, length-take-le}
 use Rattle.rows.specs.Ordered.{join}
 use Rattle.rows.specs.Row.{Row, rowBefore}
-use Rattle.rows.specs.Layout.{rowWords, rowIn, fiveAt, flat, laid, put, rowsIn}
+use Rattle.rows.specs.Layout.{rowWords, rowIn, fiveAt, flat, laid, put}
 use Rattle.row_words.specs.Values.{orderFor}
-use Rattle.set_algebra.specs.Private.{lastOrderFor, roomAt, Rooms}
+use Rattle.set_algebra.specs.Private.{LastRows, lastOrderFor, roomAt, lefts, rights, Rooms}
 use Rattle.row_words.specs.declared.row.Order as Order
 use Rattle.row_words.specs.declared.row.Order.the-variants.{Before, Same, After}
 use Rattle.rows.proofs.Order.{row-order}
@@ -22,7 +22,7 @@ use Rattle.rows.proofs.LayoutLaws.{row-reads, row-length}
 use Rattle.row_words.proofs.RowLaws.{five-width, before-order, same-order, after-order}
 use Rattle.sets.proofs.SetWords.{sound-ascending}
 use Rattle.sets.proofs.Laid.{Narrow, laid-length, laid-append, narrow-in, laid-front, inner, front-length}
-use Rattle.set_algebra.proofs.Filtering.{room-few, room-count, room-row}
+use Rattle.set_algebra.proofs.Walking.{room-few, room-count, room-row}
 
 -- ---- the order of two last rows
 
@@ -50,41 +50,35 @@ not-after e = let z : _≡_ {A = ℕ} 0 1 = cc in omega arith
 -- ---- the two lists
 
 module _ (a : List ℕ) where
-  abbrev pub lefts : List Row
-  lefts = rowsIn (roomAt 0 a)
-
-  abbrev pub rights : List Row
-  rights = rowsIn (roomAt 642 a)
-
   -- where the rows at the two ends stand
   pub record Ends (now : List ℕ) (i j : ℕ) : Type 0 where
-    pub left : i ≤ length (rowsIn (roomAt 0 a))
-    pub right : j ≤ length (rowsIn (roomAt 642 a))
+    pub left : i ≤ length (lefts a)
+    pub right : j ≤ length (rights a)
     pub size : length now ≡ length a
-    pub mine : 0 < i → fiveAt now (2 + 5 * (i - 1)) ≡ rowWords (getD (rowsIn (roomAt 0 a)) (i - 1) [])
-    pub theirs : 0 < j → fiveAt now (644 + 5 * (j - 1)) ≡ rowWords (getD (rowsIn (roomAt 642 a)) (j - 1) [])
+    pub mine : 0 < i → fiveAt now (2 + 5 * (i - 1)) ≡ rowWords (getD (lefts a) (i - 1) [])
+    pub theirs : 0 < j → fiveAt now (644 + 5 * (j - 1)) ≡ rowWords (getD (rights a) (j - 1) [])
 
   -- so many are counted
   pub record Counting (i j total : ℕ) : Type 0 where
-    pub left : i ≤ length (rowsIn (roomAt 0 a))
-    pub right : j ≤ length (rowsIn (roomAt 642 a))
-    pub sum : total + length (join rowBefore (take i (rowsIn (roomAt 0 a))) (take j (rowsIn (roomAt 642 a)))) ≡ length (join rowBefore (rowsIn (roomAt 0 a)) (rowsIn (roomAt 642 a)))
+    pub left : i ≤ length (lefts a)
+    pub right : j ≤ length (rights a)
+    pub sum : total + length (join rowBefore (take i (lefts a)) (take j (rights a))) ≡ length (join rowBefore (lefts a) (rights a))
 
   -- the rows from the `k`th on are in their places
   pub record Merging (now : List ℕ) (i j k : ℕ) : Type 0 where
-    pub left : i ≤ length (rowsIn (roomAt 0 a))
-    pub right : j ≤ length (rowsIn (roomAt 642 a))
-    pub within : k ≤ length (join rowBefore (rowsIn (roomAt 0 a)) (rowsIn (roomAt 642 a)))
-    pub front : take k (join rowBefore (rowsIn (roomAt 0 a)) (rowsIn (roomAt 642 a))) ≡ join rowBefore (take i (rowsIn (roomAt 0 a))) (take j (rowsIn (roomAt 642 a)))
+    pub left : i ≤ length (lefts a)
+    pub right : j ≤ length (rights a)
+    pub within : k ≤ length (join rowBefore (lefts a) (rights a))
+    pub front : take k (join rowBefore (lefts a) (rights a)) ≡ join rowBefore (take i (lefts a)) (take j (rights a))
     pub size : length now ≡ length a
-    pub words : now ≡ put (2 + 5 * k) (laid (drop k (join rowBefore (rowsIn (roomAt 0 a)) (rowsIn (roomAt 642 a))))) a
+    pub words : now ≡ put (2 + 5 * k) (laid (drop k (join rowBefore (lefts a) (rights a)))) a
 
 module _ (a : List ℕ) (rooms : Rooms a 0 642) where
   abbrev xs : List Row
-  xs = rowsIn (roomAt 0 a)
+  xs = lefts a
 
   abbrev ys : List Row
-  ys = rowsIn (roomAt 642 a)
+  ys = rights a
 
   abbrev both : List Row
   both = join rowBefore xs ys
@@ -125,7 +119,7 @@ module _ (a : List ℕ) (rooms : Rooms a 0 642) where
     y : Row
     y = getD ys (j - 1) []
 
-    pub last-ready : (2 + 5 * i ≤ length now) × (0 < j) × (644 + 5 * j ≤ length now) × (0 < i → getD now (2 + 5 * (i - 1)) 0 ≤ 4) × (getD now (644 + 5 * (j - 1)) 0 ≤ 4)
+    pub last-ready : LastRows now i j
     unfolding rowWords
     last-ready =
         let c = counts in
@@ -133,13 +127,14 @@ module _ (a : List ℕ) (rooms : Rooms a 0 642) where
         let r = e .right in
         let s = e .size in
         let n = narrow-in (roomAt 0 a) in
-        let m = narrow-in (roomAt 642 a) in (
-          omega arith,
-          h,
-          omega arith,
-          λ k. omega (arith, five-width now (2 + 5 * (i - 1)), ap (λ (w : List ℕ). getD w 0 0) (e .mine k), all-at _ xs n (i - 1) [] (omega arith)),
-          omega (arith, five-width now (644 + 5 * (j - 1)), ap (λ (w : List ℕ). getD w 0 0) (e .theirs h), all-at _ ys m (j - 1) [] (omega arith)),
-        )
+        let m = narrow-in (roomAt 642 a) in
+        record {
+          some = h;
+          left-room = omega arith;
+          right-room = omega arith;
+          left-width = λ k. omega (arith, five-width now (2 + 5 * (i - 1)), ap (λ (w : List ℕ). getD w 0 0) (e .mine k), all-at _ xs n (i - 1) [] (omega arith));
+          right-width = omega (arith, five-width now (644 + 5 * (j - 1)), ap (λ (w : List ℕ). getD w 0 0) (e .theirs h), all-at _ ys m (j - 1) [] (omega arith));
+        }
 
     module _ (o : Order.Order) (said : o ≡ lastOrderFor i (rowIn (fiveAt now (2 + 5 * (i - 1)))) (rowIn (fiveAt now (644 + 5 * (j - 1))))) where
       mine-is : 0 < i → rowIn (fiveAt now (2 + 5 * (i - 1))) ≡ getD xs (i - 1) []

@@ -1,16 +1,17 @@
-// Union and difference of two sets in one area: the left at word 0, the right at word 642, the value left at word 0.
+// Union and difference of two sets in one area that holds nothing else: the left set in its first 642 words, the right one in the others. The value is left in the
+// left's place. All words past its last row stay, the right set's too; where it does not fit, all stay.
 ghost use mathlib.Core.Path.{_≡_};
 ghost use mathlib.Core.Bool.{true, false};
-ghost use Prim.Native.Nat.{_+_, _*_, _-_, _≤_, _<_};
-ghost use lib.ListN.{length, getD, take, drop};
+ghost use Prim.Native.Nat.{_+_, _*_, _-_, _≤_};
+ghost use lib.ListN.{length, getD, drop};
 ghost use Rattle.rows.specs.Ordered.{join};
 ghost use Rattle.rows.specs.Row.{rowBefore};
-ghost use Rattle.rows.specs.Sets.{only, mostRows, unite, subtract};
+ghost use Rattle.rows.specs.Sets.{mostRows, combined};
 ghost use lib.Dec.{leb};
-ghost use Rattle.rows.specs.Layout.{rowIn, fiveAt, laid, rowsIn, formed, setIn, setWords, soundSet, written, put};
+ghost use Rattle.rows.specs.Layout.{setRoom, rowIn, fiveAt, laid, rowsIn, formed, setIn, soundSet, written, put};
 ghost use Rattle.row_words.specs.Values.{rowIs};
-ghost use Rattle.set_algebra.specs.Combined.{leftBy, Combined};
-ghost use Rattle.set_algebra.specs.Private.{lastOrderFor, roomAt, Rooms, Passed, Sought, keeps, picked};
+ghost use Rattle.set_algebra.specs.Combined.{TwoSets, leftBy, Combined};
+ghost use Rattle.set_algebra.specs.Private.{LastRows, lastOrderFor, lefts, rights, Rooms, Passed, Sought, alike, picked, rest, strikeOut, Struck, Taken};
 use row_words::copy_down;
 use row_words::copy_up;
 use row_words::row::Order;
@@ -21,8 +22,16 @@ use row_words::wide;
 use rows::MOST_ROWS;
 use rows::SET_ROOM;
 
-// the right set lies behind the left one, its count after its form
+// What is lent: the left set's room, then the right one's.
+pub const TWO_ROOMS: usize = 2 * SET_ROOM;
+
+// the right set's count stands after its form, its rows after that
 const RIGHT_COUNT: usize = SET_ROOM + 1;
+
+const RIGHT_ROWS: usize = SET_ROOM + 2;
+
+// A row is struck out by a width that no row has, its own and this.
+const STROKE: u32 = 8;
 
 pub struct Reached {
     pub at: usize,
@@ -52,56 +61,55 @@ fn seek(set: &[u32], row: Row, start: usize) -> Reached
     }
 }
 
-// Is a row that was found among the other's, or not, one to keep?
-fn keeps(listed: bool, found: bool) -> bool
-    ensures { λ r. ⌜ r ≡ keeps listed found ⌝ }
+// Are both so, or neither?
+fn alike(one: bool, other: bool) -> bool
+    ensures { λ r. ⌜ r ≡ alike one other ⌝ }
 {
-    if listed {
-        return found;
+    if one {
+        return other;
     }
-    !found
+    !other
 }
 
-// Keeps those rows of the set at word `from` that the set at word `other` lists, or, with `listed` false, those that it does not.
-fn filter(area: &mut [u32], from: usize, other: usize, listed: bool)
-    requires { ⌜ Rooms (now area) from other ⌝ }
-    ensures { λ _. ⌜ now (area .exit) ≡ put from (setWords (formed (getD (now (area .entry)) from 0) (picked listed (rowsIn (roomAt from (now (area .entry)))) (rowsIn (roomAt other (now (area .entry))))))) (now (area .entry)) ⌝ }
+// Keeps those of the left's rows that the right lists or, with `listed` false, those that it does not.
+fn filter(area: &mut [u32], listed: bool)
+    requires { ⌜ Rooms (now area) 0 642 ⌝ }
+    ensures { λ _. ⌜ now (area .exit) ≡ written (formed (getD (now (area .entry)) 0 0) (picked listed (lefts (now (area .entry))) (rights (now (area .entry))))) (now (area .entry)) ⌝ }
 {
-    let end = other + SET_ROOM;
-    let count = wide(area[from + 1]);
+    let count = wide(area[1]);
     let mut i: usize = 0;
     let mut j: usize = 0;
     let mut kept: usize = 0;
     while i < count {
-        let at = from + 2 + 5 * i;
+        let at = 2 + 5 * i;
         let row = load(area, at);
-        let place = seek(&area[other..end], row, j);
+        let place = seek(&area[SET_ROOM..TWO_ROOMS], row, j);
         i += 1;
         j = place.at;
-        if keeps(listed, place.found) {
-            copy_down(area, at, from + 2 + 5 * kept, 5);
+        if alike(listed, place.found) {
+            copy_down(area, at, 2 + 5 * kept, 5);
             kept += 1;
         }
     }
-    area[from + 1] = kept as u32;
+    area[1] = kept as u32;
 }
 
 // Where the last of the left's first `i` rows stands to the last of the right's first `j`. Where the left has none left, the right's comes last.
 fn last(area: &[u32], i: usize, j: usize) -> Order
-    requires { ⌜ (2 + 5 * i ≤ length (now area)) × (0 < j) × (644 + 5 * j ≤ length (now area)) × (0 < i → getD (now area) (2 + 5 * (i - 1)) 0 ≤ 4) × (getD (now area) (644 + 5 * (j - 1)) 0 ≤ 4) ⌝ }
+    requires { ⌜ LastRows (now area) i j ⌝ }
     ensures { λ r. ⌜ r ≡ lastOrderFor i (rowIn (fiveAt (now (area .entry)) (2 + 5 * (i - 1)))) (rowIn (fiveAt (now (area .entry)) (644 + 5 * (j - 1)))) ⌝ }
 {
     if i == 0 {
         return Order::Before;
     }
     let row = load(area, 2 + 5 * (i - 1));
-    compare(row, area, 644 + 5 * (j - 1))
+    compare(row, area, RIGHT_ROWS + 5 * (j - 1))
 }
 
 // How many rows the two lists have together: from their ends, each row once.
 fn joint(area: &[u32]) -> usize
     requires { ⌜ Rooms (now area) 0 642 ⌝ }
-    ensures { λ r. ⌜ r ≡ length (join rowBefore (rowsIn (roomAt 0 (now (area .entry)))) (rowsIn (roomAt 642 (now (area .entry))))) ⌝ }
+    ensures { λ r. ⌜ r ≡ length (join rowBefore (lefts (now (area .entry))) (rights (now (area .entry)))) ⌝ }
 {
     let mut i = wide(area[1]);
     let mut j = wide(area[RIGHT_COUNT]);
@@ -113,7 +121,7 @@ fn joint(area: &[u32]) -> usize
             Order::Before => j -= 1,
             Order::Same => {
                 i -= 1;
-                j -= 1;
+                j -= 1; // counted once
             }
             Order::After => i -= 1,
         }
@@ -123,8 +131,8 @@ fn joint(area: &[u32]) -> usize
 
 // Merges the right's rows into the left's place, from the end: what is written there has been read.
 fn merge(area: &mut [u32], total: usize)
-    requires { ⌜ (Rooms (now area) 0 642) × (total ≡ length (join rowBefore (rowsIn (roomAt 0 (now area))) (rowsIn (roomAt 642 (now area))))) × (total ≤ 128) ⌝ }
-    ensures { λ _. ⌜ now (area .exit) ≡ put 2 (laid (join rowBefore (rowsIn (roomAt 0 (now (area .entry)))) (rowsIn (roomAt 642 (now (area .entry)))))) (now (area .entry)) ⌝ }
+    requires { ⌜ (Rooms (now area) 0 642) × (total ≡ length (join rowBefore (lefts (now area)) (rights (now area)))) × (total ≤ 128) ⌝ }
+    ensures { λ _. ⌜ now (area .exit) ≡ put 2 (laid (join rowBefore (lefts (now (area .entry))) (rights (now (area .entry))))) (now (area .entry)) ⌝ }
 {
     let mut i = wide(area[1]);
     let mut j = wide(area[RIGHT_COUNT]);
@@ -136,11 +144,11 @@ fn merge(area: &mut [u32], total: usize)
         match order {
             Order::Before => {
                 j -= 1;
-                copy_down(area, 644 + 5 * j, to, 5);
+                copy_down(area, RIGHT_ROWS + 5 * j, to, 5);
             }
             Order::Same => {
                 i -= 1;
-                j -= 1;
+                j -= 1; // written once
                 copy_up(area, 2 + 5 * i, to, 5);
             }
             Order::After => {
@@ -151,11 +159,11 @@ fn merge(area: &mut [u32], total: usize)
     }
 }
 
-// The left's and the right's rows listed together, in the left's form.
+// The left's and the right's rows listed together, in the left's form. They are counted before a word is written.
 fn join(area: &mut [u32]) -> bool
     requires { ⌜ Rooms (now area) 0 642 ⌝ }
-    ensures answer { λ r. ⌜ r ≡ leb (length (join rowBefore (rowsIn (roomAt 0 (now (area .entry)))) (rowsIn (roomAt 642 (now (area .entry)))))) mostRows ⌝ }
-    ensures words { λ r. ⌜ now (area .exit) ≡ leftBy r (formed (getD (now (area .entry)) 0 0) (join rowBefore (rowsIn (roomAt 0 (now (area .entry)))) (rowsIn (roomAt 642 (now (area .entry)))))) (now (area .entry)) ⌝ }
+    ensures answer { λ r. ⌜ r ≡ leb (length (join rowBefore (lefts (now (area .entry))) (rights (now (area .entry))))) mostRows ⌝ }
+    ensures words { λ r. ⌜ now (area .exit) ≡ leftBy r (formed (getD (now (area .entry)) 0 0) (join rowBefore (lefts (now (area .entry))) (rights (now (area .entry))))) (now (area .entry)) ⌝ }
 {
     let total = joint(area);
     if MOST_ROWS < total {
@@ -166,25 +174,69 @@ fn join(area: &mut [u32]) -> bool
     true
 }
 
-// Of the right's rows those that the left does not list, as a finite set at the front.
-fn keep_right(area: &mut [u32])
+// Strikes out those of the right's rows that the left lists.
+fn strike(area: &mut [u32])
     requires { ⌜ Rooms (now area) 0 642 ⌝ }
-    ensures { λ _. ⌜ take 642 (now (area .exit)) ≡ take 642 (written (only (picked false (rowsIn (roomAt 642 (now (area .entry)))) (rowsIn (roomAt 0 (now (area .entry)))))) (now (area .entry))) ⌝ }
+    ensures { λ _. ⌜ now (area .exit) ≡ strikeOut (now (area .entry)) ⌝ }
 {
-    filter(area, SET_ROOM, 0, false);
-    let end = 2 + 5 * wide(area[RIGHT_COUNT]);
-    copy_down(area, SET_ROOM, 0, end);
-    area[0] = 0;
+    let count = wide(area[RIGHT_COUNT]);
+    let mut i: usize = 0;
+    let mut j: usize = 0;
+    while i < count {
+        let at = RIGHT_ROWS + 5 * i;
+        let row = load(area, at);
+        let place = seek(&area[0..SET_ROOM], row, j);
+        i += 1;
+        j = place.at;
+        if place.found {
+            area[at] += STROKE;
+        }
+    }
 }
 
-// Difference, of both forms: "complement A minus complement B is B minus A". Says whether the value fits.
-pub fn subtract(area: &mut [u32]) -> bool
-    requires { ⌜ (1284 ≤ length (now area)) × (soundSet (now area) ≡ true) × (soundSet (drop 642 (now area)) ≡ true) ⌝ }
-    ensures { λ r. ⌜ Combined (subtract (setIn (now (area .entry))) (setIn (drop 642 (now (area .entry))))) (now (area .entry)) (now (area .exit)) r ⌝ }
+// Copies those of the right's rows that are not struck out into the left's place, and takes the strokes back. Says how many they are.
+fn take_rest(area: &mut [u32]) -> usize
+    requires { ⌜ Struck (now area) ⌝ }
+    ensures { λ r. ⌜ Taken (now (area .entry)) (now (area .exit)) r ⌝ }
+{
+    let count = wide(area[RIGHT_COUNT]);
+    let mut i: usize = 0;
+    let mut taken: usize = 0;
+    while i < count {
+        let at = RIGHT_ROWS + 5 * i;
+        let width = area[at];
+        i += 1;
+        if STROKE <= width {
+            area[at] = width - STROKE;
+        } else {
+            copy_down(area, at, 2 + 5 * taken, 5);
+            taken += 1;
+        }
+    }
+    taken
+}
+
+// The right's rows that the left does not list, in the left's place and in the other form. All are looked for before one is written over the left's.
+fn keep_right(area: &mut [u32])
+    requires { ⌜ Rooms (now area) 0 642 ⌝ }
+    ensures { λ _. ⌜ now (area .exit) ≡ written (formed (1 - getD (now (area .entry)) 0 0) (rest (now (area .entry)))) (now (area .entry)) ⌝ }
+{
+    strike(area);
+    let count = take_rest(area);
+    area[1] = count as u32;
+    area[0] = 1 - area[0];
+}
+
+// The union of the two sets or, with `minus`, their difference. Says whether the value fits.
+// Where the left is a complement in a union, or finite in a difference, its list only loses rows. Otherwise a finite right set's list joins it; and a complement's,
+// without the rows of the left's, takes its place and turns the form.
+pub fn combine(minus: bool, area: &mut [u32]) -> bool
+    requires { ⌜ TwoSets (now area) ⌝ }
+    ensures { λ r. ⌜ Combined (combined minus (setIn (now (area .entry))) (setIn (drop setRoom (now (area .entry))))) (now (area .entry)) (now (area .exit)) r ⌝ }
 {
     let complement = area[SET_ROOM] == 1;
-    if area[0] == 0 {
-        filter(area, 0, SET_ROOM, complement);
+    if !alike(minus, area[0] == 1) {
+        filter(area, complement);
         return true;
     }
     if complement {
@@ -192,15 +244,4 @@ pub fn subtract(area: &mut [u32]) -> bool
         return true;
     }
     join(area)
-}
-
-// Union: the complement of what is left of the left's complement.
-pub fn unite(area: &mut [u32]) -> bool
-    requires { ⌜ (1284 ≤ length (now area)) × (soundSet (now area) ≡ true) × (soundSet (drop 642 (now area)) ≡ true) ⌝ }
-    ensures { λ r. ⌜ Combined (unite (setIn (now (area .entry))) (setIn (drop 642 (now (area .entry))))) (now (area .entry)) (now (area .exit)) r ⌝ }
-{
-    area[0] = 1 - area[0];
-    let fits = subtract(area);
-    area[0] = 1 - area[0];
-    fits
 }

@@ -191,15 +191,3 @@ module _ (ws area : List ℕ) (e : soundSet ws ≡ true) where
 
   pub copy-end : (now : List ℕ) (i : ℕ) → Writing (setWords (setIn ws)) area 0 now i → length (setWords (setIn ws)) ≤ i → now ≡ written (setIn ws) area
   copy-end now i w h = writing-end (setWords (setIn ws)) area 0 now i w h ∙ written-put (setIn ws) area
-
--- ---- a set written where another stands, of the same form
-
-module _ (at : ℕ) (S : RowSet) (area : List ℕ) (room : at + 2 + length (laid (listing S)) ≤ length area) where
-  pub count-put : formWord S ≡ getD area at 0 → set (put (at + 2) (laid (listing S)) area) (at + 1) (length (listing S)) ≡ put at (setWords S) area
-  unfolding setWords
-  count-put e =
-      let ws : List ℕ = length (listing S) ∷ laid (listing S) in
-      let now : List ℕ = put (at + 1) (length (listing S) ∷ laid (listing S)) area in
-      let q : getD now at 0 ≡ formWord S = put-before (at + 1) ws area (omega arith) at (omega arith) ∙ sym e in
-      put-less (at + 2) (at + 1) (laid (listing S)) area (length (listing S)) (omega arith) room
-      ∙ sym (set-getD now at 0) ∙ ap (set now at) q ∙ put-less (at + 1) at ws area (formWord S) (omega arith) (omega arith)

@@ -213,7 +213,7 @@ pub +draw-rows+expr-has+read-absent+read-draw+read-expr+read-guards+read-two-spe
     (two.read-expr-requires-2 t)
     (λ c. search needs)
     (λ c. search needs)
-    (two.combine-requires t)
+    (two.combine-parts-requires t)
     (λ c. search needs)
     (two.returns t)
     (λ c. search needs)

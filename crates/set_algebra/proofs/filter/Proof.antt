@@ -2,70 +2,66 @@
 use Prim.Native.Nat.{_-_, _<_}
 use mathlib.Core.Path.{_≡_, sym, _∙_, ap}
 use mathlib.Core.Bool.{Bool}
-use mathlib.Core.List.{List, []}
+use mathlib.Core.List.{[]}
 use native.Mathlib.Omega.{arith}
 use lib.ListN.{length, getD, length-set}
 use Rattle.rows.specs.Ordered.{lists}
-use Rattle.rows.specs.Row.{Row, rowBefore}
-use Rattle.rows.specs.Layout.{rowsIn}
-use Rattle.set_algebra.specs.Private.{keeps, roomAt, Sought}
-use Rattle.set_algebra.proofs.Filtering.{Filtered, filter-start, filter-left, filter-kept, filter-end, Numbers, numbers, seek-ready, sought-here}
+use Rattle.rows.specs.Row.{rowBefore}
+use Rattle.set_algebra.specs.Private.{alike, lefts, rights, Sought}
+use Rattle.set_algebra.proofs.Walking.{seek-ready, sought-here}
+use Rattle.set_algebra.proofs.Filtering.{Filtered, filter-start, filter-left, filter-kept, filter-end, others-kept, row-here, Numbers, numbers}
 use borrow.Author.Needs.{needs}
 use Rattle.set_algebra.proofs.filter.Statement.{statement}
 use Rattle.set_algebra.proofs.filter.Tie as tie
 
 abbrev Inv-loop : tie.InvT-loop
-Inv-loop area₀ from other listed end count i₀ j₀ kept₀ area i j kept = Filtered area₀ from other listed area i j kept
+Inv-loop area₀ listed count i₀ j₀ kept₀ area i j kept = Filtered area₀ listed area i j kept
 
 abbrev μ-loop : tie.MeasureT-loop
-μ-loop area₀ from other listed end count i₀ j₀ kept₀ area i j kept = count - i
+μ-loop area₀ listed count i₀ j₀ kept₀ area i j kept = count - i
 
 -- ---- places
 
 abbrev entry : tie.At-loop Inv-loop μ-loop → tie.Start Inv-loop μ-loop
 entry l = l .before .before .before .before
 
-abbrev mine : tie.At-loop Inv-loop μ-loop → List Row
-mine l = rowsIn (roomAt (entry l .args .from) (entry l .args .area .now))
+bounds : (l : tie.At-loop Inv-loop μ-loop) → Numbers (entry l .args .area .now) (entry l .args .listed) (entry l .pre) (l .loop .area) (l .loop .i) (l .loop .j) (l .loop .kept) (l .loop .inv)
+bounds l = numbers (entry l .args .area .now) (entry l .args .listed) (entry l .pre) _ _ _ _ (l .loop .inv)
 
-abbrev theirs : tie.At-loop Inv-loop μ-loop → List Row
-theirs l = rowsIn (roomAt (entry l .args .other) (entry l .args .area .now))
-
-bounds : (l : tie.At-loop Inv-loop μ-loop) →
-    Numbers (entry l .args .area .now) (entry l .args .from) (entry l .args .other) (entry l .args .listed) (entry l .pre) (l .loop .area) (l .loop .i) (l .loop .j) (l .loop .kept) (l .loop .inv)
-bounds l = numbers (entry l .args .area .now) (entry l .args .from) (entry l .args .other) (entry l .args .listed) (entry l .pre) _ _ _ _ (l .loop .inv)
-
-less : (c : tie.In-loop Inv-loop μ-loop) → c .before .loop .i < length (mine (c .before))
+less : (c : tie.In-loop Inv-loop μ-loop) → c .before .loop .i < length (lefts (entry (c .before) .args .area .now))
 less c = let n = bounds (c .before) in omega arith
 
-abbrev turn : tie.After-keeps Inv-loop μ-loop → tie.In-loop Inv-loop μ-loop
+abbrev turn : tie.After-alike Inv-loop μ-loop → tie.In-loop Inv-loop μ-loop
 turn k = k .before .before .before .before .before .before
 
--- the row of this turn, looked for among the others
-sought : (k : tie.After-keeps Inv-loop μ-loop) → Sought (theirs (turn k .before)) (getD (mine (turn k .before)) (turn k .before .loop .i) []) (k .before .seek .result)
+-- the row of this turn, looked for among the right's
+sought : (k : tie.After-alike Inv-loop μ-loop) → Sought (rights (entry (turn k .before) .args .area .now)) (getD (lefts (entry (turn k .before) .args .area .now)) (turn k .before .loop .i) []) (k .before .seek .result)
 sought k =
     let l = turn k .before in
     let a = entry l .args in
     let load = k .before .before .before .before in
-    sought-here (a .area .now) (a .from) (a .other) (a .listed) (entry l .pre) _ _ _ _ (l .loop .inv) _ (less (turn k)) (load .load .ensures) _ (k .before .seek .ensures)
+    sought-here (entry l .pre) _ (l .loop .inv .walk) (less (turn k)) (others-kept (a .area .now) (a .listed) (entry l .pre) _ _ _ _ (l .loop .inv))
+    (row-here (a .area .now) (a .listed) (entry l .pre) _ _ _ _ (l .loop .inv) (less (turn k))) _ (load .load .ensures) (k .before .seek .ensures)
 
-asked : (k : tie.After-keeps Inv-loop μ-loop) →
-    keeps (entry (turn k .before) .args .listed) (lists rowBefore (theirs (turn k .before)) (getD (mine (turn k .before)) (turn k .before .loop .i) [])) ≡ k .keeps .result
-asked k = ap (λ (q : Bool). keeps (entry (turn k .before) .args .listed) q) (sym (sought k .found)) ∙ sym (k .keeps .ensures)
+asked : (k : tie.After-alike Inv-loop μ-loop) →
+    alike (entry (turn k .before) .args .listed) (lists rowBefore (rights (entry (turn k .before) .args .area .now)) (getD (lefts (entry (turn k .before) .args .area .now)) (turn k .before .loop .i) [])) ≡ k .alike .result
+asked k = ap (λ (q : Bool). alike (entry (turn k .before) .args .listed) q) (sym (sought k .found)) ∙ sym (k .alike .ensures)
 
 -- ---- before the loop
 
+slice-read-wide : tie.Need-slice-read-wide Inv-loop μ-loop
+slice-read-wide c = let r = c .before .before .pre .other-room in omega arith
+
 loop-holds : tie.Need-loop-holds Inv-loop μ-loop
-loop-holds c =
-    let a = c .before .before .before .args in filter-start (a .area .now) (a .from) (a .other) (a .listed)
+loop-holds c = let a = c .before .before .before .args in filter-start (a .area .now) (a .listed)
 
 -- ---- a row is looked for
 
 mul-at : tie.Need-mul-at Inv-loop μ-loop
 mul-at c = let n = bounds (c .before) in omega arith
 
-add-at-2 : tie.Need-add-at-2 Inv-loop μ-loop
-add-at-2 c = let n = bounds (c .before) in omega arith
+add-at : tie.Need-add-at Inv-loop μ-loop
+add-at c = let n = bounds (c .before) in omega arith
 
 load-requires : tie.Need-load-requires Inv-loop μ-loop
 load-requires c κs = let n = bounds (c .before .before) in omega arith
@@ -79,15 +75,16 @@ seek-requires c κs =
     let t = load .before .before in
     let l = t .before in
     let a = entry l .args in
-    seek-ready (a .area .now) (a .from) (a .other) (a .listed) (entry l .pre) _ _ _ _ (l .loop .inv) _ (less t) (load .load .ensures)
+    seek-ready (entry l .pre) _ (l .loop .inv .walk) (less t) (others-kept (a .area .now) (a .listed) (entry l .pre) _ _ _ _ (l .loop .inv))
+    (row-here (a .area .now) (a .listed) (entry l .pre) _ _ _ _ (l .loop .inv) (less t)) _ (load .load .ensures)
 
 -- ---- a row is kept
 
 mul-copy-down : tie.Need-mul-copy-down Inv-loop μ-loop
 mul-copy-down c = let n = bounds (turn (c .before .before) .before) in omega arith
 
-add-copy-down-2 : tie.Need-add-copy-down-2 Inv-loop μ-loop
-add-copy-down-2 c = let n = bounds (turn (c .before .before) .before) in omega arith
+add-copy-down : tie.Need-add-copy-down Inv-loop μ-loop
+add-copy-down c = let n = bounds (turn (c .before .before) .before) in omega arith
 
 copy-down-requires : tie.Need-copy-down-requires Inv-loop μ-loop
 copy-down-requires c κs = let n = bounds (turn (c .before .before) .before) in (omega arith, omega arith)
@@ -102,8 +99,7 @@ loop-again c =
     let k = keep .before in
     let l = turn k .before in
     let a = entry l .args in
-    filter-kept (a .area .now) (a .from) (a .other) (a .listed) (entry l .pre) _ _ _ _ (l .loop .inv) _ (less (turn k)) (sought k .passed) (asked k ∙ keep .if1 .taken)
-    _ (copied .copy-down .kept .0) (copied .copy-down .ensures)
+    filter-kept (a .area .now) (a .listed) (entry l .pre) _ _ _ _ (l .loop .inv) (less (turn k)) (sought k .passed) (asked k ∙ keep .if1 .taken) _ (copied .copy-down .kept .0) (copied .copy-down .ensures)
 
 -- ---- a row is left out
 
@@ -112,7 +108,7 @@ loop-again-2 c =
     let k = c .before in
     let l = turn k .before in
     let a = entry l .args in
-    filter-left (a .area .now) (a .from) (a .other) (a .listed) (entry l .pre) _ _ _ _ (l .loop .inv) _ (less (turn k)) (sought k .passed) (asked k ∙ c .if1 .left)
+    filter-left (a .area .now) (a .listed) (entry l .pre) _ _ _ _ (l .loop .inv) (less (turn k)) (sought k .passed) (asked k ∙ c .if1 .left)
 
 -- ---- after the loop
 
@@ -130,7 +126,7 @@ returns c =
     let l = c .before in
     let a = entry l .args in
     let n = bounds l in
-    filter-end (a .area .now) (a .from) (a .other) (a .listed) (entry l .pre) _ _ _ _ (l .loop .inv) (omega arith)
+    filter-end (a .area .now) (a .listed) (entry l .pre) _ _ _ _ (l .loop .inv) (omega arith)
 
 pub filter-spec : {M : Type 1} → statement M
 filter-spec =
@@ -138,26 +134,20 @@ filter-spec =
     (tie.spec
     Inv-loop
     μ-loop
-    (λ c. search needs)
-    (λ c. search needs)
-    (λ c. search needs)
-    (λ c. search needs)
+    slice-read-wide
     (λ c κs. search needs)
     loop-holds
-    (λ c. search needs)
     mul-at
-    add-at-2
+    add-at
     load-requires
-    (λ c. search needs)
     (λ c. search needs)
     (λ c. search needs)
     part-seek-end
     seek-requires
     (λ c. search needs)
     (λ c κs. search needs)
-    (λ c. search needs)
     mul-copy-down
-    add-copy-down-2
+    add-copy-down
     copy-down-requires
     add-kept
     (λ c. search needs)
@@ -165,8 +155,6 @@ filter-spec =
     (λ c. search needs)
     loop-again-2
     cast-area
-    (λ c. search needs)
-    (λ c. search needs)
     slice-write-area
     same-length
     returns)

@@ -1,81 +1,68 @@
--- Filtered where it stands, then copied down.
-use Prim.Native.Nat.{ℕ, _+_, _*_, _≤_}
-use mathlib.Core.Path.{_≡_, _∙_, ap}
-use mathlib.Core.Bool.{false}
-use mathlib.Core.List.{List}
+-- Struck out, taken, and the header written.
+use mathlib.Core.Path.{_≡_}
 use native.Mathlib.Omega.{arith}
-use lib.ListN.{length, getD, length-set}
-use Rattle.rows.specs.Row.{Row}
-use Rattle.rows.specs.Layout.{rowsIn}
-use Rattle.set_algebra.specs.Private.{roomAt, picked}
-use Rattle.set_algebra.proofs.Combining.{turned, right-count, right-numbers, right-words}
-use borrow.Author.Needs.{needs}
+use lib.ListN.{length, length-set}
+use Rattle.rows.specs.Layout.{laid, put}
+use Rattle.set_algebra.specs.Private.{rest}
+use Rattle.set_algebra.proofs.Combining.{RestNumbers, rest-numbers, rest-words}
 use Rattle.set_algebra.proofs.keep_right.Statement.{statement}
 use Rattle.set_algebra.proofs.keep_right.Tie as tie
 
 -- ---- places
 
-abbrev entry : tie.After-filter → tie.Start
-entry f = f .before .before .before
+abbrev entry : tie.After-take-rest → tie.Start
+entry t = t .before .before .before .before .before .before .before
 
-abbrev rest : tie.After-filter → List Row
-rest f = picked false (rowsIn (roomAt 642 (entry f .args .area .now))) (rowsIn (roomAt 0 (entry f .args .area .now)))
+taken : (t : tie.After-take-rest) → t .take-rest .last .0 ≡ put 2 (laid (rest (entry t .args .area .now))) (entry t .args .area .now)
+taken t = t .take-rest .ensures .words (entry t .args .area .now) (entry t .pre) (t .before .before .before .before .strike .ensures)
 
-numbers : (f : tie.After-filter) → (length (rest f) ≤ 128) × (length (f .filter .last .0) ≡ length (entry f .args .area .now)) × (1284 ≤ length (entry f .args .area .now))
-numbers f = right-numbers (entry f .args .area .now) (entry f .pre) _ (f .filter .ensures)
+count : (t : tie.After-take-rest) → t .take-rest .result ≡ length (rest (entry t .args .area .now))
+count t = t .take-rest .ensures .count (entry t .args .area .now) (entry t .pre) (t .before .before .before .before .strike .ensures)
 
-count : (f : tie.After-filter) → getD (f .filter .last .0) 643 0 ≡ length (rest f)
-count f = right-count (entry f .args .area .now) (entry f .pre) _ (f .filter .ensures)
+numbers : (t : tie.After-take-rest) → RestNumbers (entry t .args .area .now) (entry t .pre) (t .take-rest .last .0)
+numbers t = rest-numbers (entry t .args .area .now) (entry t .pre) _ (taken t)
 
-abbrev filtered : tie.After-wide → tie.After-filter
-filtered c = c .before .before .before .before
+-- ---- its parts
 
--- ---- filtered where it stands
+take-rest-requires : tie.Need-take-rest-requires
+take-rest-requires c κs =
+    let struck = c .before .before .before in
+    let start = struck .before .before .before in
+    record { before = start .args .area .now; rooms = start .pre; words = struck .strike .ensures }
 
-filter-requires : tie.Need-filter-requires
-filter-requires c κs = turned _ (c .before .before .pre)
-
-slice-read-wide : tie.Need-slice-read-wide
-slice-read-wide c = let n = numbers (c .before .before .before) in omega arith
-
--- ---- copied down
-
-mul-end : tie.Need-mul-end
-mul-end c = let n = numbers (filtered c) in let m = count (filtered c) in omega arith
-
-add-end : tie.Need-add-end
-add-end c = let n = numbers (filtered c) in let m = count (filtered c) in omega arith
-
-copy-down-requires : tie.Need-copy-down-requires
-copy-down-requires c κs = let n = numbers (filtered (c .before)) in let m = count (filtered (c .before)) in (omega arith, omega arith)
+cast-area : tie.Need-cast-area
+cast-area c = let n = numbers (c .before .before) in let k = count (c .before .before) in omega arith
 
 slice-write-area : tie.Need-slice-write-area
-slice-write-area c =
-    let copied = c .before .before in
-    let n = numbers (filtered (copied .before .before)) in
-    let k = copied .copy-down .kept in
-    omega arith
+slice-write-area c = let n = numbers (c .before .before) in omega arith
+
+slice-read-area : tie.Need-slice-read-area
+slice-read-area c = let n = numbers (c .before .before .before) in simp length-set (omega arith)
+
+sub-area : tie.Need-sub-area
+sub-area c = let n = numbers (c .before .before .before) in omega (arith, n .form-now (c .before .before .before .take-rest .result))
+
+slice-write-area-2 : tie.Need-slice-write-area-2
+slice-write-area-2 c = let n = numbers (c .before .before .before) in simp length-set (omega arith)
 
 same-length : tie.Need-same-length
-same-length c = simp length-set (search needs)
+same-length c = let n = numbers (c .before .before .before) in simp length-set (n .size)
 
 returns : tie.Need-returns
 returns c =
-    let copied = c .before .before in
-    let wide = copied .before .before in
-    let f = filtered wide in
-    right-words (entry f .args .area .now) (entry f .pre) _ (f .filter .ensures) _ _ (ap (λ (n : ℕ). 2 + 5 * n) (wide .wide .ensures ∙ count f)) (copied .copy-down .ensures)
+    let t = c .before .before .before in
+    rest-words (entry t .args .area .now) (entry t .pre) _ _ (taken t) (count t)
 
 pub keep-right-spec : {M : Type 1} → statement M
 keep-right-spec =
     tie.close
     (tie.spec
-    filter-requires
-    slice-read-wide
-    (λ c κs. search needs)
-    mul-end
-    add-end
-    copy-down-requires
+    (λ c κs. c .before .before .pre)
+    take-rest-requires
+    cast-area
     slice-write-area
+    slice-read-area
+    sub-area
+    slice-write-area-2
     same-length
     returns)

@@ -23,8 +23,11 @@ compare-requires : tie.Need-compare-requires
 compare-requires c κs =
     let a = c .before .before .before .args in
     let n = c .before .if1 .left in
-    let w = c .before .before .before .pre .3 (omega arith) in
-    (omega arith, omega (arith, loaded-width _ (a .area .now) (2 + 5 * (a .i - 1)) (c .load .ensures)), c .before .before .before .pre .4)
+    let p = c .before .before .before .pre in
+    let r = p .right-room in
+    let s = p .some in
+    let w = p .left-width (omega arith) in
+    (omega arith, omega (arith, loaded-width _ (a .area .now) (2 + 5 * (a .i - 1)) (c .load .ensures)), p .right-width)
 
 returns-2 : tie.Need-returns-2
 returns-2 c =

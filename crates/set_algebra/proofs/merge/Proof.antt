@@ -5,7 +5,8 @@ use native.Mathlib.Omega.{arith}
 use lib.ListN.{length}
 use Rattle.rows.specs.Ordered.{join}
 use Rattle.rows.specs.Row.{rowBefore}
-use Rattle.set_algebra.proofs.Merging.{lefts, rights, Merging, Ends, Counts, counts, Places, places, last-ready, same-some, after-some, merging-start, merging-ends, merging-right, merging-both, merging-left, merging-end}
+use Rattle.set_algebra.specs.Private.{lefts, rights}
+use Rattle.set_algebra.proofs.Merging.{Merging, Ends, Counts, counts, Places, places, last-ready, same-some, after-some, merging-start, merging-ends, merging-right, merging-both, merging-left, merging-end}
 use borrow.Author.Needs.{needs}
 use Rattle.set_algebra.proofs.merge.Statement.{statement}
 use Rattle.set_algebra.proofs.merge.Tie as tie

@@ -31,7 +31,7 @@ use Rattle.read_leaves.proofs.leaf_has.Reads as leaf-has-reads
 use Rattle.read_leaves.proofs.read_leaf.Reads as read-leaf-reads
 use Rattle.policy.proofs.is_node.Reads as is-node-reads
 use Rattle.sets.proofs.clear.Reads as clear-reads
-use Rattle.read_steps.proofs.combine.Reads as combine-reads
+use Rattle.read_steps.proofs.combine_parts.Reads as combine-parts-reads
 use Rattle.read_steps.proofs.draw_next.Reads as draw-next-reads
 use Rattle.read_steps.proofs.has_row.Reads as has-row-reads
 use Rattle.read_steps.proofs.insert_head.Reads as insert-head-reads
@@ -146,4 +146,4 @@ read-guards-claims t =
 -- what `read_two` knows of the functions that it calls
 abbrev pub read-two-claims : ℕ → read-two-lts.Claims
 read-two-claims t =
-    (read-expr-below t, read-expr.Post, skip-expr-reads.Asked, skip-expr-reads.Learnt, combine-reads.Asked, combine-reads.Learnt)
+    (read-expr-below t, read-expr.Post, skip-expr-reads.Asked, skip-expr-reads.Learnt, combine-parts-reads.Asked, combine-parts-reads.Learnt)

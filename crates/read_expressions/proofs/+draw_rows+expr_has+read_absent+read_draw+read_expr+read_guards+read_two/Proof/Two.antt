@@ -43,8 +43,8 @@ read-expr-requires-2 t c κs =
           (c .before .before .before .before .before .before .before .before .read-expr .ensures .unchanged) (c .before .before .before .before .before .before .before .before .read-expr .kept .1 .1 .1 .1 .1 .0),
     )
 
-pub combine-requires : (t : ℕ) → read-two-lts.Need-combine-requires (read-two-claims t) (read-two-at t) read-two.Post
-combine-requires t c κs =
+pub combine-parts-requires : (t : ℕ) → read-two-lts.Need-combine-parts-requires (read-two-claims t) (read-two-at t) read-two.Post
+combine-parts-requires t c κs =
     both-filled (left-read t (c .before .before .before .before .before .before) .read-expr .ensures) (c .before .before .before .before .before .before .before .before .before .before .before .used .given .1)
     (c .before .before .before .before .before .before .before .before .before .skip-expr .ensures) (c .before .before .before .before .before .before .read-expr2 .ensures) (c .before .before .total .given .1)
     (left-room t (left-read t (c .before .before .before .before .before .before))) (c .before .before .before .before .before .before .read-expr2 .kept .1 .1 .1 .1 .1 .0)
@@ -63,4 +63,4 @@ returns-3 t c =
     (c .before .before .before .before .before .before .before .before .before .before .before .before .skip-expr .ensures) (c .before .before .before .before .before .before .before .before .before .read-expr2 .ensures)
     (c .before .before .before .before .before .total .given .1)
     (left-room t (left-read t (c .before .before .before .before .before .before .before .before .before))) (c .before .before .before .before .before .before .before .before .before .read-expr2 .kept .1 .1 .1 .1 .1 .0)
-    (c .before .before .combine .ensures)
+    (c .before .before .combine-parts .ensures)
