@@ -3,8 +3,10 @@
 //! Behind a test of the store they make each draw, as document 01 asks of the engine. The free ones are the quickest way to the same rows: the store is
 //! trusted, and no draw is made that is not needed. Where both are the same program, it stands here once.
 
-use crate::tasks::{Asked, Record, ARCHIVE, COMPROMISED, LEFT, OBSERVATORY, RELEASED, RIGHT, SMALL, TRUSTED, WITHDRAWN};
+use crate::tasks::{Asked, Record, ARCHIVE, COMPROMISED, LEFT, OBSERVATORIES, OBSERVATORY, RELEASED, RIGHT, SMALL, TRUSTED, WITHDRAWN};
+use std::cmp::Ordering;
 use std::hint::black_box;
+use std::iter::from_fn;
 use txindurbe::sizes::{CERTIFICATE_WORDS, MOST_CERTIFICATES, MOST_ROWS, ROW_WORDS, STORE_WORDS};
 
 type RowWords = [u32; ROW_WORDS];
@@ -194,6 +196,39 @@ pub fn vetted_delegation(asked: &Asked, answer: &mut [u32]) -> Option<u32> {
     }
     sorted(observations, answer);
     Some(draws)
+}
+
+/// The order of rows, where the first atom mostly decides; behind it stand the other ones and the width.
+fn row_order(a: &Record, b: &Record) -> Ordering {
+    a[4].cmp(&b[4]).then_with(|| packed(a)[2..].cmp(&packed(b)[2..]))
+}
+
+/// The rows of both, in order as both are, equal ones once.
+fn united<'a>(mut left: impl Iterator<Item = &'a Record>, mut right: impl Iterator<Item = &'a Record>) -> impl Iterator<Item = &'a Record> {
+    let (mut l, mut r) = (left.next(), right.next());
+    from_fn(move || {
+        let order = match (l, r) {
+            (Some(l), Some(r)) => row_order(l, r),
+            (Some(_), None) => Ordering::Less,
+            (None, _) => Ordering::Greater,
+        };
+        let least = if order.is_le() { l } else { r };
+        if order.is_le() {
+            l = left.next();
+        }
+        if order.is_ge() {
+            r = right.next();
+        }
+        least
+    })
+}
+
+/// No list is made on the way: each row goes straight into the answer.
+pub fn unions(asked: &Asked, answer: &mut [u32]) -> Option<u32> {
+    let released = |observatory| rows_of_name(asked, observatory, RELEASED, 0).map(<[Record]>::iter);
+    let [first, second, third, fourth] = OBSERVATORIES.map(released);
+    lay_out(united(united(first?, second?), united(third?, fourth?)).map(row), answer);
+    Some(0)
 }
 
 fn left_and_right(asked: &Asked) -> Option<[&[Record]; 2]> {

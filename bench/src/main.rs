@@ -1,4 +1,4 @@
-//! The library beside a straightforward evaluator, hand-tuned programs and SQLite, on eleven tasks.
+//! The library beside a straightforward evaluator, hand-tuned programs and SQLite, on twelve tasks.
 //!
 //!     cargo run --release --offline [-- ROUNDS]
 //!     cargo run --release --offline -- --check
@@ -190,9 +190,14 @@ fn rewriting_task(policy: &[u32]) -> Task {
     Task { name: "k: an external policy of 16 definitions rewritten, 8,177 words", draws: 0, contestants }
 }
 
+fn unions_task(unions: &Certificates) -> Task {
+    let asked = Asked { policy: tasks::unions_policy(), query: tasks::unions_query(), store: tasks::store_of(unions) };
+    query_task("l: union of two names and a definition of 40 rows each, nested three deep", asked, 0, hand::unions, hand::unions)
+}
+
 fn tasks() -> Vec<Task> {
     let (certificates, delegations, observations) = (tasks::certificates(), tasks::delegations(), tasks::observations());
-    let vetted_delegations = tasks::vetted_delegations();
+    let (vetted_delegations, unions) = (tasks::vetted_delegations(), tasks::unions());
     let filed = tasks::in_random_order(&certificates);
     let asked = |policy: &[u32], query: Vec<u32>| Asked { policy: policy.to_vec(), query, store: tasks::store_of(&certificates) };
     let alone = |query: Vec<u32>| asked(tasks::EMPTY_POLICY, query);
@@ -244,38 +249,43 @@ fn tasks() -> Vec<Task> {
             hand::vetted_delegation,
         ),
         rewriting_task(&tasks::long_external_policy()),
+        unions_task(&unions),
     ];
-    for (task, run) in tasks.iter_mut().zip(sqlite_runs([&certificates, &delegations, &observations, &vetted_delegations], filed)) {
-        task.contestants.push(Contestant { name: SQLITE, run });
+    let stores = [&certificates, &delegations, &observations, &vetted_delegations, &unions];
+    for (task, run) in tasks.iter_mut().zip(sqlite_runs(stores, filed)) {
+        task.contestants.extend(run.map(|run| Contestant { name: SQLITE, run }));
     }
     tasks
 }
 
-/// In the order of the tasks, of which the last has none. The databases live as long as the program.
+/// In the order of the tasks, none for rewriting. The databases live as long as the program.
 #[cfg(sqlite)]
-fn sqlite_runs(stores: [&Certificates; 4], filed: Vec<Record>) -> [Run; 10] {
+fn sqlite_runs(stores: [&Certificates; 5], filed: Vec<Record>) -> [Option<Run>; 12] {
     let kept = |database: Database| -> &'static Database { Box::leak(Box::new(database)) };
-    let [held, delegations, observations, vetted_delegations] = stores.map(|certificates| kept(Database::holding(tasks::words_of(certificates))));
+    let stores = stores.map(|certificates| kept(Database::holding(tasks::words_of(certificates))));
+    let [held, delegations, observations, vetted_delegations, unions] = stores;
     let (empty, literals) = (kept(Database::holding([])), kept(Database::of_literals()));
     held.hold("embargoed", tasks::embargoed());
-    let answered = |mut statement: Statement<'static>, columns| -> Run { Box::new(move || Some(statement.run(&[], columns))) };
+    let answered = |mut statement: Statement<'static>, columns| -> Option<Run> { Some(Box::new(move || Some(statement.run(&[], columns)))) };
     let (mut insert, mut transaction) = (empty.insert(), empty.transaction());
     [
         answered(held.public(), 1),
         answered(held.join(), 2),
         answered(literals.draws_constant(), 1),
-        Box::new(move || Some(empty.file_all(&mut insert, &mut transaction, &filed))),
+        Some(Box::new(move || Some(empty.file_all(&mut insert, &mut transaction, &filed)))),
         answered(held.small(), 4),
         answered(literals.draws_last(), 1),
         answered(delegations.delegation(), 1),
         answered(held.embargo(), 1),
         answered(observations.small(), 4),
         answered(vetted_delegations.vetted_delegation(), 1),
+        None,
+        answered(unions.unions(), 1),
     ]
 }
 
 #[cfg(not(sqlite))]
-fn sqlite_runs(_: [&Certificates; 4], _: Vec<Record>) -> [Run; 0] {
+fn sqlite_runs(_: [&Certificates; 5], _: Vec<Record>) -> [Option<Run>; 0] {
     []
 }
 
@@ -391,6 +401,15 @@ mod tests {
         let lengths: Vec<u64> = task.contestants.iter_mut().filter_map(|contestant| (contestant.run)()).map(|outcome| outcome.rows).collect();
         assert_eq!(lengths, [8_177; 4]);
         assert!(task.name.contains("8,177"));
+    }
+
+    #[test]
+    fn the_united_lists_have_the_rows_that_their_task_says() {
+        let mut task = unions_task(&tasks::unions());
+        let found = Outcome { rows: 120, sum: (0..120).sum(), draws: Some(0) };
+        for contestant in &mut task.contestants {
+            assert_eq!((contestant.run)(), Some(found), "{}", contestant.name);
+        }
     }
 
     #[test]

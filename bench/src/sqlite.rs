@@ -1,6 +1,6 @@
 //! As much of SQLite's C interface as the tasks need, and the tasks as SQL: in memory, indexed by the primary key, prepared once.
 
-use crate::tasks::{Record, ARCHIVE, COMPROMISED, LEFT, OBSERVATORY, RELEASED, RIGHT, SIZES, SMALL, TRUSTED, WITHDRAWN};
+use crate::tasks::{Record, ARCHIVE, COMPROMISED, LEFT, OBSERVATORIES, OBSERVATORY, RELEASED, RIGHT, SIZES, SMALL, TRUSTED, WITHDRAWN};
 use crate::Outcome;
 use std::ffi::{c_char, c_int, c_void, CStr, CString};
 use std::fmt::Display;
@@ -151,6 +151,12 @@ impl Database {
         self.prepare(&format!(
             "SELECT r.a FROM certificate r WHERE {released} AND NOT EXISTS (SELECT 1 FROM embargoed WHERE embargoed.n = r.a) ORDER BY r.a"
         ))
+    }
+
+    /// The lists have rows of one atom alone.
+    pub fn unions(&self) -> Statement<'_> {
+        let released = OBSERVATORIES.map(|observatory| format!("SELECT r.a FROM certificate r WHERE {}", of_name("r", observatory, RELEASED, 0, 1)));
+        self.prepare(&format!("{} ORDER BY 1", released.join(" UNION ")))
     }
 
     pub fn join(&self) -> Statement<'_> {

@@ -20,6 +20,8 @@ pub const SMALL: u32 = 5;
 pub const TRUSTED: u32 = 6;
 /// The archive's list, −, of compromised keys; also the name that an external policy has for them.
 pub const COMPROMISED: u32 = 0;
+/// The observatories whose released lists are united.
+pub const OBSERVATORIES: [u32; 4] = [OBSERVATORY, key(2), key(3), key(4)];
 
 /// A certificate's words.
 pub type Record = [u32; CERTIFICATE_WORDS];
@@ -111,6 +113,22 @@ pub fn vetted_policy() -> Vec<u32> {
 
 pub const VETTED_QUERY: &[u32] = &[3, 1];
 
+fn released(key: u32) -> Vec<u32> {
+    vec![4, 0, key, RELEASED, 0]
+}
+
+/// The last two lists, united by the one definition.
+pub fn unions_policy() -> Vec<u32> {
+    let [.., third, fourth] = OBSERVATORIES.map(released);
+    assemble(&[(10, 0, united(&[third, fourth]))])
+}
+
+/// The first list, united with the second united with the definition.
+pub fn unions_query() -> Vec<u32> {
+    let [first, second, ..] = OBSERVATORIES.map(released);
+    united(&[first, second, vec![3, 0]])
+}
+
 /// An external policy of 16 definitions: 128 compromised keys, then 15 times a delegation united with 70 lists. Its output has 66 words of table, 386 of
 /// definition 0 and 15 times 1 + 25 + 489.
 pub fn long_external_policy() -> Vec<u32> {
@@ -158,6 +176,15 @@ pub fn delegations() -> Certificates {
 pub fn vetted_delegations() -> Certificates {
     let mut all = delegations();
     all.extend((0..=30).map(|n| certificate(ARCHIVE, COMPROMISED, 1, &[key(n)])));
+    all
+}
+
+/// 130 certificates: released lists of 40, 40, 25 and 25 rows that interleave, 10 of them in both of the last two.
+pub fn unions() -> Certificates {
+    let mut all = BTreeSet::new();
+    for (observatory, (least, places)) in OBSERVATORIES.into_iter().zip([(0, 0..40), (1, 0..40), (2, 0..25), (2, 15..40)]) {
+        all.extend(places.map(|n| certificate(observatory, RELEASED, 0, &[3 * n + least])));
+    }
     all
 }
 
