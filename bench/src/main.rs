@@ -24,7 +24,7 @@ use std::rc::Rc;
 use tasks::{Asked, Certificates, Record};
 use txindurbe::sizes::{ANSWER_WORDS, DEFINITIONS_WORDS, POLICY_WORDS, ROW_WORDS, SCRATCH_WORDS, STORE_WORDS};
 
-/// What a run found: how many rows, and the sum of their atoms.
+/// What a run found: how many rows, and the sum of their atoms, each row's times its place, so that another order is noticed.
 #[derive(Clone, Copy, PartialEq, Eq, Debug, Default)]
 pub struct Outcome {
     pub rows: u64,
@@ -37,7 +37,7 @@ impl Outcome {
     /// Of a finite answer.
     fn of(answer: &[u32], draws: u32) -> Outcome {
         let rows = answer[2..].chunks_exact(ROW_WORDS).take(answer[1] as usize);
-        let sum = rows.flat_map(|row| &row[1..]).map(|&atom| u64::from(atom)).sum();
+        let sum = rows.zip(1..).map(|(row, place)| place * row[1..].iter().map(|&atom| u64::from(atom)).sum::<u64>()).sum();
         Outcome { rows: answer[1].into(), sum, draws: Some(draws) }
     }
 }
@@ -406,7 +406,7 @@ mod tests {
     #[test]
     fn the_united_lists_have_the_rows_that_their_task_says() {
         let mut task = unions_task(&tasks::unions());
-        let found = Outcome { rows: 120, sum: (0..120).sum(), draws: Some(0) };
+        let found = Outcome { rows: 120, sum: (0..120).map(|n| (n + 1) * n).sum(), draws: Some(0) };
         for contestant in &mut task.contestants {
             assert_eq!((contestant.run)(), Some(found), "{}", contestant.name);
         }

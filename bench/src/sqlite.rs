@@ -193,7 +193,7 @@ pub struct Statement<'a> {
 }
 
 impl Statement<'_> {
-    /// Counts the rows and adds up the first columns.
+    /// Counts the rows and adds up the first columns, each row's times its place.
     pub fn run(&mut self, values: &[u32], columns: c_int) -> Outcome {
         let mut outcome = Outcome::default();
         // SAFETY: the statement lives as long as `self`, and columns are read only while it stands on a row.
@@ -205,7 +205,8 @@ impl Statement<'_> {
                 match sqlite3_step(self.statement) {
                     ROW => {
                         outcome.rows += 1;
-                        outcome.sum += (0..columns).map(|column| sqlite3_column_int64(self.statement, column) as u64).sum::<u64>();
+                        let sum: u64 = (0..columns).map(|column| sqlite3_column_int64(self.statement, column) as u64).sum();
+                        outcome.sum += outcome.rows * sum;
                     }
                     DONE => break,
                     status => panic!("SQLite stops with {status}: {}", self.database.message()),
