@@ -14,6 +14,13 @@ pub enum Fault {
     AbsentNotTurnedRound,
     ComplementAndFiniteJoined,
     ComplementsSubtractedStraight,
+    UnionDropsTail,
+    UnionDropsCommonRows,
+    ComplementUnitedKept,
+    ComplementsUnitedJoined,
+    FiniteSubtractedKept,
+    ComplementSubtractedStraight,
+    FiniteFromComplementKept,
     DrawsCountedWhenMatching,
     DrawsStartAgainInEachPart,
     GuardsAfterFailedOneRead,
@@ -82,12 +89,19 @@ pub enum Fault {
 
 impl Fault {
     /// Every fault; `--plant K` plants the one at K, counted from 1.
-    pub const ALL: [Fault; 69] = [
+    pub const ALL: [Fault; 76] = [
         Fault::UnknownListTakenAsEmpty,
         Fault::ComparedTermsCounted,
         Fault::AbsentNotTurnedRound,
         Fault::ComplementAndFiniteJoined,
         Fault::ComplementsSubtractedStraight,
+        Fault::UnionDropsTail,
+        Fault::UnionDropsCommonRows,
+        Fault::ComplementUnitedKept,
+        Fault::ComplementsUnitedJoined,
+        Fault::FiniteSubtractedKept,
+        Fault::ComplementSubtractedStraight,
+        Fault::FiniteFromComplementKept,
         Fault::DrawsCountedWhenMatching,
         Fault::DrawsStartAgainInEachPart,
         Fault::GuardsAfterFailedOneRead,
@@ -161,6 +175,13 @@ impl Fault {
             Fault::AbsentNotTurnedRound => "the polarity is not turned round under an absent guard",
             Fault::ComplementAndFiniteJoined => "complement united with finite is the complement of both lists joined",
             Fault::ComplementsSubtractedStraight => "complement A minus complement B is A minus B",
+            Fault::UnionDropsTail => "a union drops the left's rows that come before all of the right's",
+            Fault::UnionDropsCommonRows => "a union drops the rows that both parts list",
+            Fault::ComplementUnitedKept => "complement united with finite is the complement as it was",
+            Fault::ComplementsUnitedJoined => "two complements united are the complement of both lists joined",
+            Fault::FiniteSubtractedKept => "finite minus finite is the left as it was",
+            Fault::ComplementSubtractedStraight => "finite minus complement is the left list without the right one",
+            Fault::FiniteFromComplementKept => "complement minus finite is the complement as it was",
             Fault::DrawsCountedWhenMatching => "a draw is counted only when its row matches",
             Fault::DrawsStartAgainInEachPart => "the count of draws starts at 0 in each definition and in the query",
             Fault::GuardsAfterFailedOneRead => "guards after a failed comparison are read",
@@ -247,19 +268,29 @@ pub fn wrong_list(fault: Option<Fault>, issuer: Term, values: &[u32], set: &Set)
 }
 
 pub fn wrong_union(fault: Option<Fault>, left: &Set, right: &Set) -> Option<Numbered<Set>> {
-    match (fault?, left, right) {
-        (Fault::LimitBeforeRepeats, Set::Finite(a), Set::Finite(b)) => (a.len() + b.len() > MOST_ROWS).then_some(Err(TOO_MANY_ROWS)),
-        (Fault::ComplementAndFiniteJoined, Set::Complement(a), Set::Finite(b)) => Some(limited(Set::Complement(a | b))),
-        (Fault::ComplementAndFiniteJoined, Set::Finite(a), Set::Complement(b)) => Some(limited(Set::Complement(a | b))),
-        _ => None,
-    }
+    let value = match (fault?, left, right) {
+        (Fault::LimitBeforeRepeats, Set::Finite(a), Set::Finite(b)) => return (a.len() + b.len() > MOST_ROWS).then_some(Err(TOO_MANY_ROWS)),
+        (Fault::UnionDropsTail, Set::Finite(a), Set::Finite(b)) => Set::Finite(b | &a.iter().filter(|&row| b.first() < Some(row)).copied().collect()),
+        (Fault::UnionDropsCommonRows, Set::Finite(a), Set::Finite(b)) => Set::Finite(a ^ b),
+        (Fault::ComplementAndFiniteJoined, Set::Complement(a), Set::Finite(b)) => Set::Complement(a | b),
+        (Fault::ComplementAndFiniteJoined, Set::Finite(a), Set::Complement(b)) => Set::Complement(a | b),
+        (Fault::ComplementUnitedKept, Set::Complement(a), Set::Finite(_)) => Set::Complement(a.clone()),
+        (Fault::ComplementUnitedKept, Set::Finite(_), Set::Complement(b)) => Set::Complement(b.clone()),
+        (Fault::ComplementsUnitedJoined, Set::Complement(a), Set::Complement(b)) => Set::Complement(a | b),
+        _ => return None,
+    };
+    Some(limited(value))
 }
 
 pub fn wrong_difference(fault: Option<Fault>, left: &Set, right: &Set) -> Option<Numbered<Set>> {
-    match (fault?, left, right) {
-        (Fault::ComplementsSubtractedStraight, Set::Complement(a), Set::Complement(b)) => Some(Ok(Set::Finite(a - b))),
-        _ => None,
-    }
+    let value = match (fault?, left, right) {
+        (Fault::ComplementsSubtractedStraight, Set::Complement(a), Set::Complement(b)) => Set::Finite(a - b),
+        (Fault::FiniteSubtractedKept, Set::Finite(a), Set::Finite(_)) => Set::Finite(a.clone()),
+        (Fault::ComplementSubtractedStraight, Set::Finite(a), Set::Complement(b)) => Set::Finite(a - b),
+        (Fault::FiniteFromComplementKept, Set::Complement(a), Set::Finite(_)) => Set::Complement(a.clone()),
+        _ => return None,
+    };
+    Some(limited(value))
 }
 
 /// An answer's words with its rows in a wrong order.
