@@ -62,6 +62,14 @@ tooManyDraws = 14
 abbrev pub notExternal : ℕ
 notExternal = 15
 
+-- 16 (document 02, N4): a date that doesn't exist or lies outside 2000 to 2099, from the converter alone
+abbrev pub badDate : ℕ
+badDate = 16
+
+-- 17 (document 02, N4): an end not after its first minute
+abbrev pub badTerm : ℕ
+badTerm = 17
+
 -- With a refusal of a policy or a query comes its part: 0 to 15 a definition, 16 the query, 17 neither.
 abbrev pub queryPart : ℕ
 queryPart = 16

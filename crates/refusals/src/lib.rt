@@ -29,6 +29,10 @@ pub const TOO_MANY_DRAWS: u32 = 14;
 
 pub const NOT_EXTERNAL: u32 = 15;
 
+pub const BAD_DATE: u32 = 16;
+
+pub const BAD_TERM: u32 = 17;
+
 // The parts that are no definition.
 pub const QUERY_PART: u32 = 16;
 
