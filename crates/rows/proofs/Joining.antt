@@ -9,7 +9,7 @@ use lib.ListN.{length, getD, take, drop, length-append, take-append-drop}
 use lib.Seq.{take-suc, take-take, take-at, drop-at, length-take-le}
 use Rattle.rows.specs.Ordered.{_∈_, StrictTotal, insert, join}
 use Rattle.rows.proofs.Case.{Case, isTrue, isFalse, split, _then_, iff-refl, iff-sym, both-or}
-use Rattle.rows.proofs.Ordered.{Ascending, Under, under-in, join-∈, join-ascending, ascending-unique}
+use Rattle.rows.proofs.Ordered.{Ascending, Under, under-in, insert-∈, insert-ascending, join-∈, join-ascending, ascending-unique}
 use Rattle.rows.proofs.Place.{getD-∈}
 
 ∈-append : {A : Type 0} (xs ys : List A) (r : A) → (r ∈ (xs ++ ys)) ↔ ((r ∈ xs) ⊎ (r ∈ ys))
@@ -27,7 +27,7 @@ unfolding _∈_
     from (inl (inr m)) = inr (inl m)
     from (inr m) = inr (inr m)
 
-∈-last : {A : Type 0} (xs : List A) (z r : A) → (r ∈ (xs ++ (z ∷ []))) ↔ ((r ∈ xs) ⊎ (r ≡ z))
+pub ∈-last : {A : Type 0} (xs : List A) (z r : A) → (r ∈ (xs ++ (z ∷ []))) ↔ ((r ∈ xs) ⊎ (r ≡ z))
 unfolding _∈_
 ∈-last xs z r = ∈-append xs (z ∷ []) r then both-or iff-refl (λ t. elim t [ inl e ↦ e | inr m ↦ absurd m ], λ e. inl e)
 
@@ -100,6 +100,15 @@ module _ {A : Type 0} (before : A → A → Bool) (laws : StrictTotal before) wh
   unfolding Ascending _∈_
   join-none us a = ascending-unique before laws (join before us []) us (join-ascending before laws us [] tt) a
       (λ r. join-∈ before laws us [] r then (λ t. elim t [ inl i ↦ i | inr i ↦ absurd i ], λ i. inl i))
+
+  -- one element more, put in last
+  pub join-one-more : (us : List A) (z : A) → join before (us ++ (z ∷ [])) [] ≡ insert before z (join before us [])
+  unfolding Ascending _∈_
+  join-one-more us z = ascending-unique before laws (join before (us ++ (z ∷ [])) []) (insert before z (join before us []))
+      (join-ascending before laws (us ++ (z ∷ [])) [] tt) (insert-ascending before laws z (join before us []) (join-ascending before laws us [] tt))
+      (λ r. join-∈ before laws (us ++ (z ∷ [])) [] r then both-or (∈-last us z r) iff-refl then
+      (λ t. elim t [ inl (inl i) ↦ inr (inl i) | inl (inr e) ↦ inl e | inr i ↦ absurd i ], λ t. elim t [ inl e ↦ inl (inr e) | inr (inl i) ↦ inl (inl i) | inr (inr i) ↦ absurd i ]) then
+      iff-sym (insert-∈ before laws z (join before us []) r then both-or iff-refl (join-∈ before laws us [] r)))
 
   pub join-turned : (us vs : List A) → Ascending before laws us → Ascending before laws vs → join before us vs ≡ join before vs us
   join-turned us vs a b = ascending-unique before laws (join before us vs) (join before vs us) (join-ascending before laws us vs b) (join-ascending before laws vs us a)

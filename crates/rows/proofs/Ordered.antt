@@ -3,8 +3,8 @@
 use Prim.Native.Nat.{suc}
 use mathlib.Core.Path.{_≡_, refl, sym, _∙_, ap, subst}
 use mathlib.Core.Logic.{_⊎_, inl, inr, _↔_}
-use mathlib.Core.Bool.{Bool, true, not, _&&_}
-use mathlib.Core.List.{List, [], _∷_}
+use mathlib.Core.Bool.{Bool, true, false, not, _&&_}
+use mathlib.Core.List.{List, [], _∷_, _++_}
 use lib.Dec.{T}
 use lib.ListN.{length}
 use Rattle.rows.specs.Word.{All}
@@ -27,6 +27,36 @@ keep-∈ f (x ∷ xs) r = go (keep-∈ f xs r) (split (f x))
       λ t. (ih .0 t .0, inr (ih .0 t .1)),
       λ t. elim (t .1) [ inl e ↦ absurd (subst T (ap f e ∙ p) (t .0)) | inr i ↦ ih .1 (t .0, i) ],
     )
+
+pub keep-append : {A : Type 0} (f : A → Bool) (xs ys : List A) → keep f (xs ++ ys) ≡ keep f xs ++ keep f ys
+unfolding keep
+keep-append f [] ys = refl
+keep-append f (x ∷ xs) ys = go (keep-append f xs ys) (split (f x))
+  where
+    go : keep f (xs ++ ys) ≡ keep f xs ++ keep f ys → Case (f x) → keep f (x ∷ (xs ++ ys)) ≡ keep f (x ∷ xs) ++ keep f ys
+    go ih (isTrue e) = rw (e, keep) (ap (λ (l : List _). x ∷ l) ih)
+    go ih (isFalse e) = rw (e, keep) ih
+
+-- two tests, in either order
+module _ {A : Type 0} where
+  keeps : (f : A → Bool) (x : A) (xs : List A) → f x ≡ true → keep f (x ∷ xs) ≡ x ∷ keep f xs
+  unfolding keep
+  keeps f x xs e = rw (e, keep)
+
+  drops : (f : A → Bool) (x : A) (xs : List A) → f x ≡ false → keep f (x ∷ xs) ≡ keep f xs
+  unfolding keep
+  drops f x xs e = rw (e, keep)
+
+  pub keep-turned : (f g : A → Bool) (xs : List A) → keep f (keep g xs) ≡ keep g (keep f xs)
+  unfolding keep
+  keep-turned f g [] = refl
+  keep-turned f g (x ∷ xs) = go (keep-turned f g xs) (split (f x)) (split (g x))
+    where
+      go : keep f (keep g xs) ≡ keep g (keep f xs) → Case (f x) → Case (g x) → keep f (keep g (x ∷ xs)) ≡ keep g (keep f (x ∷ xs))
+      go ih (isTrue a) (isTrue b) = ap (keep f) (keeps g x xs b) ∙ keeps f x (keep g xs) a ∙ ap (λ (l : List A). x ∷ l) ih ∙ sym (keeps g x (keep f xs) b) ∙ ap (keep g) (sym (keeps f x xs a))
+      go ih (isTrue a) (isFalse b) = ap (keep f) (drops g x xs b) ∙ ih ∙ sym (drops g x (keep f xs) b) ∙ ap (keep g) (sym (keeps f x xs a))
+      go ih (isFalse a) (isTrue b) = ap (keep f) (keeps g x xs b) ∙ drops f x (keep g xs) a ∙ ih ∙ ap (keep g) (sym (drops f x xs a))
+      go ih (isFalse a) (isFalse b) = ap (keep f) (drops g x xs b) ∙ ih ∙ ap (keep g) (sym (drops f x xs a))
 
 module _ {A : Type 0} (before : A → A → Bool) (laws : StrictTotal before) where
   pub same-iff : (r x : A) → T (tied before r x) ↔ (r ≡ x)

@@ -13,6 +13,7 @@ use Rattle.rows.specs.Layout.{rowWords, fiveAt, flat, laid, written, put, forme
 use Rattle.set_algebra.specs.Private.{roomAt, lefts, rights, Rooms, Passed, alike, picked}
 use Rattle.rows.proofs.Case.{Case, isTrue, isFalse, split}
 use Rattle.rows.proofs.Lists.{all-at, all-take}
+use Rattle.rows.proofs.Ordered.{keep-append}
 use Rattle.rows.proofs.Sets.{keep-all}
 use Rattle.rows.proofs.Put.{part-after, put-then-after, put-none}
 use Rattle.rows.proofs.LayoutLaws.{row-length, formed-listing, formed-word}
@@ -21,15 +22,6 @@ use Rattle.sets.proofs.Laid.{Narrow, laid-length, laid-append, narrow-in, writt
 use Rattle.set_algebra.proofs.Walking.{Walk, walk-start, walk-on, room-kept, room-few, room-form, room-count, room-row}
 
 -- ---- what is kept
-
-keep-append : {A : Type 0} (f : A → Bool) (xs ys : List A) → keep f (xs ++ ys) ≡ keep f xs ++ keep f ys
-unfolding keep
-keep-append f [] ys = refl
-keep-append f (x ∷ xs) ys = go (keep-append f xs ys) (split (f x))
-  where
-    go : keep f (xs ++ ys) ≡ keep f xs ++ keep f ys → Case (f x) → keep f (x ∷ (xs ++ ys)) ≡ keep f (x ∷ xs) ++ keep f ys
-    go ih (isTrue e) = rw (e, keep) (ap (λ (l : List _). x ∷ l) ih)
-    go ih (isFalse e) = rw (e, keep) ih
 
 keep-length : {A : Type 0} (f : A → Bool) (xs : List A) → length (keep f xs) ≤ length xs
 unfolding keep
