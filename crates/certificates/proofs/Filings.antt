@@ -9,7 +9,7 @@ use lib.Dec.{T, ltb}
 use lib.ListN.{length, drop}
 use lib.Seq.{drop-drop}
 use borrow.Author.Tests.{ltb-true, ltb-false}
-use Rattle.refusals.specs.RefusalTable.{badCertificate, storeFull}
+use Rattle.refusals.specs.RefusalTable.{badCertificate, badTerm, storeFull}
 use Rattle.rows.specs.Word.{All, Words}
 use Rattle.rows.specs.Ordered.{_∈_, lists, insert}
 use Rattle.rows.specs.Layout.{pieces}
@@ -19,11 +19,11 @@ use Rattle.rows.proofs.Lists.{all-in, all-of}
 use Rattle.rows.proofs.Ordered.{lists-iff, insert-∈, insert-ascending, insert-length}
 use Rattle.rows.proofs.LayoutLaws.{Sized}
 use Rattle.rows.proofs.Records.{records-length, with-records, with-length, with-past}
-use Rattle.certificates.specs.Certificate.{recordWords, soundRecord, recordBefore}
+use Rattle.certificates.specs.Certificate.{recordWords, soundCertificate, soundTerm, soundRecord, recordBefore}
 use Rattle.certificates.specs.Store.{capacity, records, soundStore}
 use Rattle.certificates.specs.Filing.{FilingReply, filed, held, refused, replyGiven, fileReply, storeBy, storeAfter, storeAt, acceptedBy, acceptedFrom, accepted}
 use Rattle.certificates.proofs.RecordOrder.{record-order}
-use Rattle.certificates.proofs.Sound.{AllSound, sound-store, store-sound, sound-sized}
+use Rattle.certificates.proofs.Sound.{AllSound, both-sound, sound-store, store-sound, sound-sized}
 
 pub listed : (rs : List (List ℕ)) (w : List ℕ) → lists recordBefore rs w ≡ true → w ∈ rs
 listed rs w e = lists-iff recordBefore record-order rs w .0 (T-true e)
@@ -33,20 +33,22 @@ not-listed rs w e i = never (true-T _ (lists-iff recordBefore record-order rs w 
 
 -- why a reply was given
 pub data Replied (rs : List (List ℕ)) (w : List ℕ) : FilingReply → Type 0 where
-  unsound : soundRecord w ≡ false → Replied rs w (refused badCertificate)
+  unsound : soundCertificate w ≡ false → Replied rs w (refused badCertificate)
+  termless : soundCertificate w ≡ true → soundTerm w ≡ false → Replied rs w (refused badTerm)
   known : soundRecord w ≡ true → w ∈ rs → Replied rs w held
   full : soundRecord w ≡ true → (¬ (w ∈ rs)) → capacity ≤ length rs → Replied rs w (refused storeFull)
   new : soundRecord w ≡ true → (¬ (w ∈ rs)) → length rs < capacity → Replied rs w filed
 
 pub replied : (rs : List (List ℕ)) (w : List ℕ) → Replied rs w (replyGiven rs w)
 unfolding replyGiven
-replied rs w = go (split (soundRecord w)) (split (lists recordBefore rs w)) (split (ltb (length rs) capacity))
+replied rs w = go (split (soundCertificate w)) (split (soundTerm w)) (split (lists recordBefore rs w)) (split (ltb (length rs) capacity))
   where
-    go : Case (soundRecord w) → Case (lists recordBefore rs w) → Case (ltb (length rs) capacity) → Replied rs w (replyGiven rs w)
-    go (isFalse s) b c = rw (s, replyGiven) (unsound s)
-    go (isTrue s) (isTrue b) c = rw (s, b, replyGiven) (known s (listed rs w b))
-    go (isTrue s) (isFalse b) (isTrue c) = rw (s, b, c, replyGiven) (new s (not-listed rs w b) (ltb-true (length rs) capacity c))
-    go (isTrue s) (isFalse b) (isFalse c) = rw (s, b, c, replyGiven) (full s (not-listed rs w b) (ltb-false (length rs) capacity c))
+    go : Case (soundCertificate w) → Case (soundTerm w) → Case (lists recordBefore rs w) → Case (ltb (length rs) capacity) → Replied rs w (replyGiven rs w)
+    go (isFalse s) t b c = rw (s, replyGiven) (unsound s)
+    go (isTrue s) (isFalse t) b c = rw (s, t, replyGiven) (termless s t)
+    go (isTrue s) (isTrue t) (isTrue b) c = rw (s, t, b, replyGiven) (known (both-sound w s t) (listed rs w b))
+    go (isTrue s) (isTrue t) (isFalse b) (isTrue c) = rw (s, t, b, c, replyGiven) (new (both-sound w s t) (not-listed rs w b) (ltb-true (length rs) capacity c))
+    go (isTrue s) (isTrue t) (isFalse b) (isFalse c) = rw (s, t, b, c, replyGiven) (full (both-sound w s t) (not-listed rs w b) (ltb-false (length rs) capacity c))
 
 -- the store against the records accepted
 pub record Keeps (first now : List ℕ) (rs : List (List ℕ)) : Type 0 where
@@ -69,12 +71,13 @@ empty-keeps store s z = record {
 -- the reply depends only on what is held, and on how much
 same-reply : (xs ys : List (List ℕ)) (w : List ℕ) → lists recordBefore xs w ≡ lists recordBefore ys w → length xs ≡ length ys → replyGiven xs w ≡ replyGiven ys w
 unfolding replyGiven
-same-reply xs ys w e f = go (split (soundRecord w)) (split (lists recordBefore ys w))
+same-reply xs ys w e f = go (split (soundCertificate w)) (split (soundTerm w)) (split (lists recordBefore ys w))
   where
-    go : Case (soundRecord w) → Case (lists recordBefore ys w) → replyGiven xs w ≡ replyGiven ys w
-    go (isFalse s) b = rw (s, replyGiven)
-    go (isTrue s) (isTrue b) = rw (s, e, b, replyGiven)
-    go (isTrue s) (isFalse b) = rw (s, e, b, f, replyGiven)
+    go : Case (soundCertificate w) → Case (soundTerm w) → Case (lists recordBefore ys w) → replyGiven xs w ≡ replyGiven ys w
+    go (isFalse s) t b = rw (s, replyGiven)
+    go (isTrue s) (isFalse t) b = rw (s, t, replyGiven)
+    go (isTrue s) (isTrue t) (isTrue b) = rw (s, t, e, b, replyGiven)
+    go (isTrue s) (isTrue t) (isFalse b) = rw (s, t, e, b, f, replyGiven)
 
 pub reply-keeps : {first now : List ℕ} {rs : List (List ℕ)} → Keeps first now rs → (w : List ℕ) → fileReply now w ≡ replyGiven rs w
 unfolding fileReply
@@ -151,6 +154,7 @@ module _ {first now : List ℕ} {rs : List (List ℕ)} (k : Keeps first now rs) 
 by-reply : {first now : List ℕ} {rs : List (List ℕ)} {w : List ℕ} {a : FilingReply} → Keeps first now rs → Replied rs w a → Keeps first (storeBy a now w) (acceptedBy a rs w)
 unfolding storeBy acceptedBy after placed
 by-reply k (unsound s) = k
+by-reply k (termless s t) = k
 by-reply k (known s i) = k
 by-reply k (full s n l) = k
 by-reply {w} k (new s n l) = after-keeps k w s n l
@@ -187,6 +191,7 @@ accepted-stays rs (v ∷ ws) w i = accepted-stays (acceptedBy (replyGiven rs v) 
 by-sound : {rs : List (List ℕ)} {w : List ℕ} {a : FilingReply} → AllSound rs → Replied rs w a → AllSound (acceptedBy a rs w)
 unfolding acceptedBy All
 by-sound p (unsound s) = p
+by-sound p (termless s t) = p
 by-sound p (known s i) = p
 by-sound p (full s n l) = p
 by-sound p (new s n l) = (s, p)

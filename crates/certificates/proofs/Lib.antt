@@ -1,5 +1,7 @@
 pub mod RecordOrder
 pub mod Sound
+pub mod Terms
+pub mod Saying
 pub mod StoreOrder
 pub mod Filings
 pub mod NameParts

@@ -28,9 +28,9 @@ module _ (key name polarity : ℕ) where
   nameGiven = key ∷ name ∷ polarity ∷ []
 
   of-name-iff : (w : List ℕ) → soundRecord w ≡ true → T (ofName key name polarity w) ↔ (nameGiven ≡ recordName w)
-  of-name-iff [] s = absurd (omega (arith, sound-record [] s .eight))
-  of-name-iff (a ∷ []) s = absurd (omega (arith, sound-record (a ∷ []) s .eight))
-  of-name-iff (a ∷ b ∷ []) s = absurd (omega (arith, sound-record (a ∷ b ∷ []) s .eight))
+  of-name-iff [] s = absurd (omega (arith, sound-record [] s .ten))
+  of-name-iff (a ∷ []) s = absurd (omega (arith, sound-record (a ∷ []) s .ten))
+  of-name-iff (a ∷ b ∷ []) s = absurd (omega (arith, sound-record (a ∷ b ∷ []) s .ten))
   of-name-iff (a ∷ b ∷ c ∷ w) s = (to, from)
     where
       to : T (ofName key name polarity (a ∷ b ∷ c ∷ w)) → nameGiven ≡ a ∷ b ∷ c ∷ []

@@ -4,10 +4,10 @@ use mathlib.Core.Bool.{true, false}
 use mathlib.Core.List.{List, [], _∷_}
 use lib.Dec.{ltb}
 use lib.ListN.{length}
-use Rattle.refusals.specs.RefusalTable.{badStore, badCertificate, storeFull}
+use Rattle.refusals.specs.RefusalTable.{badStore, badCertificate, badTerm, storeFull}
 use Rattle.rows.specs.Ordered.{lists, tied, insert}
 use Rattle.rows.specs.Records.{recordsIn, withRecords}
-use Rattle.certificates.specs.Certificate.{recordWords, soundRecord, recordBefore}
+use Rattle.certificates.specs.Certificate.{recordWords, soundCertificate, soundTerm, recordBefore}
 use Rattle.certificates.specs.Store.{capacity, records, soundStore}
 
 -- "Filing answers Filed, Held or Refused with a number."
@@ -15,14 +15,17 @@ pub data FilingReply : Type 0 where
   filed held : FilingReply
   refused : ℕ → FilingReply
 
--- the reply to words filed where these records are held: "Filing: 8, 9, Held, 10"; 8 is the store's, below
+-- the reply to words filed where these records are held: "Filing: 8, 9, Held, 10", and document 02, N4: 17 "right after 9"; 8 is the store's, below
 unfoldable pub replyGiven : List (List ℕ) → List ℕ → FilingReply
-unfolding soundRecord lists tied recordBefore
-replyGiven records-held w = elim (soundRecord w) [
+unfolding soundCertificate soundTerm lists tied recordBefore
+replyGiven records-held w = elim (soundCertificate w) [
   | false ↦ refused badCertificate
-  | true ↦ elim (lists recordBefore records-held w) [
-    | true ↦ held
-    | false ↦ elim (ltb (length records-held) capacity) [ true ↦ filed | false ↦ refused storeFull ]
+  | true ↦ elim (soundTerm w) [
+    | false ↦ refused badTerm
+    | true ↦ elim (lists recordBefore records-held w) [
+      | true ↦ held
+      | false ↦ elim (ltb (length records-held) capacity) [ true ↦ filed | false ↦ refused storeFull ]
+    ]
   ]
 ]
 
@@ -30,7 +33,7 @@ unfoldable pub fileReply : List ℕ → List ℕ → FilingReply
 unfolding soundStore replyGiven recordsIn
 fileReply store w = elim (soundStore store) [ false ↦ refused badStore | true ↦ replyGiven (records store) w ]
 
--- "Filed puts the record in its place, moves the later ones up by eight words and raises the count by 1. Held changes nothing.
+-- "Filed puts the record in its place, moves the later ones up by [ten] words and raises the count by 1. Held changes nothing.
 -- Words past the last record are never touched."
 unfoldable pub storeBy : FilingReply → List ℕ → List ℕ → List ℕ
 unfolding withRecords insert recordsIn recordBefore
