@@ -6,11 +6,11 @@ use mathlib.Core.List.{List}
 use native.Mathlib.Omega.{arith}
 use lib.ListN.{length}
 use borrow.Author.Tests.{lt-ltb, le-ltb}
-use Rattle.refusals.specs.RefusalTable.{badStore, badCertificate, storeFull}
+use Rattle.refusals.specs.RefusalTable.{badStore, badCertificate, badTerm, storeFull}
 use Rattle.rows.specs.Ordered.{lists, insert}
 use Rattle.rows.specs.Records.{countOf, withRecords}
 use Rattle.rows.proofs.Records.{records-length}
-use Rattle.certificates.specs.Certificate.{recordWords, soundRecord, recordBefore}
+use Rattle.certificates.specs.Certificate.{recordWords, soundCertificate, soundTerm, recordBefore}
 use Rattle.certificates.specs.Store.{capacity, records, soundStore}
 use Rattle.certificates.specs.Filing.{FilingReply, filed, held, refused, replyGiven, fileReply, storeBy, storeAfter}
 use Rattle.certificates.proofs.Sound.{sound-store}
@@ -30,23 +30,28 @@ module _ (store w : List ℕ) where
   reply-unsound s = rw (s, fileReply)
 
   module _ (sound : soundStore store ≡ true) where
-    pub reply-bad : soundRecord w ≡ false → refused badCertificate ≡ fileReply store w
+    pub reply-bad : soundCertificate w ≡ false → refused badCertificate ≡ fileReply store w
     unfolding fileReply replyGiven
     reply-bad r = rw (sound, fileReply, r, replyGiven)
 
-    module _ (good : soundRecord w ≡ true) where
-      pub reply-held : lists recordBefore (records store) w ≡ true → (held ≡ fileReply store w) × (store ≡ storeAfter store w)
-      unfolding fileReply replyGiven storeBy
-      reply-held l = reply-and-store held store (rw (sound, fileReply, good, l, replyGiven)) refl
+    module _ (good : soundCertificate w ≡ true) where
+      pub reply-termless : soundTerm w ≡ false → refused badTerm ≡ fileReply store w
+      unfolding fileReply replyGiven
+      reply-termless t = rw (sound, fileReply, good, t, replyGiven)
 
-      module _ (new : lists recordBefore (records store) w ≡ false) where
-        pub reply-full : countOf store ≡ capacity → refused storeFull ≡ fileReply store w
-        unfolding fileReply replyGiven
-        reply-full c = rw (sound, fileReply, good, new, le-ltb (length (records store)) capacity (omega (arith, records-length recordWords store)), replyGiven)
-
-        pub reply-filed : (now : List ℕ) → (countOf store ≡ capacity → ⊥) → now ≡ withRecords recordWords (insert recordBefore w (records store)) store →
-            (filed ≡ fileReply store w) × (now ≡ storeAfter store w)
+      module _ (termed : soundTerm w ≡ true) where
+        pub reply-held : lists recordBefore (records store) w ≡ true → (held ≡ fileReply store w) × (store ≡ storeAfter store w)
         unfolding fileReply replyGiven storeBy
-        reply-filed now c e =
-            let f = sound-store store sound .few in
-            reply-and-store filed now (rw (sound, fileReply, good, new, lt-ltb (length (records store)) capacity (omega (arith, records-length recordWords store)), replyGiven)) e
+        reply-held l = reply-and-store held store (rw (sound, fileReply, good, termed, l, replyGiven)) refl
+
+        module _ (new : lists recordBefore (records store) w ≡ false) where
+          pub reply-full : countOf store ≡ capacity → refused storeFull ≡ fileReply store w
+          unfolding fileReply replyGiven
+          reply-full c = rw (sound, fileReply, good, termed, new, le-ltb (length (records store)) capacity (omega (arith, records-length recordWords store)), replyGiven)
+
+          pub reply-filed : (now : List ℕ) → (countOf store ≡ capacity → ⊥) → now ≡ withRecords recordWords (insert recordBefore w (records store)) store →
+              (filed ≡ fileReply store w) × (now ≡ storeAfter store w)
+          unfolding fileReply replyGiven storeBy
+          reply-filed now c e =
+              let f = sound-store store sound .few in
+              reply-and-store filed now (rw (sound, fileReply, good, termed, new, lt-ltb (length (records store)) capacity (omega (arith, records-length recordWords store)), replyGiven)) e

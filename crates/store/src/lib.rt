@@ -14,7 +14,8 @@ use records::count_before;
 use records::insert;
 use store_records::is_held;
 use store_records::place_of;
-use store_records::record::sound_record;
+use store_records::record::sound_certificate;
+use store_records::record::sound_term;
 pub use store_records::sound_store;
 
 pub enum Filing {
@@ -23,7 +24,7 @@ pub enum Filing {
     Refused(u32),
 }
 
-// Files a certificate: 8 for the store, 9 for the certificate, Held, 10, and otherwise it is put in its place.
+// Files a certificate: 8 for the store, 9 for the certificate, 17 for its term, Held, 10, and otherwise it is put in its place.
 pub fn file(store: &mut [u32], certificate: &[u32]) -> Filing
     ensures { λ r. ⌜ filingIs r ≡ fileReply (now (store .entry)) (now (certificate .entry)) ⌝ }
     ensures { λ _. ⌜ now (store .exit) ≡ storeAfter (now (store .entry)) (now (certificate .entry)) ⌝ }
@@ -31,8 +32,11 @@ pub fn file(store: &mut [u32], certificate: &[u32]) -> Filing
     if !sound_store(store) {
         return Filing::Refused(refusals::BAD_STORE);
     }
-    if !sound_record(certificate) {
+    if !sound_certificate(certificate) {
         return Filing::Refused(refusals::BAD_CERTIFICATE);
+    }
+    if !sound_term(certificate) {
+        return Filing::Refused(refusals::BAD_TERM);
     }
     let place = place_of(store, certificate);
     if is_held(store, place, certificate) {

@@ -1,27 +1,48 @@
--- Which of two sound records comes before, by their names and then by their rows.
-use Prim.Native.Nat.{ℕ, _+_, _≤_, _<_}
+-- Which of two sound records comes before, by their names, then by their rows, then by their terms.
+use Prim.Native.Nat.{ℕ, _≤_, _<_}
 use mathlib.Core.Path.{_≡_, sym, _∙_, ap}
 use mathlib.Core.Bool.{true, false}
 use mathlib.Core.List.{List}
 use native.Mathlib.Omega.{arith}
-use lib.ListN.{getD, drop, length-drop}
-use lib.Seq.{getD-drop, take-all}
+use lib.Dec.{ltb, eqb}
+use lib.ListN.{getD}
+use borrow.Author.Tests.{le-ltb, eq-eqb, ne-eqb}
 use Rattle.rows.specs.Ordered.{wordsBefore}
-use Rattle.rows.specs.Layout.{rowIn, fiveAt}
-use Rattle.rows.specs.Row.{rowBefore}
+use Rattle.rows.specs.Layout.{fiveAt}
+use Rattle.rows.specs.Row.{Row, rowBefore}
+use Rattle.rows.proofs.Case.{Case, isTrue, isFalse, split}
 use Rattle.rows.proofs.Order.{words-order, row-order}
-use Rattle.rows.proofs.LayoutLaws.{sound-width}
 use Rattle.row_words.specs.Values.{fiveIs, rowIs, orderFor}
 use Rattle.row_words.specs.declared.row.Row as Held
 use Rattle.row_words.specs.declared.row.Order as Order
 use Rattle.row_words.specs.declared.row.Order.the-variants.{Before, Same, After}
-use Rattle.row_words.proofs.RowLaws.{before-order, same-order, after-order, loaded-row}
-use Rattle.certificates.specs.Certificate.{recordName, recordRow, soundRecord, recordBefore}
-use Rattle.certificates.proofs.RecordOrder.{record-order, name-decides, name-denies, row-decides, row-denies}
-use Rattle.certificates.proofs.Sound.{sound-record, row-is-all}
+use Rattle.row_words.proofs.RowLaws.{before-order, same-order, after-order, loaded-row, sound-narrow}
+use Rattle.certificates.specs.Certificate.{firstMinute, endMinute, recordName, recordRow, recordTerm, soundRecord, recordBefore}
+use Rattle.certificates.proofs.RecordOrder.{name-decides, name-denies, row-decides, row-denies}
+use Rattle.certificates.proofs.Sound.{sound-record}
+use Rattle.certificates.proofs.StoreOrder.{holds}
 
 pub record-width : (w : List ℕ) → soundRecord w ≡ true → getD w 3 0 ≤ 4
-record-width w s = omega (arith, sound-width (drop 3 w) (sound-record w s .row) .few, getD-drop 3 w 0 0)
+record-width w s = sound-narrow w 3 (sound-record w s .row)
+
+-- the terms, as the code compares them
+module _ (a b : List ℕ) where
+  pub first-differ : (firstMinute a ≡ firstMinute b → ⊥) → ltb (firstMinute a) (firstMinute b) ≡ wordsBefore (recordTerm a) (recordTerm b)
+  unfolding wordsBefore
+  first-differ n = go (split (ltb (firstMinute a) (firstMinute b)))
+    where
+      go : Case (ltb (firstMinute a) (firstMinute b)) → ltb (firstMinute a) (firstMinute b) ≡ wordsBefore (recordTerm a) (recordTerm b)
+      go (isTrue t) = rw t
+      go (isFalse t) = rw (t, ne-eqb _ _ n)
+
+  pub first-alike : firstMinute a ≡ firstMinute b → ltb (endMinute a) (endMinute b) ≡ wordsBefore (recordTerm a) (recordTerm b)
+  unfolding wordsBefore
+  first-alike e = go (split (ltb (endMinute a) (endMinute b))) (split (eqb (endMinute a) (endMinute b)))
+    where
+      go : Case (ltb (endMinute a) (endMinute b)) → Case (eqb (endMinute a) (endMinute b)) → ltb (endMinute a) (endMinute b) ≡ wordsBefore (recordTerm a) (recordTerm b)
+      go (isTrue t) u = rw (le-ltb (firstMinute a) (firstMinute b) (omega arith), eq-eqb _ _ e, t)
+      go (isFalse t) (isTrue u) = rw (le-ltb (firstMinute a) (firstMinute b) (omega arith), eq-eqb _ _ e, t, u)
+      go (isFalse t) (isFalse u) = rw (le-ltb (firstMinute a) (firstMinute b) (omega arith), eq-eqb _ _ e, t, u)
 
 -- the names, as the code compares them
 module _ (a b : List ℕ) {o : Order.Order} (compared : o ≡ orderFor wordsBefore (recordName a) (recordName b)) where
@@ -36,24 +57,16 @@ module _ (a b : List ℕ) {o : Order.Order} (compared : o ≡ orderFor wordsBefo
 
 -- the names are the same: the rows, as the code compares them
 module _ (a b : List ℕ) (sound-a : soundRecord a ≡ true) (sound-b : soundRecord b ≡ true) (named : recordName a ≡ recordName b) where
-  row-words-are : (w : List ℕ) → soundRecord w ≡ true → rowIn (fiveAt w 3) ≡ recordRow w
-  row-words-are w s = ap rowIn (take-all 5 (drop 3 w) (omega (arith, length-drop 3 w, sound-record w s .eight)))
-
-  module _ (r : Held.Row) (loaded : fiveIs r ≡ fiveAt a 3) (o : Order.Order) (compared : o ≡ orderFor rowBefore (rowIs r) (rowIn (fiveAt b 3))) where
+  module _ (r : Held.Row) (loaded : fiveIs r ≡ fiveAt a 3) (o : Order.Order) (compared : o ≡ orderFor rowBefore (rowIs r) (recordRow b)) where
     rows-compared : orderFor rowBefore (recordRow a) (recordRow b) ≡ o
-    rows-compared =
-        let x = loaded-row r a 3 loaded in
-        let y = row-words-are a sound-a in
-        let z = row-words-are b sound-b in
-        cc
+    rows-compared = ap (λ (x : Row). orderFor rowBefore x (recordRow b)) (sym (loaded-row r a 3 loaded)) ∙ sym compared
 
     pub row-before : o ≡ Before → true ≡ recordBefore a b
     row-before e = sym (row-decides a b named (before-order row-order (recordRow a) (recordRow b) (rows-compared ∙ e)))
 
-    pub row-same : o ≡ Same → false ≡ recordBefore a b
-    row-same e =
-        let s = row-is-all a b sound-a sound-b named (same-order row-order (recordRow a) (recordRow b) (rows-compared ∙ e)) in
-        sym (rw s (record-order .irreflexive b))
+    -- the rows are the same too: the terms decide
+    pub row-same : o ≡ Same → wordsBefore (recordTerm a) (recordTerm b) ≡ recordBefore a b
+    row-same e = sym (holds .by-term a b sound-a sound-b named (same-order row-order (recordRow a) (recordRow b) (rows-compared ∙ e)))
 
     pub row-after : o ≡ After → false ≡ recordBefore a b
     row-after e = sym (row-denies a b named (after-order row-order (recordRow a) (recordRow b) (rows-compared ∙ e)))

@@ -4,14 +4,15 @@ pub mod record;
 ghost use Prim.Native.Nat.{_+_, _-_, _*_, _≤_, _<_};
 ghost use mathlib.Core.Path.{_≡_};
 ghost use mathlib.Core.Bool.{true};
-ghost use lib.ListN.{length, getD, drop};
-ghost use Rattle.rows.specs.Layout.{soundRow};
+ghost use lib.ListN.{length};
 ghost use Rattle.rows.specs.Records.{recordAt, placeIn, heldAt};
 ghost use Rattle.certificates.specs.Certificate.{recordWords, soundRecord, recordBefore};
 ghost use Rattle.certificates.specs.Store.{records, soundStore};
-ghost use Rattle.certificates.specs.Steps.{soundAt, pairAt, AtomsBefore, Run};
+ghost use Rattle.certificates.specs.Steps.{soundAt, pairAt, ShortRow, Follows, Run};
 use crate::record::record_before;
 use crate::record::sound_record;
+use crate::record::sound_term;
+use crate::record::term_before;
 use certificates::CAPACITY;
 use certificates::RECORD_WORDS;
 use certificates::ROW_IN_RECORD;
@@ -48,7 +49,7 @@ fn pair(words: &[u32], at: usize) -> usize
 // Is the record of this polarity, with a sound row of one atom or two? The longer rows are left to `sound_at`. Polarity and width are compared as one number.
 fn short_row(words: &[u32], polarity: u32) -> bool
     requires { ⌜ length (now words) ≡ recordWords ⌝ }
-    ensures { λ r. ⌜ (r ≡ true → (getD (now (words .entry)) 2 0 ≡ polarity) × (soundRow (drop 3 (now (words .entry))) ≡ true)) ⌝ }
+    ensures { λ r. ⌜ (r ≡ true → ShortRow (now (words .entry)) polarity) ⌝ }
 {
     if pair(words, FIRST_ATOM + 2) != 0 {
         return false;
@@ -61,24 +62,30 @@ fn short_row(words: &[u32], polarity: u32) -> bool
     kind == one_atom + 4294967296
 }
 
-// Are the first two atoms of `a` before those of `b`? An unused second one is 0, and so comes before every other, as the shorter row does.
-fn atoms_before(a: &[u32], b: &[u32]) -> bool
+// Does `b`, with a short row, come behind `a` of the same name: by its first two atoms, or with the same row by its term? An unused second atom is 0, and so
+// comes before every other, as the shorter row does.
+fn follows(a: &[u32], b: &[u32]) -> bool
     requires { ⌜ (length (now a) ≡ recordWords) × (length (now b) ≡ recordWords) ⌝ }
-    ensures { λ r. ⌜ (r ≡ true → AtomsBefore (now (a .entry)) (now (b .entry))) ⌝ }
+    ensures { λ r. ⌜ (r ≡ true → Follows (now (a .entry)) (now (b .entry))) ⌝ }
 {
     let x = a[FIRST_ATOM];
     let y = b[FIRST_ATOM];
-    if x < y {
-        return true;
+    if x != y {
+        return x < y;
     }
-    if y < x {
+    let u = a[FIRST_ATOM + 1];
+    let v = b[FIRST_ATOM + 1];
+    if u != v {
+        return u < v;
+    }
+    if a[ROW_IN_RECORD] != b[ROW_IN_RECORD] {
         return false;
     }
-    a[FIRST_ATOM + 1] < b[FIRST_ATOM + 1]
+    term_before(a, b)
 }
 
-// The first record after a sound one that does not follow plainly. One follows plainly that has the same key, name and polarity, a short row, and first two
-// atoms greater than those before. It is sound and in order, so that a record is tested whole only where a run begins.
+// The first record after a sound one that does not follow plainly. One follows plainly that has the same key, name and polarity, a short row and a sound term,
+// and comes behind the one before by its first two atoms or by its term. It is sound and in order, so that a record is tested whole only where a run begins.
 fn run_end(store: &[u32], count: usize, start: usize) -> usize
     requires { ⌜ (start < count) × (1 + recordWords * count ≤ length (now store)) × (soundRecord (recordAt recordWords (now store) start) ≡ true) ⌝ }
     ensures { λ r. ⌜ Run (now (store .entry)) count start r ⌝ }
@@ -95,7 +102,10 @@ fn run_end(store: &[u32], count: usize, start: usize) -> usize
         if !short_row(this, polarity) {
             return i;
         }
-        if !atoms_before(record_at(store, RECORD_WORDS, i - 1), this) {
+        if !sound_term(this) {
+            return i;
+        }
+        if !follows(record_at(store, RECORD_WORDS, i - 1), this) {
             return i;
         }
         i += 1;

@@ -1,9 +1,12 @@
-// The eight words of a certificate.
+// The ten words of a certificate.
 ghost use mathlib.Core.Path.{_≡_};
 ghost use mathlib.Core.Bool.{true};
-ghost use Rattle.certificates.specs.Certificate.{soundRecord, recordBefore};
+ghost use lib.ListN.{length};
+ghost use Rattle.rows.specs.Ordered.{wordsBefore};
+ghost use Rattle.certificates.specs.Certificate.{recordWords, recordTerm, soundCertificate, soundTerm, soundRecord, recordBefore};
 use certificates::RECORD_WORDS;
 use certificates::ROW_IN_RECORD;
+use certificates::TERM_IN_RECORD;
 use row_words::compare_words;
 use row_words::row;
 use row_words::row::Order;
@@ -12,9 +15,9 @@ use row_words::row::load;
 use rows::FIRST_KEY;
 use rows::LAST_NAME;
 
-// Eight words: the key is one, name and polarity are in range, and the row is sound.
-pub fn sound_record(words: &[u32]) -> bool
-    ensures { λ r. ⌜ r ≡ soundRecord (now (words .entry)) ⌝ }
+// Ten words: the key is one, name and polarity are in range, and the row is sound. Its term is not looked at.
+pub fn sound_certificate(words: &[u32]) -> bool
+    ensures { λ r. ⌜ r ≡ soundCertificate (now (words .entry)) ⌝ }
 {
     if words.len() != RECORD_WORDS {
         return false;
@@ -31,7 +34,38 @@ pub fn sound_record(words: &[u32]) -> bool
     row::sound(words, ROW_IN_RECORD)
 }
 
-// Does `a` come before `b`? Key, name and polarity nearly always decide it; the rows do where these are the same.
+// Is the end after the first minute?
+pub fn sound_term(words: &[u32]) -> bool
+    requires { ⌜ length (now words) ≡ recordWords ⌝ }
+    ensures { λ r. ⌜ r ≡ soundTerm (now (words .entry)) ⌝ }
+{
+    words[TERM_IN_RECORD] < words[TERM_IN_RECORD + 1]
+}
+
+// A record as a store holds it.
+pub fn sound_record(words: &[u32]) -> bool
+    ensures { λ r. ⌜ r ≡ soundRecord (now (words .entry)) ⌝ }
+{
+    if !sound_certificate(words) {
+        return false;
+    }
+    sound_term(words)
+}
+
+// Does the term of `a` come before that of `b`, by the first minute, then by the end?
+pub fn term_before(a: &[u32], b: &[u32]) -> bool
+    requires { ⌜ (length (now a) ≡ recordWords) × (length (now b) ≡ recordWords) ⌝ }
+    ensures { λ r. ⌜ r ≡ wordsBefore (recordTerm (now (a .entry))) (recordTerm (now (b .entry))) ⌝ }
+{
+    let x = a[TERM_IN_RECORD];
+    let y = b[TERM_IN_RECORD];
+    if x != y {
+        return x < y;
+    }
+    a[TERM_IN_RECORD + 1] < b[TERM_IN_RECORD + 1]
+}
+
+// Does `a` come before `b`? Key, name and polarity nearly always decide it; where these are the same the rows do, and where these are, the terms.
 pub fn record_before(a: &[u32], b: &[u32]) -> bool
     requires { ⌜ (soundRecord (now a) ≡ true) × (soundRecord (now b) ≡ true) ⌝ }
     ensures { λ r. ⌜ r ≡ recordBefore (now (a .entry)) (now (b .entry)) ⌝ }
@@ -40,7 +74,7 @@ pub fn record_before(a: &[u32], b: &[u32]) -> bool
         Order::Before => true,
         Order::Same => match compare(load(a, ROW_IN_RECORD), b, ROW_IN_RECORD) {
             Order::Before => true,
-            Order::Same => false,
+            Order::Same => term_before(a, b),
             Order::After => false,
         },
         Order::After => false,

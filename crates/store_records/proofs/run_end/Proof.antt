@@ -42,9 +42,12 @@ pair-requires-2 c κs = omega (arith, this-long c)
 short-row-requires : tie.Need-short-row-requires Inv-loop μ-loop
 short-row-requires c κs = this-long (c .before .before)
 
-atoms-before-requires : tie.Need-atoms-before-requires Inv-loop μ-loop
-atoms-before-requires c κs =
-    let turn = c .before .before .before .before .before in
+sound-term-requires : tie.Need-sound-term-requires Inv-loop μ-loop
+sound-term-requires c κs = this-long (c .before .before .before .before)
+
+follows-requires : tie.Need-follows-requires Inv-loop μ-loop
+follows-requires c κs =
+    let turn = c .before .before .before .before .before .before .before in
     (slice-length _ _ _ _ (entry (begun turn) .pre .1) (omega arith) (c .record-at3 .ensures), this-long turn)
 
 -- ---- the run
@@ -54,7 +57,8 @@ loop-holds c = let start = entry (c .before .before) in going-first _ _ _ (start
 
 loop-again : tie.Need-loop-again Inv-loop μ-loop
 loop-again c =
-    let short = c .before .before .before in
+    let termed = c .before .before .before in
+    let short = termed .before .before in
     let compared = short .before .before in
     let turn = compared .before .before in
     let head = turn .before .before in
@@ -63,7 +67,8 @@ loop-again c =
     going-next _ _ _ (start .pre .2) (λ k. first .before .shared-slice-known .given k .fits) (start .pre .1) _ (turn .before .loop-test .taken) _ _ _
     (first .record-at .ensures) (turn .record-at2 .ensures) (c .before .before .record-at3 .ensures) (head .loop .inv)
     (sym (compared .before .pair2 .ensures) ∙ compared .if1 .left ∙ head .before .before .pair .ensures)
-    (short .before .short-row .ensures (not-false _ (short .if2 .left))) (c .before .atoms-before .ensures (not-false _ (c .if3 .left)))
+    (short .before .short-row .ensures (not-false _ (short .if2 .left))) (sym (termed .before .sound-term .ensures) ∙ not-false _ (termed .if3 .left))
+    (c .before .follows .ensures (not-false _ (c .if4 .left)))
 
 pub run-end-spec : {M : Type 1} → statement M
 run-end-spec =
@@ -81,9 +86,11 @@ run-end-spec =
     (λ c. search needs)
     short-row-requires
     (λ c. search needs)
+    sound-term-requires
+    (λ c. search needs)
     (λ c. search needs)
     (λ c κs. search needs)
-    atoms-before-requires
+    follows-requires
     (λ c. search needs)
     (λ c. search needs)
     (λ c. search needs)

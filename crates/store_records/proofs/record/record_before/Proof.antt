@@ -1,6 +1,6 @@
--- The names decide; where they are the same, the rows do.
+-- The names decide; where they are the same, the rows do, and where these are, the terms.
 use borrow.Author.Needs.{needs}
-use mathlib.Core.Path.{_≡_}
+use mathlib.Core.Path.{_≡_, _∙_}
 use native.Mathlib.Omega.{arith}
 use Rattle.certificates.specs.Certificate.{recordName}
 use Rattle.certificates.proofs.Sound.{sound-record}
@@ -23,18 +23,18 @@ named r = let s = entry (compared r) in name-same (s .args .a .now) (s .args .b 
 compare-words-requires : tie.Need-compare-words-requires
 compare-words-requires c κs =
     let s = c .before .before in
-    (omega (arith, sound-record (s .args .a .now) (s .pre .0) .eight), omega (arith, sound-record (s .args .b .now) (s .pre .1) .eight))
+    (omega (arith, sound-record (s .args .a .now) (s .pre .0) .ten), omega (arith, sound-record (s .args .b .now) (s .pre .1) .ten))
 
 load-requires : tie.Need-load-requires
 load-requires c κs =
     let s = entry (c .before .before) in
-    omega (arith, sound-record (s .args .a .now) (s .pre .0) .eight)
+    omega (arith, sound-record (s .args .a .now) (s .pre .0) .ten)
 
 compare-requires : tie.Need-compare-requires
 compare-requires c κs =
     let s = entry (compared c) in
     let few = record-width (s .args .a .now) (s .pre .0) in
-    let long = sound-record (s .args .b .now) (s .pre .1) .eight in
+    let long = sound-record (s .args .b .now) (s .pre .1) .ten in
     (omega arith, omega (arith, loaded-width _ (s .args .a .now) 3 (c .load .ensures)), record-width (s .args .b .now) (s .pre .1))
 
 returns : tie.Need-returns
@@ -49,11 +49,17 @@ returns-2 c =
     let s = entry (compared r) in
     row-before (s .args .a .now) (s .args .b .now) (s .pre .0) (s .pre .1) (named r) _ (r .load .ensures) _ (c .before .before .compare .ensures) (c .enum-told3 .given .1)
 
+term-before-requires : tie.Need-term-before-requires
+term-before-requires c κs =
+    let s = entry (compared (c .before .before .before)) in
+    (sound-record (s .args .a .now) (s .pre .0) .ten, sound-record (s .args .b .now) (s .pre .1) .ten)
+
 returns-3 : tie.Need-returns-3
 returns-3 c =
-    let r = c .before .before .before in
+    let told = c .before in
+    let r = told .before .before .before in
     let s = entry (compared r) in
-    row-same (s .args .a .now) (s .args .b .now) (s .pre .0) (s .pre .1) (named r) _ (r .load .ensures) _ (c .before .before .compare .ensures) (c .enum-told4 .given .1)
+    c .term-before .ensures ∙ row-same (s .args .a .now) (s .args .b .now) (s .pre .0) (s .pre .1) (named r) _ (r .load .ensures) _ (told .before .before .compare .ensures) (told .enum-told4 .given .1)
 
 returns-4 : tie.Need-returns-4
 returns-4 c =
@@ -78,6 +84,7 @@ record-before-spec =
     compare-requires
     (λ c. search needs)
     (λ c. search needs)
+    term-before-requires
     (λ c. search needs)
     (λ c. search needs)
     returns

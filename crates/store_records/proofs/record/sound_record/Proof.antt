@@ -1,46 +1,25 @@
--- Test by test: `proofs/Words.antt` says what each makes of `soundRecord`.
+-- The certificate's words, then its term.
 use borrow.Author.Needs.{needs}
-use Prim.Native.Nat.{ℕ}
-use mathlib.Core.Path.{_∙_, ap}
-use mathlib.Core.List.{List}
-use native.Mathlib.Omega.{arith}
-use lib.ListN.{drop}
-use Rattle.rows.specs.Layout.{soundRow}
-use lib.ListN.{length-drop}
-use lib.Seq.{take-all}
-use Rattle.store_records.proofs.Words.{not-eight, no-key, no-name, no-polarity, its-row}
+use mathlib.Core.Path.{_≡_, sym, _∙_}
+use mathlib.Core.Bool.{true}
+use borrow.Author.Tests.{not-true, not-false}
+use Rattle.certificates.specs.Certificate.{soundCertificate}
+use Rattle.certificates.proofs.Sound.{sound-ten}
+use Rattle.store_records.proofs.Words.{no-certificate, its-term}
 use Rattle.store_records.proofs.record.sound_record.Statement.{statement}
 use Rattle.store_records.proofs.record.sound_record.Tie as tie
 
 returns : tie.Need-returns
-returns c = not-eight (c .before .before .args .words .now) (c .if1 .taken)
+returns c = no-certificate _ (sym (c .before .sound-certificate .ensures) ∙ not-true _ (c .if1 .taken))
+
+certified : (e : tie.Else1) → soundCertificate (e .before .before .before .args .words .now) ≡ true
+certified e = sym (e .before .sound-certificate .ensures) ∙ not-false _ (e .if1 .left)
+
+sound-term-requires : tie.Need-sound-term-requires
+sound-term-requires c κs = sound-ten _ (certified c)
 
 returns-2 : tie.Need-returns-2
-returns-2 c = no-key (c .before .before .before .before .args .words .now) (c .before .before .if1 .left) (omega arith)
-
-returns-3 : tie.Need-returns-3
-returns-3 c = no-name (c .before .before .before .before .before .before .args .words .now) (c .before .before .before .before .if1 .left) (omega arith) (omega arith)
-
-returns-4 : tie.Need-returns-4
-returns-4 c = no-polarity (c .before .before .before .before .before .before .before .before .args .words .now) (c .before .before .before .before .before .before .if1 .left) (omega arith) (omega arith) (omega arith)
-
-returns-5 : tie.Need-returns-5
-returns-5 c =
-    let w : List ℕ = c .before .before .before .before .before .before .before .before .before .args .words .now in
-    c .sound .ensures
-    ∙ ap soundRow (take-all 5 (drop 3 w) (omega (arith, length-drop 3 w)))
-    ∙ its-row w (c .before .before .before .before .before .before .before .if1 .left) (omega arith) (omega arith) (omega arith)
+returns-2 c = c .sound-term .ensures ∙ its-term _ (certified (c .before))
 
 pub sound-record-spec : {M : Type 1} → statement M
-sound-record-spec =
-    tie.close
-    (tie.spec
-    returns
-    (λ c. search needs)
-    returns-2
-    (λ c. search needs)
-    returns-3
-    (λ c. search needs)
-    returns-4
-    (λ c κs. search needs)
-    returns-5)
+sound-record-spec = tie.close (tie.spec (λ c κs. search needs) returns sound-term-requires returns-2)
