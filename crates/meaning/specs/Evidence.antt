@@ -8,7 +8,7 @@ use Rattle.rows.specs.Row.{Row, isKey, rowBefore}
 use Rattle.rows.specs.Name.{Polarity, plus, minus, samePolarity}
 use Rattle.rows.specs.Sets.{RowSet, only, allBut}
 use Rattle.certificates.specs.Certificate.{Certificate}
-use Rattle.certificates.specs.Store.{certificates}
+use Rattle.certificates.specs.Store.{certificatesAt}
 
 abbrev pub Evidence : Type 0
 Evidence = ℕ → ℕ → Polarity → RowSet
@@ -29,6 +29,6 @@ unfolding certified
 namesHeld cs k n plus = elim (isKey k) [ true ↦ only (certified cs k n plus) | false ↦ only [] ]
 namesHeld cs k n minus = elim (isKey k) [ true ↦ allBut (certified cs k n minus) | false ↦ allBut [] ]
 
--- what is held enters here: today the certificates of the store
-abbrev pub heldIn : List ℕ → Evidence
-heldIn store = namesHeld (certificates store)
+-- what is held enters here: "A query call takes a minute and reads only the certificates that hold then" (document 02, N4)
+abbrev pub heldIn : ℕ → List ℕ → Evidence
+heldIn minute store = namesHeld (certificatesAt minute store)

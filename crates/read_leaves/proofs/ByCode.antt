@@ -75,14 +75,14 @@ module _ {ws : List ℕ} {at : ℕ} (d : getD ws at 0 ≡ 3 → ⊥) (l : getD w
 module _ (f : From) {ws : List ℕ} {at : ℕ} {vs : Values} {k : ℕ} where
   -- ---- a name
 
-  pub leaf-name : {r : Read.Read} {area : List ℕ} → getD ws at 0 ≡ 4 → SayName (f .store) ws (at + 1) vs k r area → SayLeaf f ws at vs k r area
+  pub leaf-name : {r : Read.Read} {area : List ℕ} → getD ws at 0 ≡ 4 → SayName (names f) ws (at + 1) vs k r area → SayLeaf f ws at vs k r area
   unfolding readLeaf
   leaf-name {r} {area} c s = record {
     filled = s .filled;
     means = λ n x h. on-listed (λ y. StandsLeaf (f .known) n ws at y → readLeaf (names f) (sets f) y vs k ≡ setReadIs r area) h c (λ t m p g. s .means t m p (in-listed g)) h;
   }
 
-  pub leaf-name-has : {row : ℕ} {r : Tested.Tested} → getD ws at 0 ≡ 4 → SayNameHas (f .store) ws (at + 1) row vs k r → SayLeafHas f ws at row vs k r
+  pub leaf-name-has : {row : ℕ} {r : Tested.Tested} → getD ws at 0 ≡ 4 → SayNameHas (names f) ws (at + 1) row vs k r → SayLeafHas f ws at row vs k r
   unfolding readLeaf
   leaf-name-has {r} c s = record {
     means = λ n x h m ts g.

@@ -87,13 +87,13 @@ module _ (f : From) {ws : List ℕ} {at : ℕ} {vs : Values} (k : ℕ) (c : getD
 
   -- it is absent
   module _ {b : Bool} (s : SayAmong (f .known) (f .defs) ws at vs b) (gone : b ≡ false) where
-    pub vetted-read : {r : Read.Read} {area : List ℕ} → SayName (f .store) ws (at + 1) vs k r area → SayLeaf f ws at vs k r area
+    pub vetted-read : {r : Read.Read} {area : List ℕ} → SayName (names f) ws (at + 1) vs k r area → SayLeaf f ws at vs k r area
     vetted-read {r} {area} y = record {
       filled = y .filled;
       means = λ n x h. tested s gone (λ u. u ≡ setReadIs r area) n h (λ t m d i. y .means t m plus (in-vetted i .name));
     }
 
-    pub vetted-looked : {row : ℕ} {r : Tested.Tested} → SayNameHas (f .store) ws (at + 1) row vs k r → SayLeafHas f ws at row vs k r
+    pub vetted-looked : {row : ℕ} {r : Tested.Tested} → SayNameHas (names f) ws (at + 1) row vs k r → SayLeafHas f ws at row vs k r
     vetted-looked {r} y = record {
       means = λ n x h m ts g. tested s gone (λ u. after u (λ z i. done (has z (rowOf vs ts)) i) ≡ testedIs r) n h (λ t o d i. y .means t o plus (in-vetted i .name) m ts g);
     }

@@ -105,7 +105,8 @@ fn read_vetted(
         clear(area, 0);
         Read::Done(draws)
     } else {
-        read_name(words, at + 1, values, count, draws, area, store)
+        let minute = given.minute;
+        read_name(words, at + 1, values, count, draws, area, minute, store)
     }
 }
 
@@ -127,7 +128,8 @@ fn vetted_has(
     if issuer_among(words, at, values, count, given, defs) {
         return told(false, draws);
     }
-    name_has(words, at + 1, values, count, draws, store, row)
+    let minute = given.minute;
+    name_has(words, at + 1, values, count, draws, minute, store, row)
 }
 
 // A leaf, by its code.
@@ -147,7 +149,8 @@ pub fn read_leaf(
 {
     let code = words[at];
     if code == CODE_NAME {
-        return read_name(words, at + 1, values, count, draws, area, store);
+        let minute = given.minute;
+        return read_name(words, at + 1, values, count, draws, area, minute, store);
     }
     if code == CODE_DEFINITION {
         copy(definition_set(defs, words[at + 1], given), area);
@@ -179,7 +182,8 @@ pub fn leaf_has(
 {
     let code = words[at];
     if code == CODE_NAME {
-        return name_has(words, at + 1, values, count, draws, store, row);
+        let minute = given.minute;
+        return name_has(words, at + 1, values, count, draws, minute, store, row);
     }
     if code == CODE_DEFINITION {
         let set = definition_set(defs, words[at + 1], given);

@@ -1,1 +1,4 @@
+pub mod Holding
+pub mod Walking
+pub mod Copying
 pub mod Named

@@ -1,15 +1,20 @@
-// Reading a name: the rows that are certified for it, copied or looked up.
+// Reading a name: the rows that are certified for it at a minute, copied or looked up.
+mod held;
+
 ghost use mathlib.Core.Path.{_≡_};
 ghost use mathlib.Core.Bool.{true};
 ghost use Prim.Native.Nat.{_≤_};
-ghost use lib.ListN.{length, getD, take};
-ghost use Rattle.rows.specs.Layout.{setRoom, formed, written};
+ghost use lib.ListN.{length, take};
+ghost use Rattle.rows.specs.Layout.{setRoom};
 ghost use Rattle.certificates.specs.Store.{soundStore};
+ghost use Rattle.meaning.specs.Evidence.{heldIn};
 ghost use Rattle.read_values.specs.Values.{Bound};
 ghost use Rattle.policy_places.specs.Places.{SomeName, SomeRow};
-ghost use Rattle.read_names.specs.Names.{Records, recordRows, SayName, SayListed, SayBelongs, SayNameHas};
+ghost use Rattle.read_names.specs.Names.{SayName, SayBelongs, SayNameHas};
+use crate::held::copy_rows;
+use crate::held::is_held;
+use crate::held::too_many;
 use certificates::RECORD_WORDS;
-use certificates::ROW_IN_RECORD;
 use policy_places::term_at;
 use read_values::Read;
 use read_values::Tested;
@@ -17,30 +22,11 @@ use read_values::row_of;
 use read_values::told;
 use read_values::value_of;
 use refusals::TOO_MANY_ROWS;
-use row_words::search::Found;
-use row_words::search::find;
-use row_words::write;
 use rows::FIRST_KEY;
-use rows::MOST_ROWS;
 use sets::clear;
 use store::certificates_in;
 
-// Has an empty set list the rows of these records, which are in order.
-fn copy_rows(records: &[u32], count: usize, area: &mut [u32])
-    requires { ⌜ Records (now records) count × (setRoom ≤ length (now area)) × (getD (now area) 0 0 ≤ 1) ⌝ }
-    ensures { λ _. ⌜ now (area .exit) ≡ written (formed (getD (now (area .entry)) 0 0) (recordRows (now (records .entry)) count)) (now (area .entry)) ⌝ }
-{
-    let mut i: usize = 0;
-    while i < count {
-        let from = RECORD_WORDS * i + ROW_IN_RECORD;
-        let end = from + 5;
-        write(area, 2 + 5 * i, &records[from..end]);
-        i += 1;
-    }
-    area[1] = count as u32;
-}
-
-// The certified rows of a name: + lists those that it has, − those that it has not. A number issues nothing.
+// The rows of a name that are certified at the minute: + lists those that it has, − those that it has not. A number issues nothing.
 pub fn read_name(
     words: &[u32],
     at: usize,
@@ -48,10 +34,11 @@ pub fn read_name(
     count: usize,
     draws: u32,
     area: &mut [u32],
+    minute: u32,
     store: &[u32],
 ) -> Read
     requires { ⌜ Bound (now values) count × SomeName (now words) at × (soundStore (now store) ≡ true) × (setRoom ≤ length (now area)) ⌝ }
-    ensures { λ r. ⌜ SayName (now (store .entry)) (now (words .entry)) at (take count (now (values .entry))) draws r (now (area .exit)) ⌝ }
+    ensures { λ r. ⌜ SayName (heldIn minute (now (store .entry))) (now (words .entry)) at (take count (now (values .entry))) draws r (now (area .exit)) ⌝ }
 {
     let issuer = term_at(words, at);
     let key = value_of(values, count, issuer);
@@ -62,31 +49,12 @@ pub fn read_name(
         return Read::Done(draws);
     }
     let records = certificates_in(store, key, name, polarity);
-    let listed = records.len() / RECORD_WORDS;
-    if MOST_ROWS < listed {
+    let filed = records.len() / RECORD_WORDS;
+    if too_many(records, filed, minute) {
         return Read::Refused(TOO_MANY_ROWS);
     }
-    copy_rows(records, listed, area);
+    copy_rows(records, filed, minute, area);
     Read::Done(draws)
-}
-
-// Is the row that the terms come to among those of these records?
-fn is_listed(
-    words: &[u32],
-    at: usize,
-    values: &[u32; 16],
-    count: usize,
-    records: &[u32],
-    listed: usize,
-) -> bool
-    requires { ⌜ Bound (now values) count × SomeRow (now words) at × Records (now records) listed ⌝ }
-    ensures { λ r. ⌜ SayListed (now (records .entry)) listed (now (words .entry)) at (take count (now (values .entry))) r ⌝ }
-{
-    let row = row_of(words, at, values, count);
-    match find(records, ROW_IN_RECORD, RECORD_WORDS, listed, row) {
-        Found::At(_) => true,
-        Found::Missing(_) => false,
-    }
 }
 
 // Whether a row belongs to a set of this form that lists it or does not.
@@ -103,11 +71,12 @@ pub fn name_has(
     values: &[u32; 16],
     count: usize,
     draws: u32,
+    minute: u32,
     store: &[u32],
     row: usize,
 ) -> Tested
     requires { ⌜ Bound (now values) count × SomeName (now words) at × SomeRow (now words) row × (soundStore (now store) ≡ true) ⌝ }
-    ensures { λ r. ⌜ SayNameHas (now (store .entry)) (now (words .entry)) at row (take count (now (values .entry))) draws r ⌝ }
+    ensures { λ r. ⌜ SayNameHas (heldIn minute (now (store .entry))) (now (words .entry)) at row (take count (now (values .entry))) draws r ⌝ }
 {
     let issuer = term_at(words, at);
     let key = value_of(values, count, issuer);
@@ -117,10 +86,10 @@ pub fn name_has(
         return told(belongs(polarity, false), draws);
     }
     let records = certificates_in(store, key, name, polarity);
-    let listed = records.len() / RECORD_WORDS;
-    if MOST_ROWS < listed {
+    let filed = records.len() / RECORD_WORDS;
+    if too_many(records, filed, minute) {
         return Tested::Refused(TOO_MANY_ROWS);
     }
-    let found = is_listed(words, row, values, count, records, listed);
+    let found = is_held(records, filed, minute, row_of(words, row, values, count));
     told(belongs(polarity, found), draws)
 }
