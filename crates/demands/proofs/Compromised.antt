@@ -59,7 +59,7 @@ asks-definition c d isDefinition places target known p es q v f W r i =
 
 -- each row of a lower answer belongs to the source's transformation
 lower-rows : (policy : List ℕ) (entries : List Entry) (source : List Expr) (known : List Known) → checkPolicy policy ≡ passed entries source known → (d : ℕ) (S : RowSet) (a : LowerAnswer policy d S) →
-    (W : World) → AllTrue W (heldAfter (a .point .passed)) → (r : Row) → IsRow r → T (has S r) → getD (transformed W entries source) d (λ x. ⊥) r
+    (W : World) → AllTrue W (heldAfter (a .call .minute) (a .point .passed)) → (r : Row) → IsRow r → T (has S r) → getD (transformed W entries source) d (λ x. ⊥) r
 lower-rows policy entries source known c d S a W allowed r i h =
     let m = theorem policy (a .out) (a .rewrites) in
     let all = demand-3 (a .store) (a .empty) (a .filings) in
@@ -163,7 +163,7 @@ not-relied-on policy entries source known c d S a = record {
   noRow = λ k W allowed key compromised n l e r i h. name-without W key n source d l e r (not-by-key k W allowed key compromised r i h);
 }
   where
-    not-by-key : keysListed entries ≡ true → (W : World) → AllTrue W (heldAfter (a .point .passed)) → (key : ℕ) → getD (meanings W source []) 0 (λ x. ⊥) (key ∷ []) →
+    not-by-key : keysListed entries ≡ true → (W : World) → AllTrue W (heldAfter (a .call .minute) (a .point .passed)) → (key : ℕ) → getD (meanings W source []) 0 (λ x. ⊥) (key ∷ []) →
         (r : Row) → IsRow r → T (has S r) → getD (withoutKey key W source) d (λ x. ⊥) r
     not-by-key k W allowed key compromised r i h =
         let t = rewritten-from policy (a .out) (a .rewrites) in

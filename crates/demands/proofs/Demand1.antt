@@ -12,20 +12,21 @@ use Rattle.rows.proofs.Records.{records-length}
 use Rattle.certificates.specs.Certificate.{recordWords, recordBefore}
 use Rattle.certificates.specs.Store.{capacity, records, soundStore}
 use Rattle.certificates.specs.Filing.{FilingReply, refused, replyGiven, fileReply, storeBy, storeAfter}
-use Rattle.certificates.proofs.Sound.{sound-store}
-use Rattle.certificates.proofs.Filings.{listed, not-listed, Replied, unsound, known, full, new, replied}
+use Rattle.certificates.proofs.Sound.{sound-parts, sound-store}
+use Rattle.certificates.proofs.Filings.{listed, not-listed, Replied, unsound, termless, known, full, new, replied}
 use Rattle.policy.proofs.Judging.{check-accepted}
 use Rattle.meaning.specs.Evidence.{namesHeld}
 use Rattle.meaning.proofs.Closed.{held-finite}
 use Rattle.demands.specs.Query.{Outcome, Call, queryCall, answerArea, drawsOf}
 use Rattle.demands.specs.Query as Query
-use Rattle.demands.specs.Demand1.{Filing, eight, nine, isHeld, ten, isNew, Theorem}
+use Rattle.demands.specs.Demand1.{Filing, eight, nine, seventeen, isHeld, ten, isNew, Theorem}
 use Rattle.demands.proofs.Definitions.{reads-not-12, none-finite}
 use Rattle.demands.proofs.Outcome.{call-refused, call-alike}
 
 module _ (store w : List ℕ) where
   given : soundStore store ≡ true → {r : FilingReply} → Replied (records store) w r → Filing store w r
   given s (unsound a) = nine s a
+  given s (termless a t) = seventeen s a t
   given s (known a i) = isHeld s a i
   given s (full a i n) =
       let l = records-length recordWords store in
@@ -59,9 +60,10 @@ module _ (store w : List ℕ) where
   unfolding fileReply replyGiven
   so (eight s) = rw (s, fileReply)
   so (nine s a) = rw (s, a, fileReply, replyGiven)
-  so (isHeld s a i) = rw (s, a, is-listed i, fileReply, replyGiven)
-  so (ten s a i n) = let l = records-length recordWords store in rw (s, a, is-new i, le-ltb (length (records store)) capacity (omega arith), fileReply, replyGiven)
-  so (isNew s a i n) = let l = records-length recordWords store in rw (s, a, is-new i, lt-ltb (length (records store)) capacity (omega arith), fileReply, replyGiven)
+  so (seventeen s a t) = rw (s, a, t, fileReply, replyGiven)
+  so (isHeld s a i) = let b = sound-parts w a in rw (s, b .0, b .1, is-listed i, fileReply, replyGiven)
+  so (ten s a i n) = let l = records-length recordWords store in let b = sound-parts w a in rw (s, b .0, b .1, is-new i, le-ltb (length (records store)) capacity (omega arith), fileReply, replyGiven)
+  so (isNew s a i n) = let l = records-length recordWords store in let b = sound-parts w a in rw (s, b .0, b .1, is-new i, lt-ltb (length (records store)) capacity (omega arith), fileReply, replyGiven)
 
 store-stays : (store w : List ℕ) (n : ℕ) → fileReply store w ≡ refused n → storeAfter store w ≡ store
 unfolding storeAfter storeBy
@@ -83,6 +85,6 @@ demand-1 = record {
       let a = check-accepted policy query es q v passes in
       reads-not-12 (namesHeld cs) (held-finite cs) policy q v part (a .definitions) (a .asked .closed) [] 0 refl none-finite;
   earlierWords = λ store c d a.
-      let e = call-alike store c d (a .policy) (a .query) (a .room) in
+      let e = call-alike store c d (a .policy) (a .query) (a .minute) (a .room) in
       (e, ap (λ (o : Outcome). answerArea o (c .answer)) e ∙ ap (answerArea (queryCall store d)) (a .answer));
 }

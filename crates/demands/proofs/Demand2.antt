@@ -1,18 +1,19 @@
 -- Demand 2 holds: an answer has the judgement's verdict, a sound layout, and the rows that belong to the query in the minimal model.
 use Prim.Native.Nat.{ℕ}
 use mathlib.Core.Path.{refl, sym, _∙_, ap, subst}
-use mathlib.Core.List.{List, _++_, map}
+use mathlib.Core.List.{List, _++_}
 use lib.ListN.{drop}
 use Rattle.rows.specs.Word.{All, Words}
 use Rattle.rows.specs.Row.{IsRow}
 use Rattle.rows.specs.Sets.{RowSet}
 use Rattle.rows.specs.Layout.{setWords, written}
-use Rattle.rows.proofs.Lists.{all-in, map-∈}
+use Rattle.rows.proofs.Lists.{all-in}
 use Rattle.rows.proofs.LayoutLaws.{set-length, written-sound, written-reads}
 use Rattle.rows.proofs.Records.{records-words}
-use Rattle.certificates.specs.Certificate.{Certificate, recordWords, certificateOf}
-use Rattle.certificates.specs.Store.{records, certificates}
+use Rattle.certificates.specs.Certificate.{Certificate, recordWords, saidAt}
+use Rattle.certificates.specs.Store.{records, certificatesAt}
 use Rattle.certificates.proofs.Sound.{AllSound, about-row, sound-store}
+use Rattle.certificates.proofs.Saying.{said-iff}
 use Rattle.policy.specs.Polarity.{Verdict}
 use Rattle.policy.proofs.Judging.{judge-checked}
 use Rattle.meaning.specs.Evidence.{Evidence, namesHeld}
@@ -24,11 +25,11 @@ use Rattle.demands.specs.Demand2.{CallWords, LaidOut, Answer, Theorem}
 use Rattle.demands.proofs.Bounds.{in-query, in-minimal, answer-tidy}
 use Rattle.demands.proofs.Outcome.{AnsweredBy, answered-by, answered-sound, call-reads, roomy-answer}
 
--- records that are sound and words are about rows
-pub records-about : (rs : List (List ℕ)) → AllSound rs → All Words rs → AboutRows (map certificateOf rs)
-records-about rs sound words c i =
-    let t = map-∈ certificateOf rs c .0 i in
-    subst (λ (d : Certificate). IsRow (d .row)) (sym (t .2)) (about-row (t .0) (all-in _ rs sound (t .0) (t .1)) (all-in Words rs words (t .0) (t .1)))
+-- what records say that are sound and words is about rows
+pub records-about : (minute : ℕ) (rs : List (List ℕ)) → AllSound rs → All Words rs → AboutRows (saidAt minute rs)
+records-about minute rs sound words c i =
+    let t = said-iff minute rs c .0 i in
+    subst (λ (d : Certificate). IsRow (d .row)) (sym (t .3)) (about-row (t .0) (all-in _ rs sound (t .0) (t .1)) (all-in Words rs words (t .0) (t .1)))
 
 pub answer-is : (names : Evidence) (c : Call) (v : Verdict) (k : ℕ) (S : RowSet) → AnsweredBy names c v k S → Answer names c v k S
 answer-is names c v k S a = record { verdictIs = judge-checked (c .policy) (c .query) v .1 (a .es, a .q, a .passes); isRead = (a .es, a .q, a .passes, a .reads) }
@@ -45,12 +46,12 @@ module _ (cs : List Certificate) (about : AboutRows cs) (c : Call) (w : CallWord
       }
 
 pub demand-2 : Theorem
-unfolding certificates
+unfolding certificatesAt
 demand-2 store words c w v k S h =
     let sound = answered-sound store c v k S h in
-    let cs = certificates store in
-    let about : AboutRows cs = records-about (records store) (sound-store store sound .each) (records-words recordWords store words) in
-    let a = answered-by (namesHeld cs) c v k S (sym (call-reads store (namesHeld cs) sound refl c) ∙ h) in
+    let cs = certificatesAt (c .minute) store in
+    let about : AboutRows cs = records-about (c .minute) (records store) (sound-store store sound .each) (records-words recordWords store words) in
+    let a = answered-by (namesHeld cs) c v k S (sym (call-reads store (namesHeld cs) sound c refl) ∙ h) in
     record {
       answer = answer-is (namesHeld cs) c v k S a;
       laidOut = laid-out cs about c w v k S a;

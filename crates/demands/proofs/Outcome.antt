@@ -12,13 +12,13 @@ use Rattle.refusals.specs.RefusalTable.{badStore, shortArea, noPart}
 use Rattle.rows.specs.Sets.{RowSet}
 use Rattle.rows.specs.Layout.{setRoom}
 use Rattle.rows.proofs.Case.{Case, isTrue, isFalse, split, and-true}
-use Rattle.certificates.specs.Store.{soundStore, certificates}
+use Rattle.certificates.specs.Store.{soundStore}
 use Rattle.policy.specs.Syntax.{Expr}
 use Rattle.policy.specs.Polarity.{Verdict}
 use Rattle.policy.specs.Checking.{Checked, checked, check}
 use Rattle.policy.specs.Checking as Checking
 use Rattle.policy.proofs.Judging.{judge-refused}
-use Rattle.meaning.specs.Evidence.{Evidence, namesHeld}
+use Rattle.meaning.specs.Evidence.{Evidence, heldIn}
 use Rattle.meaning.specs.Reading.{Result, done, refused, read}
 use Rattle.demands.specs.Query.{Outcome, answered, readFrom, roomy, Call, outcomeFrom, queryCall}
 use Rattle.demands.specs.Query as Query
@@ -49,29 +49,31 @@ callOn sound names c = elim (check (c .policy) (c .query)) [
   | checked es q v ↦ elim sound [ false ↦ Query.refused badStore noPart | true ↦ outcomeFrom names c ]
 ]
 
-call-on : (store : List ℕ) (c : Call) → queryCall store c ≡ callOn (soundStore store) (namesHeld (certificates store)) c
+call-on : (store : List ℕ) (c : Call) → queryCall store c ≡ callOn (soundStore store) (heldIn (c .minute) store) c
 unfolding queryCall callOn
 call-on store c = refl
 
 -- a call on a sound store reads from what the store holds
-pub call-reads : (store : List ℕ) (names : Evidence) → soundStore store ≡ true → namesHeld (certificates store) ≡ names → (c : Call) → queryCall store c ≡ outcomeFrom names c
+pub call-reads : (store : List ℕ) (names : Evidence) → soundStore store ≡ true → (c : Call) → heldIn (c .minute) store ≡ names → queryCall store c ≡ outcomeFrom names c
 unfolding queryCall outcomeFrom
-call-reads store names sound same c = go (check (c .policy) (c .query)) refl
+call-reads store names sound c same = go (check (c .policy) (c .query)) refl
   where
     go : (k : Checked) → check (c .policy) (c .query) ≡ k → queryCall store c ≡ outcomeFrom names c
     go (Checking.refused n part) f = rw (f, queryCall, outcomeFrom)
     go (checked es q v) f = rw (f, sound, queryCall) (ap (λ (held : Evidence). outcomeFrom held c) same)
 
 -- of the areas a call depends on whether they are long enough
-pub call-alike : (store : List ℕ) (c d : Call) → c .policy ≡ d .policy → c .query ≡ d .query → roomy c ≡ roomy d → queryCall store c ≡ queryCall store d
+pub call-alike : (store : List ℕ) (c d : Call) → c .policy ≡ d .policy → c .query ≡ d .query → c .minute ≡ d .minute → roomy c ≡ roomy d → queryCall store c ≡ queryCall store d
 unfolding queryCall outcomeFrom
-call-alike store c d p q r = go (check (d .policy) (d .query)) refl
+call-alike store c d p q m r = go (check (d .policy) (d .query)) refl
   where
     go : (k : Checked) → check (d .policy) (d .query) ≡ k → queryCall store c ≡ queryCall store d
     go (Checking.refused n part) f = let g : check (c .policy) (c .query) ≡ Checking.refused n part = rw (p, q) f in rw (f, g, queryCall)
     go (checked es e v) f =
         let g : check (c .policy) (c .query) ≡ checked es e v = rw (p, q) f in
-        rw (f, g, queryCall) (ap (λ (o : Outcome). elim (soundStore store) as (λ x. Outcome) [ false ↦ Query.refused badStore noPart | true ↦ o ]) (rw (f, g, r, outcomeFrom)))
+        let same : outcomeFrom (heldIn (d .minute) store) c ≡ outcomeFrom (heldIn (d .minute) store) d = rw (f, g, r, outcomeFrom) in
+        rw (f, g, queryCall) (ap (λ (o : Outcome). elim (soundStore store) as (λ x. Outcome) [ false ↦ Query.refused badStore noPart | true ↦ o ])
+        (ap (λ (minute : ℕ). outcomeFrom (heldIn minute store) c) m ∙ same))
 
 -- an answered call: the policy and the query passed, the areas are long enough, and the reading was done
 pub record AnsweredBy (names : Evidence) (c : Call) (w : Verdict) (k : ℕ) (S : RowSet) : Type 0 where
@@ -104,7 +106,7 @@ pub answered-sound : (store : List ℕ) (c : Call) (w : Verdict) (k : ℕ) (S : 
 unfolding callOn
 answered-sound store c w k S h = go (check (c .policy) (c .query)) refl (split (soundStore store))
   where
-    g : callOn (soundStore store) (namesHeld (certificates store)) c ≡ answered w k S
+    g : callOn (soundStore store) (heldIn (c .minute) store) c ≡ answered w k S
     g = sym (call-on store c) ∙ h
 
     go : (d : Checked) → check (c .policy) (c .query) ≡ d → Case (soundStore store) → soundStore store ≡ true
@@ -140,8 +142,8 @@ on-refused sound names c n part = (λ h. to h (check (c .policy) (c .query)) ref
     from (reading f a b e) = rw (f, a, callOn) (rw (f, b, outcomeFrom) e)
 
 pub call-refused : (store : List ℕ) (c : Call) (n part : ℕ) →
-    (queryCall store c ≡ Query.refused n part) ↔ Refusal (soundStore store) (namesHeld (certificates store)) c n part
-call-refused store c n part = rw (call-on store c) (on-refused (soundStore store) (namesHeld (certificates store)) c n part)
+    (queryCall store c ≡ Query.refused n part) ↔ Refusal (soundStore store) (heldIn (c .minute) store) c n part
+call-refused store c n part = rw (call-on store c) (on-refused (soundStore store) (heldIn (c .minute) store) c n part)
 
 pub outcome-refused : (names : Evidence) (c : Call) (n part : ℕ) → (outcomeFrom names c ≡ Query.refused n part) ↔ Refusal true names c n part
 unfolding callOn outcomeFrom

@@ -1,5 +1,6 @@
 -- Demand 2: "An answered query equals the QCM meaning of policy and query in the minimal model of the filed certificates, as rows, form, verdict and number
--- of draws; refusals occur under the listed conditions and under no others." (The refusals: `query` of Demand 1.)
+-- of draws; refusals occur under the listed conditions and under no others." (The refusals: `query` of Demand 1.) Document 02, N4: the call "reads only the
+-- certificates that hold then", so the minimal model is that of its minute.
 use Prim.Native.Nat.{ℕ, _+_, _*_}
 use mathlib.Core.Path.{_≡_}
 use mathlib.Core.Logic.{_↔_}
@@ -11,12 +12,12 @@ use Rattle.rows.specs.Word.{Words}
 use Rattle.rows.specs.Row.{Row, IsRow}
 use Rattle.rows.specs.Sets.{RowSet, has, listing}
 use Rattle.rows.specs.Layout.{setWords, soundSet, setIn}
-use Rattle.certificates.specs.Store.{certificates}
+use Rattle.certificates.specs.Store.{certificatesAt}
 use Rattle.policy.specs.Syntax.{Expr}
 use Rattle.policy.specs.Polarity.{Verdict}
 use Rattle.policy.specs.Checking.{checked, refused, check}
 use Rattle.policy.specs.Judgement.{verdict, judge}
-use Rattle.meaning.specs.Evidence.{Evidence, namesHeld}
+use Rattle.meaning.specs.Evidence.{Evidence, heldIn}
 use Rattle.meaning.specs.World.{World, Minimal}
 use Rattle.meaning.specs.Belonging.{BelongsTo}
 use Rattle.demands.specs.Query.{answered, readFrom, Call, queryCall, answerArea}
@@ -44,10 +45,10 @@ pub record LaidOut (area now : List ℕ) (S : RowSet) : Type 0 where
 
 -- and its rows are those that belong to the query in the minimal model, which there is
 pub record Demand2 (store : List ℕ) (c : Call) (v : Verdict) (k : ℕ) (S : RowSet) : Type 1 where
-  pub answer : Answer (namesHeld (certificates store)) c v k S
+  pub answer : Answer (heldIn (c .minute) store) c v k S
   pub laidOut : LaidOut (c .answer) (answerArea (answered v k S) (c .answer)) S
-  pub rows : (W : World) → Minimal (certificates store) W → (r : Row) → IsRow r → T (has S r) ↔ InQuery c W r
-  pub model : (W : World) × Minimal (certificates store) W
+  pub rows : (W : World) → Minimal (certificatesAt (c .minute) store) W → (r : Row) → IsRow r → T (has S r) ↔ InQuery c W r
+  pub model : (W : World) × Minimal (certificatesAt (c .minute) store) W
 
 abbrev pub Theorem : Type 1
 Theorem = (store : List ℕ) → Words store → (c : Call) → CallWords c → (v : Verdict) (k : ℕ) (S : RowSet) → queryCall store c ≡ answered v k S → Demand2 store c v k S

@@ -6,11 +6,14 @@
 -- world. In each such world by itself, a row is in an exact answer exactly when it belongs to the query. Take two points of the list that both
 -- answer the same query under the same policy: every row of the earlier lower answer is in the later one, every row of the later upper answer is
 -- in the earlier one, and exact answers are equal in form and rows."
+--
+-- Document 02, N4: "The worlds of a minute are those where all certificates accepted so far that hold then are true; demand 3 speaks of these, and two points
+-- are compared at one minute."
 use Prim.Native.Nat.{ℕ, _+_, _*_}
 use mathlib.Core.Path.{_≡_}
 use mathlib.Core.Logic.{_↔_}
 use mathlib.Core.Bool.{true}
-use mathlib.Core.List.{List, [], _∷_, _++_, map}
+use mathlib.Core.List.{List, [], _∷_, _++_}
 use lib.Dec.{T}
 use lib.ListN.{length, drop}
 use Rattle.rows.specs.Word.{All, Words}
@@ -18,7 +21,7 @@ use Rattle.rows.specs.Ordered.{_∈_}
 use Rattle.rows.specs.Row.{Row, IsRow}
 use Rattle.rows.specs.Sets.{RowSet, has}
 use Rattle.rows.specs.Records.{countOf}
-use Rattle.certificates.specs.Certificate.{Certificate, recordWords, certificateOf}
+use Rattle.certificates.specs.Certificate.{Certificate, recordWords, saidAt}
 use Rattle.certificates.specs.Store.{records, soundStore}
 use Rattle.certificates.specs.Filing.{replyGiven, fileReply, storeAfter, storeAt, accepted}
 use Rattle.policy.specs.Polarity.{Verdict, exact, lower, upper}
@@ -64,10 +67,10 @@ filingsIn [] = []
 filingsIn (files w ∷ events) = w ∷ filingsIn events
 filingsIn (asks c ∷ events) = filingsIn events
 
--- what the certificates accepted by these filings say
-unfoldable pub heldAfter : List (List ℕ) → List Certificate
-unfolding accepted certificateOf
-heldAfter passed = map certificateOf (accepted passed)
+-- what the certificates accepted by these filings say that hold at the minute
+unfoldable pub heldAfter : ℕ → List (List ℕ) → List Certificate
+unfolding accepted saidAt
+heldAfter minute passed = saidAt minute (accepted passed)
 
 -- what the store holds at a point
 pub record StoreHolds (first now : List ℕ) (passed : List (List ℕ)) : Type 0 where
@@ -98,24 +101,24 @@ pub record Demand3 (store : List ℕ) (filings : List (List ℕ)) : Type 1 where
   pub holds : (p : Point filings) → StoreHolds store (storeAt store (p .passed)) (p .passed)
   -- "A query call there reads the store as it then is, and changes nothing in it": whatever is asked between the filings, the store is as they alone leave it
   pub asked : (p : Point filings) (events : List Event) → filingsIn events ≡ p .passed → storeThrough store events ≡ storeAt store (p .passed)
-  -- a call is refused with just the refusals that apply where the store is sound (8 never does) and says what was accepted
+  -- a call is refused with just the refusals that apply where the store is sound (8 never does) and says what was accepted and holds
   pub refuses : (p : Point filings) (c : Call) (n part : ℕ) →
-      (queryCall (storeAt store (p .passed)) c ≡ refused n part) ↔ Refusal true (namesHeld (heldAfter (p .passed))) c n part
+      (queryCall (storeAt store (p .passed)) c ≡ refused n part) ↔ Refusal true (namesHeld (heldAfter (c .minute) (p .passed))) c n part
   -- and answered exactly when none does
   pub answers : (p : Point filings) (c : Call) →
       ((v : Verdict) × (k : ℕ) × (S : RowSet) × (queryCall (storeAt store (p .passed)) c ≡ answered v k S)) ↔
-      (¬ ((n : ℕ) × (part : ℕ) × Refusal true (namesHeld (heldAfter (p .passed))) c n part))
+      (¬ ((n : ℕ) × (part : ℕ) × Refusal true (namesHeld (heldAfter (c .minute) (p .passed))) c n part))
   -- an answer has document 01's verdict, with the set and the draws that reading gives;
   pub answer : (p : Point filings) (c : Call) (v : Verdict) (k : ℕ) (S : RowSet) →
-      queryCall (storeAt store (p .passed)) c ≡ answered v k S → Answer (namesHeld (heldAfter (p .passed))) c v k S
+      queryCall (storeAt store (p .passed)) c ≡ answered v k S → Answer (namesHeld (heldAfter (c .minute) (p .passed))) c v k S
   -- all that was filed and asked being words, it has document 01's layout
   pub laidOut : All Words filings → (p : Point filings) (c : Call) → CallWords c → (v : Verdict) (k : ℕ) (S : RowSet) →
       queryCall (storeAt store (p .passed)) c ≡ answered v k S → LaidOut (c .answer) (answerArea (answered v k S) (c .answer)) S
   -- and the rows that its verdict promises;
   pub bounds : All Words filings → (p : Point filings) (c : Call) → CallWords c → (v : Verdict) (k : ℕ) (S : RowSet) →
-      queryCall (storeAt store (p .passed)) c ≡ answered v k S → Bounds (heldAfter (p .passed)) c v S
-  -- over two points lower answers grow, upper answers shrink, exact answers stay; the areas lent may differ
-  pub later : All Words filings → (p q : Point filings) → Earlier p q → (c d : Call) → CallWords c → c .policy ≡ d .policy → c .query ≡ d .query →
+      queryCall (storeAt store (p .passed)) c ≡ answered v k S → Bounds (heldAfter (c .minute) (p .passed)) c v S
+  -- over two points, at one minute, lower answers grow, upper answers shrink, exact answers stay; the areas lent may differ
+  pub later : All Words filings → (p q : Point filings) → Earlier p q → (c d : Call) → CallWords c → c .policy ≡ d .policy → c .query ≡ d .query → c .minute ≡ d .minute →
       (v v′ : Verdict) (k k′ : ℕ) (S S′ : RowSet) →
       queryCall (storeAt store (p .passed)) c ≡ answered v k S → queryCall (storeAt store (q .passed)) d ≡ answered v′ k′ S′ → Grows v v′ S S′
 

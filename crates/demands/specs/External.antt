@@ -109,13 +109,13 @@ withoutKey key W (e ∷ es) = meaningsBy (without key (InList W)) es (Belongs W 
 
 -- A row that compromised keys alone would bring in is in no lower answer to the query 3 d.
 pub record NoneByCompromised (policy : List ℕ) (entries : List Entry) (source : List Expr) (d : ℕ) (S : RowSet) (a : LowerAnswer policy d S) : Type 1 where
-  -- in every world where all certificates accepted so far are true, each of its rows belongs to the source's transformation of the definition
-  pub rows : (W : World) → AllTrue W (heldAfter (a .point .passed)) → (r : Row) → IsRow r → T (has S r) → getD (transformed W entries source) d (λ x. ⊥) r
+  -- in every world where all certificates accepted so far that hold at the call's minute are true, each of its rows belongs to the source's transformation of the definition
+  pub rows : (W : World) → AllTrue W (heldAfter (a .call .minute) (a .point .passed)) → (r : Row) → IsRow r → T (has S r) → getD (transformed W entries source) d (λ x. ⊥) r
   -- a key that is compromised in one such world brings none of them in: each belongs to the definition there without that key's lists
-  pub notByKey : keysListed entries ≡ true → (W : World) → AllTrue W (heldAfter (a .point .passed)) → (key : ℕ) → getD (meanings W source []) 0 (λ x. ⊥) (key ∷ []) →
+  pub notByKey : keysListed entries ≡ true → (W : World) → AllTrue W (heldAfter (a .call .minute) (a .point .passed)) → (key : ℕ) → getD (meanings W source []) 0 (λ x. ⊥) (key ∷ []) →
       (r : Row) → IsRow r → T (has S r) → getD (withoutKey key W source) d (λ x. ⊥) r
   -- so where the definition is a name of that key and nothing else, the answer has no row at all
-  pub noRow : keysListed entries ≡ true → (W : World) → AllTrue W (heldAfter (a .point .passed)) → (key : ℕ) → getD (meanings W source []) 0 (λ x. ⊥) (key ∷ []) →
+  pub noRow : keysListed entries ≡ true → (W : World) → AllTrue W (heldAfter (a .call .minute) (a .point .passed)) → (key : ℕ) → getD (meanings W source []) 0 (λ x. ⊥) (key ∷ []) →
       (n : ℕ) → 0 < d → getD source d (leaf (finite [])) ≡ leaf (listed (atom key) n plus) → (r : Row) → IsRow r → ¬ T (has S r)
 
 abbrev pub NotReliedOn : Type 1

@@ -7,12 +7,12 @@ use lib.ListN.{length}
 use Rattle.refusals.specs.RefusalTable.{badStore, shortArea, queryPart, noPart}
 use Rattle.rows.specs.Sets.{RowSet}
 use Rattle.rows.specs.Layout.{setRoom, written}
-use Rattle.certificates.specs.Store.{soundStore, certificates}
+use Rattle.certificates.specs.Store.{soundStore, certificatesAt}
 use Rattle.policy.specs.Syntax.{Expr}
 use Rattle.policy.specs.Polarity.{Verdict}
 use Rattle.policy.specs.Checking.{checked, check}
 use Rattle.policy.specs.Checking as Checking
-use Rattle.meaning.specs.Evidence.{Evidence, namesHeld}
+use Rattle.meaning.specs.Evidence.{Evidence, namesHeld, heldIn}
 use Rattle.meaning.specs.Reading.{done, read}
 use Rattle.meaning.specs.Reading as Reads
 
@@ -38,10 +38,11 @@ definitionRoom = 10272
 abbrev pub scratchRoom : ℕ
 scratchRoom = 16384
 
--- what is lent to a query call besides the store
+-- what a query call is given besides the store; "A query call takes a minute" (document 02, N4), any word at all
 pub record Call : Type 0 where
   pub policy : List ℕ
   pub query : List ℕ
+  pub minute : ℕ
   pub answer : List ℕ
   pub definitions : List ℕ
   pub scratch : List ℕ
@@ -63,10 +64,10 @@ outcomeFrom names c = elim (check (c .policy) (c .query)) [
 
 -- the query call on a store
 unfoldable pub queryCall : List ℕ → Call → Outcome
-unfolding check soundStore outcomeFrom namesHeld certificates
+unfolding check soundStore outcomeFrom namesHeld certificatesAt
 queryCall store c = elim (check (c .policy) (c .query)) [
   | Checking.refused n part ↦ refused n part
-  | checked es q v ↦ elim (soundStore store) [ false ↦ refused badStore noPart | true ↦ outcomeFrom (namesHeld (certificates store)) c ]
+  | checked es q v ↦ elim (soundStore store) [ false ↦ refused badStore noPart | true ↦ outcomeFrom (heldIn (c .minute) store) c ]
 ]
 
 -- "An answer fills 2 + 5 × count words; the rest of its area stays"; a refused query leaves the area as it was
