@@ -169,8 +169,8 @@ pub record ReadSoFar (policy : List ℕ) (count : ℕ) (f : From) (draws : ℕ) 
   pub sound : SoundFrom f
   pub means : (query : List ℕ) (es : List Expr) (q : Expr) (v : Verdict) → check policy query ≡ checked es q v → Rest policy count f draws es q v
 
-pub none-read : {store policy : List ℕ} {count : ℕ} {definitions scratch : List ℕ} → ReadyPolicy store policy count definitions scratch →
-    ReadSoFar policy count (record { store = store; defs = definitions; known = 0 }) 0
+pub none-read : {minute : ℕ} {store policy : List ℕ} {count : ℕ} {definitions scratch : List ℕ} → ReadyPolicy store policy count definitions scratch →
+    ReadSoFar policy count (record { minute = minute; store = store; defs = definitions; known = 0 }) 0
 unfolding setsIn
 none-read {policy = policy} ready = record {
   few = omega arith;
@@ -201,9 +201,9 @@ module _ {policy : List ℕ} {count : ℕ} {f : From} {draws : ℕ} (before : Re
           (n .e, n .others, b .goes ∙ ap (λ (xs : List Expr). readFrom (names f) xs q v (sets f) draws) (n .is), said .means (n .e) (rw is (n .parses)), n .left)
 
       pub next-read : {total : ℕ} {definitions : List ℕ} → r ≡ read.Done total → 642 * f .known + 642 ≤ length (f .defs) → definitions ≡ put (642 * f .known) (setWords (setIn scratch)) (f .defs) →
-          ReadSoFar policy count (record { store = f .store; defs = definitions; known = f .known + 1 }) total
+          ReadSoFar policy count (record { minute = f .minute; store = f .store; defs = definitions; known = f .known + 1 }) total
       unfolding setReadIs
-      next-read {total} is-done room e = subst (λ (z : List ℕ). ReadSoFar policy count (record { store = f .store; defs = z; known = f .known + 1 }) total) (sym e) (record {
+      next-read {total} is-done room e = subst (λ (z : List ℕ). ReadSoFar policy count (record { minute = f .minute; store = f .store; defs = z; known = f .known + 1 }) total) (sym e) (record {
         few = omega arith;
         sound = sound-more (before .sound) (done-filled said is-done) room;
         means = λ query es q v h.
@@ -216,7 +216,7 @@ module _ {policy : List ℕ} {count : ℕ} {f : From} {draws : ℕ} (before : Re
             };
       })
 
-      pub next-refused : {number : ℕ} → r ≡ read.Refused number → ReadDefinitions (record { store = f .store; defs = f .defs; known = count }) policy (Refused number (f .known))
+      pub next-refused : {number : ℕ} → r ≡ read.Refused number → ReadDefinitions (record { minute = f .minute; store = f .store; defs = f .defs; known = count }) policy (Refused number (f .known))
       unfolding SoundIf leftToRead setReadIs
       next-refused {number} is-refused = record {
         sound = tt;
@@ -225,12 +225,12 @@ module _ {policy : List ℕ} {count : ℕ} {f : From} {draws : ℕ} (before : Re
             n .2 ∙ read-refused f (n .0) (n .1) q v draws (n .3 ∙ ap (λ (x : Read). setReadIs x scratch) is-refused) ∙ ap (Query.refused number) (sets-length (f .known) (f .defs));
       }
 
-  pub all-read : count ≤ f .known → ReadDefinitions (record { store = f .store; defs = f .defs; known = count }) policy (Done draws)
+  pub all-read : count ≤ f .known → ReadDefinitions (record { minute = f .minute; store = f .store; defs = f .defs; known = count }) policy (Done draws)
   unfolding SoundIf leftToRead
   all-read h =
       let few = before .few in
       let e : f .known ≡ count = omega arith in
-      subst (λ (n : ℕ). ReadDefinitions (record { store = f .store; defs = f .defs; known = n }) policy (Done draws)) e (record {
+      subst (λ (n : ℕ). ReadDefinitions (record { minute = f .minute; store = f .store; defs = f .defs; known = n }) policy (Done draws)) e (record {
         sound = before .sound;
         means = λ query es q v p.
             let b = before .means query es q v p in
@@ -240,7 +240,7 @@ module _ {policy : List ℕ} {count : ℕ} {f : From} {draws : ℕ} (before : Re
 -- ---- the query, after the definitions
 
 module _ {f : From} {policy : List ℕ} {progress : Progress} (said : ReadDefinitions f policy progress) where
-  pub definition-refused : {query : List ℕ} {number part verdict : ℕ} {area : List ℕ} → progress ≡ Refused number part → ReadAll (f .store) policy query verdict area (Refused number part) area
+  pub definition-refused : {query : List ℕ} {number part verdict : ℕ} {area : List ℕ} → progress ≡ Refused number part → ReadAll (names f) policy query verdict area (Refused number part) area
   unfolding leftToRead replyFor answerArea
   definition-refused {query} {number} {part} {area = area} e = record {
     means = λ es q v h w.
@@ -268,7 +268,7 @@ module _ {f : From} {policy : List ℕ} {progress : Progress} (said : ReadDefini
       reads : {es : List Expr} {q : Expr} {v : Verdict} → check policy query ≡ checked es q v → reading f q [] before ≡ setReadIs r scratch
       reads {q = q} h = answer .means q (query-parses policy query counted h)
 
-      pub query-refused : {number verdict : ℕ} {area : List ℕ} → r ≡ read.Refused number → ReadAll (f .store) policy query verdict area (Refused number queryPart) area
+      pub query-refused : {number verdict : ℕ} {area : List ℕ} → r ≡ read.Refused number → ReadAll (names f) policy query verdict area (Refused number queryPart) area
       unfolding setReadIs replyFor answerArea
       query-refused {number} {area = area} e = record {
         means = λ es q v h w.
@@ -276,7 +276,7 @@ module _ {f : From} {policy : List ℕ} {progress : Progress} (said : ReadDefini
             (ap replyFor (sym o), ap (λ (x : Outcome). answerArea x area) (sym o));
       }
 
-      pub query-answered : {draws verdict : ℕ} {area now : List ℕ} → r ≡ read.Done draws → now ≡ written (setIn scratch) area → ReadAll (f .store) policy query verdict area (Answered verdict draws) now
+      pub query-answered : {draws verdict : ℕ} {area now : List ℕ} → r ≡ read.Done draws → now ≡ written (setIn scratch) area → ReadAll (names f) policy query verdict area (Answered verdict draws) now
       unfolding setReadIs replyFor answerArea
       query-answered {draws} {area = area} e is = record {
         means = λ es q v h w.

@@ -66,7 +66,7 @@ sets-same (suc m) a b h =
 
 -- the set of one definition more is put in its place
 abbrev withSet : From → List ℕ → From
-withSet f set = record { store = f .store; defs = put (642 * f .known) (setWords (setIn set)) (f .defs); known = f .known + 1 }
+withSet f set = record { minute = f .minute; store = f .store; defs = put (642 * f .known) (setWords (setIn set)) (f .defs); known = f .known + 1 }
 
 module _ {f : From} (sound : SoundFrom f) {set : List ℕ} (filled : Filled set) (room : 642 * f .known + 642 ≤ length (f .defs)) where
   fits : 642 * f .known + length (setWords (setIn set)) ≤ length (f .defs)

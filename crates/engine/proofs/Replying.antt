@@ -59,11 +59,11 @@ module _ (store : List ℕ) (c : Call) (v : Verdict) (passes : judge (c .policy)
           let t = judge-checked (c .policy) (c .query) v .0 passes in
           record { es = t .0; q = t .1; v = v; passes = t .2; sound = sound; room = enough .1; space = enough .2 }
 
-      pub replies : (word : ℕ) → verdictWord v ≡ word → (r : Reply) (answer : List ℕ) → ReadAll store (c .policy) (c .query) word (c .answer) r answer → Replied store c r answer store
+      pub replies : (word : ℕ) → verdictWord v ≡ word → (r : Reply) (answer : List ℕ) → ReadAll (heldIn (c .minute) store) (c .policy) (c .query) word (c .answer) r answer → Replied store c r answer store
       unfolding outcomeFrom
       replies word w r answer said =
           let t = judge-checked (c .policy) (c .query) v .0 passes in
-          let o : queryCall store c ≡ readFrom (heldIn store) (t .0) (t .1) v [] 0 = call-reads store (heldIn store) sound refl c ∙ rw (t .2, room, outcomeFrom) in
+          let o : queryCall store c ≡ readFrom (heldIn (c .minute) store) (t .0) (t .1) v [] 0 = call-reads store (heldIn (c .minute) store) sound c refl ∙ rw (t .2, room, outcomeFrom) in
           let s = said .means (t .0) (t .1) v (t .2) w in
           record { reply = s .0 ∙ ap replyFor (sym o); area = s .1 ∙ ap (λ (x : Outcome). answerArea x (c .answer)) (sym o); unchanged = refl }
 

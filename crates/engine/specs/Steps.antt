@@ -8,7 +8,7 @@ use Rattle.certificates.specs.Store.{soundStore}
 use Rattle.policy.specs.Syntax.{Expr}
 use Rattle.policy.specs.Polarity.{Verdict, verdictWord}
 use Rattle.policy.specs.Checking.{checked, check}
-use Rattle.meaning.specs.Evidence.{heldIn}
+use Rattle.meaning.specs.Evidence.{Evidence}
 use Rattle.read_values.specs.From.{From, names, sets, SoundFrom}
 use Rattle.demands.specs.Query.{Outcome, refused, readFrom, definitionRoom, scratchRoom, answerArea}
 use Rattle.engine.specs.Reply.{replyFor}
@@ -47,6 +47,6 @@ pub record ReadDefinitions (f : From) (policy : List ℕ) (r : Progress) : Type 
   pub sound : SoundIf f r
   pub means : (query : List ℕ) (es : List Expr) (q : Expr) (v : Verdict) → check policy query ≡ checked es q v → readFrom (names f) es q v [] 0 ≡ leftToRead f q v r
 
-pub record ReadAll (store policy query : List ℕ) (verdict : ℕ) (area : List ℕ) (r : Reply) (now : List ℕ) : Type 0 where
+pub record ReadAll (held : Evidence) (policy query : List ℕ) (verdict : ℕ) (area : List ℕ) (r : Reply) (now : List ℕ) : Type 0 where
   pub means : (es : List Expr) (q : Expr) (v : Verdict) → check policy query ≡ checked es q v → verdictWord v ≡ verdict →
-      (r ≡ replyFor (readFrom (heldIn store) es q v [] 0)) × (now ≡ answerArea (readFrom (heldIn store) es q v [] 0) area)
+      (r ≡ replyFor (readFrom held es q v [] 0)) × (now ≡ answerArea (readFrom held es q v [] 0) area)

@@ -4,6 +4,7 @@ ghost use mathlib.Core.Path.{_≡_};
 ghost use mathlib.Core.Bool.{true};
 ghost use lib.ListN.{length};
 ghost use Rattle.rows.specs.Layout.{setRoom, setIn, setWords, soundSet, put};
+ghost use Rattle.meaning.specs.Evidence.{heldIn};
 ghost use Rattle.engine.specs.Steps.{Ready, ReadyPolicy, ReadDefinitions, ReadAll};
 use crate::Reply;
 use policy_table::definition_words;
@@ -34,18 +35,19 @@ fn place_set(definitions: &mut [u32], d: usize, set: &[u32])
 fn read_definitions(
     policy: &[u32],
     count: usize,
+    minute: u32,
     store: &[u32],
     definitions: &mut [u32],
     scratch: &mut [u32],
 ) -> Progress
     requires { ⌜ ReadyPolicy (now store) (now policy) count (now definitions) (now scratch) ⌝ }
-    ensures { λ r. ⌜ ReadDefinitions (record { store = now (store .entry); defs = now (definitions .exit); known = count }) (now (policy .entry)) r ⌝ }
+    ensures { λ r. ⌜ ReadDefinitions (record { minute = minute; store = now (store .entry); defs = now (definitions .exit); known = count }) (now (policy .entry)) r ⌝ }
 {
     let mut draws: u32 = 0;
     let mut d: usize = 0;
     while d < count {
         let words = definition_words(policy, d);
-        let given = Given { known: d };
+        let given = Given { minute, known: d };
         match read_whole(words, draws, scratch, given, store, definitions) {
             Read::Refused(number) => {
                 let part = d as u32;
@@ -65,6 +67,7 @@ fn read_definitions(
 pub fn read_all(
     policy: &[u32],
     query: &[u32],
+    minute: u32,
     store: &[u32],
     verdict: u32,
     answer: &mut [u32],
@@ -72,16 +75,19 @@ pub fn read_all(
     scratch: &mut [u32],
 ) -> Reply
     requires { ⌜ Ready (now store) (now policy) (now query) (now definitions) (now scratch) × (setRoom ≤ length (now answer)) ⌝ }
-    ensures { λ r. ⌜ ReadAll (now (store .entry)) (now (policy .entry)) (now (query .entry)) verdict (now (answer .entry)) r (now (answer .exit)) ⌝ }
+    ensures { λ r. ⌜ ReadAll (heldIn minute (now (store .entry))) (now (policy .entry)) (now (query .entry)) verdict (now (answer .entry)) r (now (answer .exit)) ⌝ }
 {
     let count = policy[1] as usize;
-    match read_definitions(policy, count, store, definitions, scratch) {
+    match read_definitions(policy, count, minute, store, definitions, scratch) {
         Progress::Refused { number, part } => Reply::Refused { number, part },
         Progress::Done(before) => match read_whole(
             query,
             before,
             scratch,
-            Given { known: count },
+            Given {
+                minute,
+                known: count,
+            },
             store,
             definitions,
         ) {

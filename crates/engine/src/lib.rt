@@ -1,4 +1,4 @@
-// The query call: a policy and a query judged, then read from the certificates held.
+// The query call: a policy and a query judged, then read from the certificates that hold at a minute.
 mod answering;
 
 ghost use mathlib.Core.Path.{_≡_};
@@ -38,16 +38,17 @@ fn roomy(answer: usize, definitions: usize, scratch: usize) -> bool
     SCRATCH_ROOM <= scratch
 }
 
-// Answers a query under a policy from the certificates in the store: 1 to 7, 8, 11, then what is met while reading.
+// Answers a query under a policy from the certificates in the store that hold at the minute: 1 to 7, 8, 11, then what is met while reading.
 pub fn query<'a>(
     policy: &'a [u32],
     query: &'a [u32],
+    minute: u32,
     store: &[u32],
     answer: &mut [u32],
     definitions: &mut [u32],
     scratch: &mut [u32],
 ) -> Reply
-    ensures { λ r. ⌜ Replied (now (store .entry)) (record { policy = now (policy .entry); query = now (query .entry); answer = now (answer .entry); definitions = now (definitions .entry); scratch = now (scratch .entry) }) r (now (answer .exit)) (now (store .exit)) ⌝ }
+    ensures { λ r. ⌜ Replied (now (store .entry)) (record { policy = now (policy .entry); query = now (query .entry); minute = minute; answer = now (answer .entry); definitions = now (definitions .entry); scratch = now (scratch .entry) }) r (now (answer .exit)) (now (store .exit)) ⌝ }
 {
     match judge(policy, query) {
         Judgement::Refused { number, part } => Reply::Refused { number, part },
@@ -64,7 +65,16 @@ pub fn query<'a>(
                     part: NO_PART,
                 };
             }
-            read_all(policy, query, store, verdict, answer, definitions, scratch)
+            read_all(
+                policy,
+                query,
+                minute,
+                store,
+                verdict,
+                answer,
+                definitions,
+                scratch,
+            )
         }
     }
 }

@@ -33,7 +33,7 @@ tested r = r .before .before
 abbrev call : tie.After-judge → Call
 call j =
     let a = start j .args in
-    record { policy = a .policy .now; query = a .query .now; answer = a .answer .now; definitions = a .definitions .now; scratch = a .scratch .now }
+    record { policy = a .policy .now; query = a .query .now; minute = a .minute; answer = a .answer .now; definitions = a .definitions .now; scratch = a .scratch .now }
 
 abbrev held : tie.After-judge → List ℕ
 held j = start j .args .store .now
@@ -86,7 +86,7 @@ returns-4 c =
     let e = tested r in
     let v = passed e in
     let t = has-verdict v in
-    replies (held (judged v)) _ (t .0) (t .1) (sound e) (room r) (v .verdict .given .0 .0) (t .2) (read .read-all .result) (read .read-all .last .1 .1 .1 .1 .0) (read .read-all .ensures)
+    replies (held (judged v)) _ (t .0) (t .1) (sound e) (room r) (v .verdict .given .0 .0) (t .2) (read .read-all .result) (read .read-all .last .1 .1 .1 .1 .1 .0) (read .read-all .ensures)
 
 pub query-spec : {M : Type 1} → statement M
 query-spec =
