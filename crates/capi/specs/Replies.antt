@@ -12,7 +12,7 @@ use Rattle.policy.specs.External as External
 use Rattle.demands.specs.Query.{Outcome, answered, Call, queryCall, answerArea, drawsOf}
 use Rattle.demands.specs.Query as Query
 
--- "Filing answers Filed, Held or Refused with a number": 0, 1, and 8, 9 or 10
+-- "Filing answers Filed, Held or Refused with a number": 0, 1, and 8, 9, 17 or 10
 unfoldable pub filingWord : FilingReply → ℕ
 filingWord filed = 0
 filingWord held = 1
@@ -66,9 +66,9 @@ unfolding drawsOf
 handOutcome (answered v k s) = record { number = noRefusal; part = noPart; verdict = verdictWord v; draws = drawsOf (answered v k s) }
 handOutcome (Query.refused n p) = record { number = n; part = p; verdict = noVerdict; draws = drawsOf (Query.refused n p) }
 
--- what is lent to a query call besides the store
-abbrev pub lent : List ℕ → List ℕ → List ℕ → List ℕ → List ℕ → Call
-lent policy query answer definitions scratch = record { policy = policy; query = query; answer = answer; definitions = definitions; scratch = scratch }
+-- what a query call is given besides the store
+abbrev pub lent : List ℕ → List ℕ → ℕ → List ℕ → List ℕ → List ℕ → Call
+lent policy query minute answer definitions scratch = record { policy = policy; query = query; minute = minute; answer = answer; definitions = definitions; scratch = scratch }
 
 -- the query call on this store handed this out, left these words in the answer area, and these in the store
 pub record Asked (store : List ℕ) (c : Call) (handed : HandedOutcome) (answer left : List ℕ) : Type 0 where

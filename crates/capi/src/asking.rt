@@ -11,6 +11,7 @@ use refusals::NO_PART;
 pub extern "C" fn txb_query<'a>(
     policy: &'a [u32],
     query: &'a [u32],
+    minute: u32,
     store: &[u32],
     answer: &mut [u32],
     definitions: &mut [u32],
@@ -20,11 +21,11 @@ pub extern "C" fn txb_query<'a>(
     draws: &mut u32,
 ) -> u32
     ensures { λ r. ⌜ Asked (now (store .entry))
-        (lent (now (policy .entry)) (now (query .entry)) (now (answer .entry)) (now (definitions .entry)) (now (scratch .entry)))
+        (lent (now (policy .entry)) (now (query .entry)) minute (now (answer .entry)) (now (definitions .entry)) (now (scratch .entry)))
         (record { number = r; part = now (part .exit); verdict = now (verdict .exit); draws = now (draws .exit) })
         (now (answer .exit)) (now (store .exit)) ⌝ }
 {
-    match ask(policy, query, store, answer, definitions, scratch) {
+    match ask(policy, query, minute, store, answer, definitions, scratch) {
         Reply::Answered {
             verdict: word,
             draws: made,

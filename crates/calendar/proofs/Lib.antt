@@ -1,0 +1,5 @@
+pub mod Lengths
+pub mod Existing
+pub mod ThereAndBack
+pub mod ClosedForms
+pub mod Steps

@@ -1,0 +1,4 @@
+pub mod Gregorian
+pub mod Converter
+pub mod Reply
+pub mod ThereAndBack
