@@ -1,20 +1,21 @@
 // The lines by which a program keeps its store. How words are written is said in `lib.rt`.
 //
-//     file WORDS                   files certificates, eight words each, and prints nothing
+//     file WORDS                   files certificates, ten words each, and prints nothing
 //     store WORDS                  writes the words over the first of the store; `store 0` makes it empty
 ghost use Prim.Native.Nat.{_≤_};
 ghost use lib.ListN.{length};
 use crate::is_at;
 use crate::read_words;
+use certificates::RECORD_WORDS;
 use store::file;
 
-// Files the first words, eight a certificate.
+// Files the first words, ten a certificate.
 fn file_all(store: &mut [u32], words: &[u32], count: usize)
     requires { ⌜ count ≤ length (now words) ⌝ }
 {
     let mut at: usize = 0;
-    while 8 <= count - at {
-        let end = at + 8;
+    while RECORD_WORDS <= count - at {
+        let end = at + RECORD_WORDS;
         file(store, &words[at..end]);
         at = end;
     }

@@ -1,10 +1,10 @@
 // Files into a real store what the lines of its input say, and prints what it found. Each line of `stdout` was checked by hand against
-// document 01, "Store and filing", and document 02, N1. How words are written is said in the crate `cases`. A line is one of these:
+// document 01, "Store and filing", and document 02, N1 and N4. How words are written is said in the crate `cases`. A line is one of these:
 //
 //     NAME|WORDS                   files the words, and prints the reply with the count that the store has then
 //     NAME|WORDS|LENGTH            the same with a store of so many words, not 16001
-//     words FROM END               prints these words of the store, eight to a line
-//     part KEY NAME POLARITY       prints one name's part of the store, eight words to a line
+//     words FROM END               prints these words of the store, ten to a line
+//     part KEY NAME POLARITY       prints one name's part of the store, ten words to a line
 //
 // `file` and `store` lines keep the store (`cases::storing`). Any other line is printed.
 ghost use Prim.Native.Nat.{_≤_};
@@ -20,6 +20,7 @@ use cases::read_words;
 use cases::say;
 use cases::say_number;
 use cases::storing::keep;
+use certificates::RECORD_WORDS;
 use store::Filing;
 use store::certificates_of;
 use store::file;
@@ -56,27 +57,27 @@ fn length_at(text: &[u8], at: usize, most: usize) -> usize
     }
 }
 
-// Files the words after the bar at `at`.
+// Files the words after the bar at `at`: at most eleven, one more than a certificate has.
 fn try_at(text: &[u8], at: usize, store: &mut [u32])
     requires { ⌜ at ≤ length (now text) ⌝ }
 {
-    let mut words = [0u32; 9];
+    let mut words = [0u32; 11];
     let read = read_words(text, after(text, at), &mut words);
     let count = read.count;
     let end = length_at(text, read.next, store.len());
     try_filing(&mut store[0..end], &words[0..count]);
 }
 
-// What stands after so many words: eight fill a line.
+// What stands after so many words: a record fills a line.
 fn say_gap(count: usize) {
-    if count % 8 == 0 {
+    if count % RECORD_WORDS == 0 {
         say(b"\n");
     } else {
         say(b" ");
     }
 }
 
-// Prints the words, eight to a line.
+// Prints the words, ten to a line.
 fn show(words: &[u32]) {
     let mut i: usize = 0;
     while i < words.len() {

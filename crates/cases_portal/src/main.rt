@@ -1,8 +1,9 @@
 // Asks the engine what the lines of its input ask, by real calls on areas full of other words, and prints what it replied. Each line of `stdout`
 // was checked by hand against the documents. How words are written is said in the crate `cases`. A line is one of these:
 //
-//     NAME|POLICY|QUERY            asks the query under the policy, over the store as it is
+//     NAME|POLICY|QUERY            asks the query under the policy, over the store as it is, at the minute that was set last
 //     NAME|POLICY|QUERY|AREAS      the same with an answer, a definition and a scratch area of so many words, not 642 10272 16384
+//     minute N                     sets the minute, which is 0 at the start
 //
 // `file` and `store` lines keep the store (`cases::storing`). Any other line is printed.
 ghost use Prim.Native.Nat.{_≤_};
@@ -10,6 +11,8 @@ ghost use lib.ListN.{length};
 use cases::after;
 use cases::at_most;
 use cases::cell_end;
+use cases::first_word;
+use cases::is_at;
 use cases::is_bar;
 use cases::next_line;
 use cases::read_words;
@@ -21,18 +24,19 @@ use engine::query;
 // Asks, and prints the reply.
 fn ask_with<'a>(
     store: &[u32],
+    minute: u32,
     policy: &'a [u32],
     words: &'a [u32],
     answer: &mut [u32],
     definitions: &mut [u32],
     scratch: &mut [u32],
 ) {
-    let reply = query(policy, words, store, answer, definitions, scratch);
+    let reply = query(policy, words, minute, store, answer, definitions, scratch);
     say_reply(reply, answer);
 }
 
 // Asks with areas of these lengths.
-fn ask<'a>(store: &[u32], policy: &'a [u32], words: &'a [u32], areas: [u32; 3]) {
+fn ask<'a>(store: &[u32], minute: u32, policy: &'a [u32], words: &'a [u32], areas: [u32; 3]) {
     let mut answer = [5u32; 1000];
     let mut definitions = [6u32; 11000];
     let mut scratch = [7u32; 17000];
@@ -41,6 +45,7 @@ fn ask<'a>(store: &[u32], policy: &'a [u32], words: &'a [u32], areas: [u32; 3]) 
     let s = at_most(areas[2], 17000);
     ask_with(
         store,
+        minute,
         policy,
         words,
         &mut answer[0..a],
@@ -61,7 +66,7 @@ fn areas_at(text: &[u8], at: usize) -> [u32; 3]
 }
 
 // The policy, the query and the areas after the bar at `at`.
-fn ask_at(text: &[u8], at: usize, store: &[u32])
+fn ask_at(text: &[u8], at: usize, store: &[u32], minute: u32)
     requires { ⌜ at ≤ length (now text) ⌝ }
 {
     let mut policy = [0u32; 8193];
@@ -72,41 +77,48 @@ fn ask_at(text: &[u8], at: usize, store: &[u32])
     let asked = second.count;
     ask(
         store,
+        minute,
         &policy[0..held],
         &words[0..asked],
         areas_at(text, second.next),
     );
 }
 
-// A line without bars.
-fn act(text: &[u8], at: usize, end: usize, store: &mut [u32])
+// A line without bars. It returns the minute of the lines that follow.
+fn act(text: &[u8], at: usize, end: usize, store: &mut [u32], minute: u32) -> u32
     requires { ⌜ (at ≤ end) × (end ≤ length (now text)) ⌝ }
 {
+    if is_at(text, at, b'm') {
+        return first_word(text, at);
+    }
     if !keep(text, at, store) {
         say(&text[at..end]);
         say(b"\n");
     }
+    minute
 }
 
-// One line.
-fn line(text: &[u8], at: usize, store: &mut [u32])
+// One line. It returns the minute of the lines that follow.
+fn line(text: &[u8], at: usize, store: &mut [u32], minute: u32) -> u32
     requires { ⌜ at ≤ length (now text) ⌝ }
 {
     let end = cell_end(text, at);
     if is_bar(text, end) {
         say(&text[at..end]);
         say(b": ");
-        ask_at(text, end, store);
+        ask_at(text, end, store, minute);
         say(b"\n");
+        minute
     } else {
-        act(text, at, end, store);
+        act(text, at, end, store, minute)
     }
 }
 
 fn run(text: &[u8], store: &mut [u32]) {
     let mut at: usize = 0;
+    let mut minute: u32 = 0;
     while at < text.len() {
-        line(text, at, store);
+        minute = line(text, at, store, minute);
         at = next_line(text, at);
     }
 }
