@@ -1,5 +1,5 @@
 /*
- * A portal in C: certificates arrive, a curator's policy stands, an astronomer searches; then keys are vetted.
+ * A portal in C: certificates arrive, a curator's policy stands, an astronomer searches; semesters pass; then keys are vetted.
  *
  *     rt staticlib capi
  *     cc -Iinclude examples/portal.c target/staticlib/libcapi.a -o portal && ./portal
@@ -35,9 +35,21 @@ static uint32_t everything_public[] = {3, 0};
 static uint32_t store[TXB_STORE_WORDS]; /* starts empty: its count is 0 */
 static uint32_t answer[TXB_ANSWER_WORDS], definitions[TXB_DEFINITIONS_WORDS], scratch[TXB_SCRATCH_WORDS];
 
+/* The clock, and the semester that the certificates arriving are for: it begins at the first minute and is over at the end. */
+static uint32_t now, first, end;
+
+/* The minute at which a day begins. */
+static uint32_t day(uint32_t year, uint32_t month, uint32_t day_of_month) {
+    uint32_t minutes;
+    uint32_t number = txb_minutes(year, month, day_of_month, 0, 0, &minutes);
+    if (number != 0)
+        printf("the date was refused with %u\n", (unsigned)number);
+    return minutes;
+}
+
 /* The signature has been checked before. */
 static void arrives(uint32_t key, uint32_t name, uint32_t polarity, uint32_t atom) {
-    const uint32_t certificate[TXB_CERTIFICATE_WORDS] = {key, name, polarity, 1, atom};
+    const uint32_t certificate[TXB_CERTIFICATE_WORDS] = {key, name, polarity, 1, atom, 0, 0, 0, first, end};
     uint32_t reply = txb_file(store, WORDS(store), certificate, WORDS(certificate));
     if (reply > TXB_HELD)
         printf("the certificate was refused with %u\n", (unsigned)reply);
@@ -58,9 +70,11 @@ static void rewrite(void) {
 }
 
 static void search(void) {
-    uint32_t part, verdict, draws;
-    uint32_t number = txb_query(policy, policy_words, everything_public, WORDS(everything_public), store, WORDS(store), answer, WORDS(answer), definitions,
-                                WORDS(definitions), scratch, WORDS(scratch), &part, &verdict, &draws);
+    uint32_t year, month, day_of_month, hour, minute, part, verdict, draws;
+    if (txb_date(now, &year, &month, &day_of_month, &hour, &minute) == 0)
+        printf("%u-%02u-%02u %02u:%02u, ", (unsigned)year, (unsigned)month, (unsigned)day_of_month, (unsigned)hour, (unsigned)minute);
+    uint32_t number = txb_query(policy, policy_words, everything_public, WORDS(everything_public), now, store, WORDS(store), answer, WORDS(answer),
+                                definitions, WORDS(definitions), scratch, WORDS(scratch), &part, &verdict, &draws);
     if (number != 0) {
         printf("the search was refused with %u in part %u\n", (unsigned)number, (unsigned)part);
         return;
@@ -76,16 +90,33 @@ static void search(void) {
 }
 
 int main(void) {
-    search();                       /* lower, 0 draws, rows: */
+    first = day(2027, 1, 1);
+    end = day(2027, 7, 1);
+    now = day(2027, 3, 20);
+    search();                       /* 2027-03-20 00:00, lower, 0 draws, rows: */
     arrives(OBSERVATORY, RELEASED, TXB_PLUS, 7);
-    search();                       /* lower, 1 draws, rows: */
+    search();                       /* 2027-03-20 00:00, lower, 1 draws, rows: */
     arrives(OBSERVATORY, WITHDRAWN, TXB_MINUS, 7);
-    search();                       /* lower, 1 draws, rows: 7 */
+    search();                       /* 2027-03-20 00:00, lower, 1 draws, rows: 7 */
     arrives(OBSERVATORY, RELEASED, TXB_PLUS, 8);
-    search();                       /* lower, 2 draws, rows: 7 */
+    search();                       /* 2027-03-20 00:00, lower, 2 draws, rows: 7 */
+    now = first - 1;
+    search();                       /* 2026-12-31 23:59, lower, 0 draws, rows: */
+    now = first;
+    search();                       /* 2027-01-01 00:00, lower, 2 draws, rows: 7 */
+    now = end - 1;
+    search();                       /* 2027-06-30 23:59, lower, 2 draws, rows: 7 */
+    now = end;
+    search();                       /* 2027-07-01 00:00, lower, 0 draws, rows: */
+    first = end;
+    end = day(2028, 1, 1);
+    arrives(OBSERVATORY, RELEASED, TXB_PLUS, 7);
+    search();                       /* 2027-07-01 00:00, lower, 1 draws, rows: */
+    arrives(OBSERVATORY, WITHDRAWN, TXB_MINUS, 7);
+    search();                       /* 2027-07-01 00:00, lower, 1 draws, rows: 7 */
     rewrite();
-    search();                       /* lower, 0 draws, rows: */
+    search();                       /* 2027-07-01 00:00, lower, 0 draws, rows: */
     arrives(ARCHIVE, COMPROMISED, TXB_MINUS, OBSERVATORY);
-    search();                       /* lower, 0 draws, rows: 7 8 */
+    search();                       /* 2027-07-01 00:00, lower, 0 draws, rows: 7 */
     return 0;
 }

@@ -1,12 +1,13 @@
-//! A portal in Rust: a curator's policies are judged or rewritten, certificates arrive, and the tables that an astronomer gets follow them.
+//! A portal in Rust: a curator's policies are judged or rewritten, certificates arrive for a semester, and the tables that an astronomer gets follow them and
+//! the clock.
 //!
 //!     bash run
 //!
 //! What it prints is in `portal.expected`, which was worked out from the documents by hand.
 
 use txindurbe::{
-    key, Certificate, Definition, Engine, Expression, Filing, Guard, Part, Polarity, Policy, Query, Refusal, Row, Rows, Slot, Store, Table, Term,
-    Verdict,
+    key, Certificate, Date, Definition, Engine, Expression, Filing, Guard, Minute, Part, Polarity, Policy, Query, Refusal, Row, Rows, Slot, Store,
+    Table, Term, Validity, Verdict,
 };
 
 const ARCHIVE: u32 = key(0);
@@ -58,19 +59,21 @@ struct Portal {
     public: Query,
     not_public: Query,
     not_under_embargo: Query,
+    now: Minute,
     store: Store,
     engine: Engine,
 }
 
 impl Portal {
     /// The policy's last definition says what is public.
-    fn new(policy: Policy, last: u32, store: Store) -> Portal {
+    fn new(policy: Policy, last: u32, now: Minute, store: Store) -> Portal {
         let (public, catalogue, embargo) = (Expression::definition(last), observations([7, 8, 9]), observations([9]));
         Portal {
             policy,
             public: Query::new(&public),
             not_public: Query::new(&catalogue.clone().minus(public)),
             not_under_embargo: Query::new(&catalogue.minus(embargo)),
+            now,
             store,
             engine: Engine::new(),
         }
@@ -94,7 +97,7 @@ impl Portal {
             _ => "withdrawn",
         };
         let is = if certificate.polarity == Polarity::Plus { "is" } else { "is not" };
-        print!("{} certifies that {} {is} {list}: ", atom(certificate.key), row(&certificate.row));
+        print!("{} certifies that {} {is} {list}, {}: ", atom(certificate.key), row(&certificate.row), term(certificate.validity)?);
         match self.store.file(&certificate) {
             Ok(Filing::Filed) => {
                 println!("filed");
@@ -106,9 +109,16 @@ impl Portal {
         Ok(())
     }
 
+    /// The tables at another minute.
+    fn it_is(&mut self, now: Minute) -> Result<(), Refusal> {
+        self.now = now;
+        println!("It is {}:", time(now)?);
+        self.show_tables()
+    }
+
     fn show_tables(&mut self) -> Result<(), Refusal> {
         for (about, query) in [("public", &self.public), ("not public", &self.not_public), ("not under embargo", &self.not_under_embargo)] {
-            let answer = self.engine.query(&self.policy, query, &self.store)?;
+            let answer = self.engine.query(&self.policy, query, self.now, &self.store)?;
             println!("  {about}, {}", table(&answer.table));
         }
         Ok(())
@@ -137,6 +147,15 @@ fn row(row: &Row) -> String {
     row.atoms().iter().map(|&word| atom(word)).collect::<Vec<_>>().join("/")
 }
 
+fn time(minute: Minute) -> Result<String, Refusal> {
+    let Date { year, month, day, hour, minute } = minute.date()?;
+    Ok(format!("{year}-{month:02}-{day:02} {hour:02}:{minute:02}"))
+}
+
+fn term(Validity { first, end }: Validity) -> Result<String, Refusal> {
+    Ok(format!("from {} to {}", time(first)?, time(end)?))
+}
+
 fn words(words: &[u32]) -> String {
     words.iter().map(|&word| atom(word)).collect::<Vec<_>>().join(" ")
 }
@@ -150,7 +169,9 @@ fn atom(word: u32) -> String {
 }
 
 fn main() -> Result<(), Refusal> {
-    let mut portal = Portal::new(policy(), 0, Store::new());
+    let semester = Validity::from_dates(Date::day(2027, 1, 1), Date::day(2027, 7, 1))?;
+    let next = Validity::from_dates(Date::day(2027, 7, 1), Date::day(2028, 1, 1))?;
+    let mut portal = Portal::new(policy(), 0, Minute::from_date(Date::day(2027, 3, 20))?, Store::new());
     println!("The policy: an observation is public if observatory k1 released it and did not withdraw it.");
     portal.judge("is public", &portal.public)?;
     portal.judge("of 7, 8 and 9 is not public", &portal.not_public)?;
@@ -165,18 +186,34 @@ fn main() -> Result<(), Refusal> {
         }
     }
 
-    println!("No certificate yet:");
-    portal.show_tables()?;
-    portal.arrives(Certificate::listed(OBSERVATORY, RELEASED, [7]))?;
-    portal.arrives(Certificate::not_listed(OBSERVATORY, WITHDRAWN, [7]))?;
-    portal.arrives(Certificate::listed(OBSERVATORY, RELEASED, [7]))?;
-    portal.arrives(Certificate::listed(5, RELEASED, [8]))?;
-    portal.arrives(Certificate::listed(OBSERVATORY, RELEASED, [8]))?;
-    portal.arrives(Certificate::not_listed(OBSERVATORY, WITHDRAWN, [8]))?;
-    portal.arrives(Certificate::listed(OBSERVATORY, RELEASED, [7, 1]))?;
+    println!("No certificate yet.");
+    portal.it_is(portal.now)?;
+    portal.arrives(Certificate::listed(OBSERVATORY, RELEASED, [7], semester))?;
+    portal.arrives(Certificate::not_listed(OBSERVATORY, WITHDRAWN, [7], semester))?;
+    portal.arrives(Certificate::listed(OBSERVATORY, RELEASED, [7], semester))?;
+    portal.arrives(Certificate::listed(5, RELEASED, [8], semester))?;
+    portal.arrives(Certificate::listed(OBSERVATORY, RELEASED, [8], semester))?;
+    portal.arrives(Certificate::not_listed(OBSERVATORY, WITHDRAWN, [8], semester))?;
+    portal.arrives(Certificate::listed(OBSERVATORY, RELEASED, [7, 1], semester))?;
     for (name, list) in [("released", released()), ("withdrawn", withdrawn())] {
-        let answer = portal.engine.query(&portal.policy, &Query::new(&list), &portal.store)?;
+        let answer = portal.engine.query(&portal.policy, &Query::new(&list), portal.now, &portal.store)?;
         println!("Now k1's {name} list has, {}", table(&answer.table));
+    }
+
+    println!("The certificates are for a semester: before it they do not hold yet, and at its end they hold no longer.");
+    let before = |minute: Minute| Minute::new(minute.number() - 1);
+    for minute in [before(semester.first), semester.first, before(semester.end), semester.end] {
+        portal.it_is(minute)?;
+    }
+    portal.arrives(Certificate::listed(OBSERVATORY, RELEASED, [7], Validity { end: next.first, ..next }))?;
+    portal.arrives(Certificate::listed(OBSERVATORY, RELEASED, [7], next))?;
+    portal.arrives(Certificate::not_listed(OBSERVATORY, WITHDRAWN, [7], next))?;
+    println!("Certificates of k1's released list, whenever they hold:");
+    for (certified, validity) in portal.store.certificates_of(OBSERVATORY, RELEASED, Polarity::Plus) {
+        println!("  {}, {}", row(&certified), term(validity)?);
+    }
+    if let Err(refusal) = Minute::from_date(Date::day(2027, 2, 29)) {
+        println!("2027-02-29: {refusal}");
     }
 
     println!("An external policy: an observation is public if k1 released it, and k0 says which keys are compromised. Rewritten, it vets each key:");
@@ -184,7 +221,7 @@ fn main() -> Result<(), Refusal> {
     let rewritten = external.rewrite()?;
     println!("  what is public: {}", words(external.part(&portal.public, Part::Definition(1))));
     println!("  rewritten: {}", words(rewritten.part(&portal.public, Part::Definition(1))));
-    let mut portal = Portal::new(rewritten, 1, portal.store);
+    let mut portal = Portal::new(rewritten, 1, portal.now, portal.store);
     portal.show_tables()?;
-    portal.arrives(Certificate::not_listed(ARCHIVE, COMPROMISED, [OBSERVATORY]))
+    portal.arrives(Certificate::not_listed(ARCHIVE, COMPROMISED, [OBSERVATORY], next))
 }

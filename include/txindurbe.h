@@ -1,7 +1,7 @@
 /*
  * Txindurbe: a policy engine for an archive of visibilities.
  *
- * File certificates into a store, then ask queries under a policy; the answer is a table of rows marked exact, lower or upper.
+ * File certificates into a store, then ask queries under a policy, at a minute; the answer is a table of rows marked exact, lower or upper.
  *
  * Everything is in 32-bit words, lengths are counted in words. Every call ends, whatever the words: what is malformed is refused with a number, and whatever
  * a call returns, it has written all of its out-parameters. No pointer may be null, not even one with the length 0 (nothing is then looked at there). What a
@@ -22,7 +22,7 @@ extern "C" {
 
 /* The version of this interface, and the same as one number that grows with it. */
 #define TXINDURBE_VERSION_MAJOR 0
-#define TXINDURBE_VERSION_MINOR 4
+#define TXINDURBE_VERSION_MINOR 5
 #define TXINDURBE_VERSION_PATCH 0
 #define TXINDURBE_VERSION (TXINDURBE_VERSION_MAJOR * 1000000 + TXINDURBE_VERSION_MINOR * 1000 + TXINDURBE_VERSION_PATCH)
 
@@ -36,15 +36,21 @@ enum {
     TXB_MINUS = 1                    /* a certificate says that its row is not in the list; with none held, any row may be */
 };
 
-/* A row is one to four atoms. The rows of a table, and the certificates of one name in a store, ascend strictly: atom by atom, unsigned; where one row ends
- * and the other goes on, the shorter comes first: 7, 7/1, 7/1/2, 8. A store from before version 0.3, where rows were in order by width first, may be refused
- * with TXB_BAD_STORE: every eight words behind its count are a certificate, to be filed again into an empty store. */
+/* A row is one to four atoms. The rows of a table ascend strictly: atom by atom, unsigned; where one row ends and the other goes on, the shorter comes first:
+ * 7, 7/1, 7/1/2, 8. */
+
+/* Minutes are counted from 2000-01-01 00:00 UTC. Any word is a minute; those below 52,596,000 have a date, in 2000 to 2099. A certificate has a term of
+ * validity: it holds from its first minute up to, but without, its end minute. At 4,294,967,295 none holds. */
+
+/* The certificates of a store ascend strictly: by key, name and polarity, then by the row, in the order above, then by first minute, then by end minute. One
+ * row may be certified with several terms. A store from before version 0.5 has certificates without a term and is not to be used as it is: every eight words
+ * behind its count are to be filed again into an empty store, with a first and an end minute behind them. */
 
 /* Lengths. A longer store or area is fine. A store starts empty if its first word is 0, whatever the others are. */
 enum {
     TXB_POLICY_WORDS = 8192,         /* the most words of a policy: an area of so many takes every rewritten one */
-    TXB_STORE_WORDS = 16001,         /* a count, then up to 2,000 certificates */
-    TXB_CERTIFICATE_WORDS = 8,       /* key, name, polarity, width (1 to 4), four atoms, unused ones 0 */
+    TXB_STORE_WORDS = 16001,         /* a count, then up to 1,600 certificates */
+    TXB_CERTIFICATE_WORDS = 10,      /* key, name, polarity, width (1 to 4), four atoms, unused ones 0, first minute, end minute */
     TXB_ANSWER_WORDS = 642,          /* form (0 these rows, 1 all rows but these), count, then width and four atoms a row; 128 rows at most */
     TXB_DEFINITIONS_WORDS = 10272,
     TXB_SCRATCH_WORDS = 16384
@@ -52,7 +58,7 @@ enum {
 
 /* Verdicts: how the table is to be read. */
 enum {
-    TXB_EXACT = 0,                   /* the rows that belong to the query, whatever is in the lists that the store does not hold */
+    TXB_EXACT = 0,                   /* the rows that belong to the query, whatever the lists have beside what is certified at the minute asked for */
     TXB_LOWER = 1,                   /* exactly the rows that belong to it under all such lists */
     TXB_UPPER = 2,                   /* a row that is missing here belongs to it under no such lists */
     TXB_NO_VERDICT = 3               /* refused: there is no table */
@@ -61,10 +67,11 @@ enum {
 /* Replies to filing that are no refusals. */
 enum {
     TXB_FILED = 0,                   /* the certificate is new and now in the store */
-    TXB_HELD = 1                     /* it was there already */
+    TXB_HELD = 1                     /* it was there already, with the same term */
 };
 
-/* Refusal numbers. txb_file gives 8, 9 and 10, txb_judge 1 to 7, txb_query 1 to 8 and 11 to 14, txb_rewrite 1 to 7, 11 and 15. */
+/* Refusal numbers. txb_file gives 8, 9, 10 and 17, txb_judge 1 to 7, txb_query 1 to 8 and 11 to 14, txb_rewrite 1 to 7, 11 and 15, txb_minutes and txb_date
+ * 16. */
 enum {
     TXB_BAD_HEADER = 1,              /* policy: under 2 or over 8,192 words, another format, over 16 definitions, or the table is cut short */
     TXB_BAD_TABLE = 2,               /* policy: a table entry breaks a rule, or the parts do not end with the policy */
@@ -74,14 +81,16 @@ enum {
     TXB_TOO_DEEP = 5,                /* an expression at depth 16, or a ninth draw */
     TXB_NO_POLARITY = 6,             /* a definition does not have its declared polarity, or a query has none */
     TXB_OPEN_DRAW = 7,               /* a draw from an expression that may be a complement */
-    TXB_BAD_STORE = 8,               /* the store is too short or unsound */
-    TXB_BAD_CERTIFICATE = 9,         /* the certificate is not eight words, or unsound */
-    TXB_STORE_FULL = 10,             /* 2,000 certificates are held and this one is new */
+    TXB_BAD_STORE = 8,               /* the store is too short or unsound; so is one with a certificate whose end is not after its first minute */
+    TXB_BAD_CERTIFICATE = 9,         /* the certificate is not ten words, or unsound in its key, name, polarity, width or unused atoms */
+    TXB_STORE_FULL = 10,             /* 1,600 certificates are held and this one is new */
     TXB_SHORT_AREA = 11,             /* the answer, definition or scratch area is too short, or the area for a rewritten policy */
     TXB_COMPLEMENT_DRAWN = 12,       /* a complement is drawn from while reading */
     TXB_TOO_MANY_ROWS = 13,          /* a value lists over 128 rows: that of the query, of a definition, or of anything read on the way, as one name's list */
     TXB_TOO_MANY_DRAWS = 14,         /* a draw is due and 1,000,000 were made */
-    TXB_NOT_EXTERNAL = 15            /* policy: an external rule is broken, or the output would pass 8,192 words */
+    TXB_NOT_EXTERNAL = 15,           /* policy: an external rule is broken, or the output would pass 8,192 words */
+    TXB_BAD_DATE = 16,               /* a date that does not exist or lies outside 2000 to 2099, or a minute that has none */
+    TXB_BAD_TERM = 17                /* the certificate's end is not after its first minute */
 };
 
 /* The part that a refusal is about: 0 to 15 a definition, or one of these. */
@@ -90,20 +99,21 @@ enum {
     TXB_NO_PART = 17                 /* neither; also where nothing is refused */
 };
 
-/* Files one certificate. Returns TXB_FILED, TXB_HELD or a refusal number. Only TXB_FILED changes the store, and never a word past its last record. */
+/* Files one certificate. Returns TXB_FILED, TXB_HELD or a refusal number: TXB_BAD_STORE, TXB_BAD_CERTIFICATE, TXB_BAD_TERM, then, if it is not held,
+ * TXB_STORE_FULL. Only TXB_FILED changes the store, and never a word past its last record. */
 uint32_t txb_file(uint32_t *store, size_t store_words, const uint32_t *certificate, size_t certificate_words);
 
 /* Judges a policy and a query without a store. Returns 0 and the verdict that an answer would have, with the part TXB_NO_PART; or a refusal number from 1 to
  * 7 and its part, with the verdict TXB_NO_VERDICT. */
 uint32_t txb_judge(const uint32_t *policy, size_t policy_words, const uint32_t *query, size_t query_words, uint32_t *part, uint32_t *verdict);
 
-/* Answers a query from the certificates that the store holds. Returns 0, the verdict and the number of draws, with the part TXB_NO_PART: the table then fills
- * 2 + 5 * count words of the answer area, and the rest of it is unchanged. Or returns a refusal number and its part, with the verdict TXB_NO_VERDICT and 0
- * draws: the answer area is then unchanged, and what it holds from an earlier query is no answer to this one. The definition and scratch areas hold arbitrary
- * words afterwards; what was in them makes no difference. */
-uint32_t txb_query(const uint32_t *policy, size_t policy_words, const uint32_t *query, size_t query_words, const uint32_t *store, size_t store_words,
-                   uint32_t *answer, size_t answer_words, uint32_t *definitions, size_t definitions_words, uint32_t *scratch, size_t scratch_words,
-                   uint32_t *part, uint32_t *verdict, uint32_t *draws);
+/* Answers a query from those certificates of the store that hold at the minute. A row counts once, however many of its certificates hold then. Returns 0, the
+ * verdict and the number of draws, with the part TXB_NO_PART: the table then fills 2 + 5 * count words of the answer area, and the rest of it is unchanged.
+ * Or returns a refusal number and its part, with the verdict TXB_NO_VERDICT and 0 draws: the answer area is then unchanged, and what it holds from an earlier
+ * query is no answer to this one. The definition and scratch areas hold arbitrary words afterwards; what was in them makes no difference. */
+uint32_t txb_query(const uint32_t *policy, size_t policy_words, const uint32_t *query, size_t query_words, uint32_t minute, const uint32_t *store,
+                   size_t store_words, uint32_t *answer, size_t answer_words, uint32_t *definitions, size_t definitions_words, uint32_t *scratch,
+                   size_t scratch_words, uint32_t *part, uint32_t *verdict, uint32_t *draws);
 
 /* Rewrites an external policy, so that it relies on no list of a compromised key. In an external policy definition 0 may be the name 0, -, which lists the
  * compromised keys; every other definition is +, and none has a difference, an absent guard or code 8. Each key's list (code 4) in a later definition becomes
@@ -118,9 +128,16 @@ uint32_t txb_rewrite(const uint32_t *policy, size_t policy_words, uint32_t *area
  * or the policy is refused with 1 or 2. */
 size_t txb_part(const uint32_t *policy, size_t policy_words, const uint32_t *query, size_t query_words, uint32_t number, uint32_t *of_query, size_t *start);
 
-/* Where one name's certificates stand in the store, eight words each. Returns how many words they take; they start at the word start of the store. There are
- * none if the store holds none or is unsound. */
+/* Where one name's certificates stand in the store, ten words each, whenever they hold. Returns how many words they take; they start at the word start of the
+ * store. There are none if the store holds none or is unsound. */
 size_t txb_certificates_of(const uint32_t *store, size_t store_words, uint32_t key, uint32_t name, uint32_t polarity, size_t *start);
+
+/* The minute that begins at a date: a year from 2000 to 2099, a month from 1, a day from 1, an hour from 0 and a minute from 0, all in UTC. Returns 0; or
+ * TXB_BAD_DATE, with 0 minutes. */
+uint32_t txb_minutes(uint32_t year, uint32_t month, uint32_t day, uint32_t hour, uint32_t minute, uint32_t *minutes);
+
+/* The date at which a minute begins. Returns 0; or TXB_BAD_DATE, with a date of zeros, from 52,596,000 on. */
+uint32_t txb_date(uint32_t minutes, uint32_t *year, uint32_t *month, uint32_t *day, uint32_t *hour, uint32_t *minute);
 
 #ifdef __cplusplus
 }

@@ -4,6 +4,7 @@
 //! trusted, and no draw is made that is not needed. Where both are the same program, it stands here once.
 
 use crate::tasks::{Asked, Record, ARCHIVE, COMPROMISED, LEFT, OBSERVATORIES, OBSERVATORY, RELEASED, RIGHT, SMALL, TRUSTED, WITHDRAWN};
+use differential::evaluator::Date;
 use std::cmp::Ordering;
 use std::hint::black_box;
 use std::iter::from_fn;
@@ -19,14 +20,16 @@ fn pair(first: u32, second: u32) -> u64 {
     u64::from(first) << 32 | u64::from(second)
 }
 
-/// A certificate as four numbers, which compare as certificates do: the width decides last, where one row ends and the other goes on with zeros.
-fn packed(record: &Record) -> [u64; 4] {
-    let [key, name, polarity, width, a, b, c, d] = *record;
-    [pair(key, name), pair(polarity, a), pair(b, c), pair(d, width)]
+/// A certificate as five numbers, which compare as certificates do: of a row the width decides last, where one row ends and the other goes on with zeros.
+type Packed = [u64; 5];
+
+fn packed(record: &Record) -> Packed {
+    let [key, name, polarity, width, a, b, c, d, first, end] = *record;
+    [pair(key, name), pair(polarity, a), pair(b, c), pair(d, width), pair(first, end)]
 }
 
 /// Spelled out, which is quicker than the order of arrays.
-fn before(a: &[u64; 4], b: &[u64; 4]) -> bool {
+fn before(a: &Packed, b: &Packed) -> bool {
     if a[0] != b[0] {
         return a[0] < b[0];
     }
@@ -36,7 +39,10 @@ fn before(a: &[u64; 4], b: &[u64; 4]) -> bool {
     if a[2] != b[2] {
         return a[2] < b[2];
     }
-    a[3] < b[3]
+    if a[3] != b[3] {
+        return a[3] < b[3];
+    }
+    a[4] < b[4]
 }
 
 fn records(store: &[u32]) -> &[Record] {
@@ -44,7 +50,7 @@ fn records(store: &[u32]) -> &[Record] {
 }
 
 fn sound_record(record: &Record) -> bool {
-    let [key, name, polarity, width, _, b, c, d] = *record;
+    let [key, name, polarity, width, _, b, c, d, first, end] = *record;
     let unused = match width {
         1 => b | c | d,
         2 => c | d,
@@ -52,7 +58,7 @@ fn sound_record(record: &Record) -> bool {
         4 => 0,
         _ => 1,
     };
-    key >> 31 == 1 && name >> 16 == 0 && polarity < 2 && unused == 0
+    key >> 31 == 1 && name >> 16 == 0 && polarity < 2 && unused == 0 && first < end
 }
 
 pub fn sound(store: &[u32]) -> bool {
@@ -60,7 +66,7 @@ pub fn sound(store: &[u32]) -> bool {
         return false;
     }
     // Nothing sound is below zeros.
-    let mut last = [0; 4];
+    let mut last = [0; 5];
     for record in records(store) {
         let this = packed(record);
         if !before(&last, &this) || !sound_record(record) {
@@ -76,13 +82,39 @@ pub fn tested(program: Program) -> impl Fn(&Asked, &mut [u32]) -> Option<u32> {
     move |asked, answer| sound(&asked.store).then(|| program(asked, answer)).flatten()
 }
 
-fn rows_of_name(asked: &Asked, issuer: u32, name: u32, polarity: u32) -> Option<&[Record]> {
+/// One name's part of the store, to be read at the minute.
+struct Rows<'a> {
+    part: &'a [Record],
+    minute: u32,
+}
+
+impl<'a> Rows<'a> {
+    /// A record of each row that holds, in order. Records of one row stand side by side, and the first atom mostly tells two rows apart.
+    fn iter(&self) -> impl Iterator<Item = &'a Record> + use<'a> {
+        let minute = self.minute;
+        let mut last: Option<&Record> = None;
+        let holding = self.part.iter().filter(move |record| record[8] <= minute && minute < record[9]);
+        holding.filter(move |record| last.replace(record).is_none_or(|last| last[4] != record[4] || last[3..8] != record[3..8]))
+    }
+
+    fn count(&self) -> usize {
+        self.iter().count()
+    }
+}
+
+fn rows_of_name(asked: &Asked, issuer: u32, name: u32, polarity: u32) -> Option<Rows<'_>> {
     let wanted = [issuer, name, polarity];
     let records = records(&asked.store);
     let start = records.partition_point(|record| record[..3] < wanted[..]);
-    let near = &records[start..records.len().min(start + MOST_ROWS + 1)];
-    let length = near.partition_point(|record| record[..3] == wanted[..]);
-    (length <= MOST_ROWS).then(|| &near[..length])
+    let of_name = |record: &Record| record[..3] == wanted[..];
+    // Mostly the name has no more records than a set may list rows.
+    let near = records.len().min(start + MOST_ROWS + 1);
+    let mut length = records[start..near].partition_point(of_name);
+    if length > MOST_ROWS {
+        length += records[near..].partition_point(of_name);
+    }
+    let rows = Rows { part: &records[start..start + length], minute: asked.minute };
+    (length <= MOST_ROWS || rows.count() <= MOST_ROWS).then_some(rows)
 }
 
 /// An answer's words, laid out row by row.
@@ -123,12 +155,12 @@ fn row_of_atom(atom: u32) -> RowWords {
 }
 
 /// Those of the rows that have one atom.
-fn atoms(rows: &[Record]) -> impl Iterator<Item = u32> + '_ {
+fn atoms<'a>(rows: &Rows<'a>) -> impl Iterator<Item = u32> + use<'a> {
     rows.iter().filter(|record| record[3] == 1).map(|record| record[4])
 }
 
 /// The atoms drawn that are among the others, or those that are not. All are in order, so that one pass is enough.
-fn compared<'a>(drawn: &'a [Record], others: impl Iterator<Item = u32> + 'a, among: bool) -> impl Iterator<Item = u32> + 'a {
+fn compared<'a, O: Iterator<Item = u32>>(drawn: &Rows<'a>, others: O, among: bool) -> impl Iterator<Item = u32> + use<'a, O> {
     let mut others = others.peekable();
     atoms(drawn).filter(move |atom| {
         while others.next_if(|other| other < atom).is_some() {}
@@ -140,7 +172,7 @@ fn compared<'a>(drawn: &'a [Record], others: impl Iterator<Item = u32> + 'a, amo
 fn public_of(asked: &Asked, observatory: u32) -> Option<(u32, impl Iterator<Item = u32> + '_)> {
     let released = rows_of_name(asked, observatory, RELEASED, 0)?;
     let not_withdrawn = rows_of_name(asked, observatory, WITHDRAWN, 1)?;
-    Some((released.len() as u32, compared(released, atoms(not_withdrawn), true)))
+    Some((released.count() as u32, compared(&released, atoms(&not_withdrawn), true)))
 }
 
 pub fn public(asked: &Asked, answer: &mut [u32]) -> Option<u32> {
@@ -153,8 +185,8 @@ pub fn public(asked: &Asked, answer: &mut [u32]) -> Option<u32> {
 pub fn embargo(asked: &Asked, answer: &mut [u32]) -> Option<u32> {
     let released = rows_of_name(asked, OBSERVATORY, RELEASED, 0)?;
     let embargoed = literal(&asked.policy[6..]);
-    lay_out(compared(released, embargoed.into_iter(), false).map(row_of_atom), answer);
-    Some(released.len() as u32)
+    lay_out(compared(&released, embargoed.into_iter(), false).map(row_of_atom), answer);
+    Some(released.count() as u32)
 }
 
 fn sorted<const WIDTH: usize>(mut rows: Vec<[u32; WIDTH]>, answer: &mut [u32]) {
@@ -171,9 +203,9 @@ fn sorted<const WIDTH: usize>(mut rows: Vec<[u32; WIDTH]>, answer: &mut [u32]) {
 
 pub fn delegation(asked: &Asked, answer: &mut [u32]) -> Option<u32> {
     let trusted = rows_of_name(asked, ARCHIVE, TRUSTED, 0)?;
-    let mut draws = trusted.len() as u32;
+    let mut draws = trusted.count() as u32;
     let mut observations = Vec::with_capacity(MOST_CERTIFICATES);
-    for observatory in atoms(trusted) {
+    for observatory in atoms(&trusted) {
         let (released, public) = public_of(asked, observatory)?;
         draws += released;
         observations.extend(public.map(|observation| [observation]));
@@ -184,15 +216,15 @@ pub fn delegation(asked: &Asked, answer: &mut [u32]) -> Option<u32> {
 
 /// The policy takes the archive's word for which keys are compromised: its own must not be either.
 pub fn vetted_delegation(asked: &Asked, answer: &mut [u32]) -> Option<u32> {
-    let not_compromised: Vec<u32> = atoms(rows_of_name(asked, ARCHIVE, COMPROMISED, 1)?).collect();
+    let not_compromised: Vec<u32> = atoms(&rows_of_name(asked, ARCHIVE, COMPROMISED, 1)?).collect();
     let vetted = |key: &u32| not_compromised.binary_search(key).is_ok();
-    let trusted = if vetted(&ARCHIVE) { rows_of_name(asked, ARCHIVE, TRUSTED, 0)? } else { &[] };
-    let mut draws = trusted.len() as u32;
+    let trusted = if vetted(&ARCHIVE) { rows_of_name(asked, ARCHIVE, TRUSTED, 0)? } else { Rows { part: &[], minute: asked.minute } };
+    let mut draws = trusted.count() as u32;
     let mut observations = Vec::with_capacity(MOST_CERTIFICATES);
-    for observatory in atoms(trusted).filter(vetted) {
+    for observatory in atoms(&trusted).filter(vetted) {
         let released = rows_of_name(asked, observatory, RELEASED, 0)?;
-        draws += released.len() as u32;
-        observations.extend(atoms(released).map(|observation| [observation]));
+        draws += released.count() as u32;
+        observations.extend(atoms(&released).map(|observation| [observation]));
     }
     sorted(observations, answer);
     Some(draws)
@@ -200,7 +232,7 @@ pub fn vetted_delegation(asked: &Asked, answer: &mut [u32]) -> Option<u32> {
 
 /// The order of rows, where the first atom mostly decides; behind it stand the other ones and the width.
 fn row_order(a: &Record, b: &Record) -> Ordering {
-    a[4].cmp(&b[4]).then_with(|| packed(a)[2..].cmp(&packed(b)[2..]))
+    a[4].cmp(&b[4]).then_with(|| packed(a)[2..4].cmp(&packed(b)[2..4]))
 }
 
 /// The rows of both, in order as both are, equal ones once.
@@ -225,14 +257,15 @@ fn united<'a>(mut left: impl Iterator<Item = &'a Record>, mut right: impl Iterat
 
 /// No list is made on the way: each row goes straight into the answer.
 pub fn unions(asked: &Asked, answer: &mut [u32]) -> Option<u32> {
-    let released = |observatory| rows_of_name(asked, observatory, RELEASED, 0).map(<[Record]>::iter);
+    let released = |observatory| rows_of_name(asked, observatory, RELEASED, 0).map(|rows| rows.iter());
     let [first, second, third, fourth] = OBSERVATORIES.map(released);
     lay_out(united(united(first?, second?), united(third?, fourth?)).map(row), answer);
     Some(0)
 }
 
-fn left_and_right(asked: &Asked) -> Option<[&[Record]; 2]> {
-    Some([rows_of_name(asked, OBSERVATORY, LEFT, 0)?, rows_of_name(asked, OBSERVATORY, RIGHT, 0)?])
+fn left_and_right(asked: &Asked) -> Option<[Vec<&Record>; 2]> {
+    let rows = |name| rows_of_name(asked, OBSERVATORY, name, 0).map(|rows| rows.iter().collect());
+    Some([rows(LEFT)?, rows(RIGHT)?])
 }
 
 /// Each right row is drawn for each left one.
@@ -242,7 +275,7 @@ pub fn join(asked: &Asked, answer: &mut [u32]) -> Option<u32> {
     let mut draws = 0;
     for l in left {
         draws += 1;
-        for r in right {
+        for r in &right {
             draws += 1;
             if l[3] == 2 && r[3] == 2 && l[5] == r[4] {
                 pairs.push([l[4], r[5]]);
@@ -439,4 +472,64 @@ pub fn small(asked: &Asked, answer: &mut [u32]) -> Option<u32> {
     let rows = rows_of_name(asked, OBSERVATORY, SMALL, 0)?;
     lay_out(rows.iter().map(row), answer);
     Some(0)
+}
+
+/// Days before each month, in a year that is not a leap year.
+const DAYS_BEFORE: [u32; 12] = [0, 31, 59, 90, 120, 151, 181, 212, 243, 273, 304, 334];
+
+/// Days of the year before a month, both counted from 0; before month 12, all of them. From 2000 to 2099 each fourth year is a leap year.
+fn days_before(year: u32, month: u32) -> u32 {
+    if month == 12 {
+        return 365 + u32::from(year.is_multiple_of(4));
+    }
+    DAYS_BEFORE[month as usize] + u32::from(month > 1 && year.is_multiple_of(4))
+}
+
+/// Nothing where the date does not exist.
+pub fn minutes([year, month, day, hour, minute]: Date) -> Option<u32> {
+    let (year, month) = (year.wrapping_sub(2_000), month.wrapping_sub(1));
+    if year > 99 || month > 11 || hour > 23 || minute > 59 {
+        return None;
+    }
+    let (before, after) = (days_before(year, month), days_before(year, month + 1));
+    let day = before + day.wrapping_sub(1).min(31);
+    (day < after).then(|| ((365 * year + year.div_ceil(4) + day) * 24 + hour) * 60 + minute)
+}
+
+/// Nothing after 2099.
+pub fn date(minutes: u32) -> Option<Date> {
+    let (days, minute_of_day) = (minutes / 1_440, minutes % 1_440);
+    if days >= 36_525 {
+        return None;
+    }
+    let (fours, day) = (days / 1_461, days % 1_461);
+    let year_of_four = day.saturating_sub(1) / 365;
+    let year = 4 * fours + year_of_four;
+    let day = day - (365 * year_of_four + u32::from(year_of_four > 0));
+    // Months have at most 32 days, so that it is this month or the one after.
+    let early = day / 32;
+    let month = early + u32::from(day >= days_before(year, early + 1));
+    Some([2_000 + year, month + 1, day - days_before(year, month) + 1, minute_of_day / 60, minute_of_day % 60])
+}
+
+#[cfg(test)]
+mod tests {
+    use super::*;
+    use differential::evaluator::Evaluator;
+
+    #[test]
+    fn dates_are_those_of_the_evaluator() {
+        let evaluator = Evaluator::default();
+        for day in 0..36_600 {
+            let minute = day * 1_440 + day % 1_440;
+            assert_eq!(date(minute), evaluator.date(minute).ok(), "{minute}");
+        }
+        for year in 1_999..2_101 {
+            for (month, day) in (0..14).flat_map(|month| (0..33).map(move |day| (month, day))) {
+                let date = [year, month, day, day % 25, (2 * day) % 61];
+                assert_eq!(minutes(date), evaluator.minutes(date).ok(), "{date:?}");
+            }
+        }
+        assert_eq!((minutes([u32::MAX; 5]), date(u32::MAX)), (None, None));
+    }
 }

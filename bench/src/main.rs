@@ -1,4 +1,4 @@
-//! The library beside a straightforward evaluator, hand-tuned programs and SQLite, on twelve tasks.
+//! The library beside a straightforward evaluator, hand-tuned programs and SQLite, on fourteen tasks.
 //!
 //!     cargo run --release --offline [-- ROUNDS]
 //!     cargo run --release --offline -- --check
@@ -14,7 +14,7 @@ mod sqlite;
 mod tasks;
 
 use differential::engine::{Engine, Lent};
-use differential::evaluator::Evaluator;
+use differential::evaluator::{Date, Evaluator};
 use hand::Program;
 use measure::{measure, Measured};
 #[cfg(sqlite)]
@@ -124,7 +124,7 @@ impl Lendable {
 
     fn ask(&mut self, engine: &dyn Engine, asked: &Asked) -> Option<Outcome> {
         let lent = Lent { answer: &mut self.answer, definitions: &mut self.definitions, scratch: &mut self.scratch };
-        let reply = engine.query(&asked.policy, &asked.query, &asked.store, lent);
+        let reply = engine.query(&asked.policy, &asked.query, asked.minute, &asked.store, lent);
         (reply.number == 0).then(|| Outcome::of(&self.answer, reply.draws))
     }
 }
@@ -165,7 +165,7 @@ fn filing_task(records: &[Record]) -> Task {
     }
     contestants.push(contestant(HAND, filing(records, hand::file)));
     contestants.push(contestant(FREE, filing(records, hand::file_free)));
-    Task { name: "d: 2,000 certificates filed in random order", draws: 0, contestants }
+    Task { name: "d: 1,600 certificates filed in random order", draws: 0, contestants }
 }
 
 /// Rewrites the policy into an area: the rows are the output's words.
@@ -190,16 +190,47 @@ fn rewriting_task(policy: &[u32]) -> Task {
     Task { name: "k: an external policy of 16 definitions rewritten, 8,177 words", draws: 0, contestants }
 }
 
+/// Converts each date to minutes and back: the rows are the dates.
+fn converting(dates: &[Date], mut convert: impl FnMut(Date) -> Option<(u32, Date)>) -> impl FnMut() -> Option<Outcome> {
+    let dates = dates.to_vec();
+    move || {
+        let mut sum = 0;
+        for date in &dates {
+            let (minutes, back) = convert(*date)?;
+            sum += u64::from(minutes) + back.iter().zip(1..).map(|(&word, place)| place * u64::from(word)).sum::<u64>();
+        }
+        Some(Outcome { rows: dates.len() as u64, sum, draws: None })
+    }
+}
+
+/// SQLite takes no part.
+fn converting_task(dates: &[Date]) -> Task {
+    let mut contestants = Vec::new();
+    for (name, engine) in engines() {
+        let convert = move |date| {
+            let minutes = Some(engine.minutes(date)).filter(|reply| reply.number == 0)?.minutes;
+            Some(engine.date(minutes)).filter(|reply| reply.number == 0).map(|reply| (minutes, reply.date))
+        };
+        contestants.push(contestant(name, converting(dates, convert)));
+    }
+    let by_hand = |date| hand::minutes(date).and_then(|minutes| Some((minutes, hand::date(minutes)?)));
+    contestants.push(contestant(HAND, converting(dates, by_hand)));
+    contestants.push(contestant(FREE, converting(dates, by_hand)));
+    Task { name: "n: 1,000 dates converted to minutes and back", draws: 0, contestants }
+}
+
 fn unions_task(unions: &Certificates) -> Task {
-    let asked = Asked { policy: tasks::unions_policy(), query: tasks::unions_query(), store: tasks::store_of(unions) };
+    let asked = Asked { policy: tasks::unions_policy(), query: tasks::unions_query(), minute: tasks::NOW, store: tasks::store_of(unions) };
     query_task("l: union of two names and a definition of 40 rows each, nested three deep", asked, 0, hand::unions, hand::unions)
 }
 
 fn tasks() -> Vec<Task> {
     let (certificates, delegations, observations) = (tasks::certificates(), tasks::delegations(), tasks::observations());
-    let (vetted_delegations, unions) = (tasks::vetted_delegations(), tasks::unions());
+    let (vetted_delegations, unions, half_expired) = (tasks::vetted_delegations(), tasks::unions(), tasks::half_expired());
     let filed = tasks::in_random_order(&certificates);
-    let asked = |policy: &[u32], query: Vec<u32>| Asked { policy: policy.to_vec(), query, store: tasks::store_of(&certificates) };
+    let of_store =
+        |certificates, policy: &[u32], query| Asked { policy: policy.to_vec(), query, minute: tasks::NOW, store: tasks::store_of(certificates) };
+    let asked = |policy: &[u32], query: Vec<u32>| of_store(&certificates, policy, query);
     let alone = |query: Vec<u32>| asked(tasks::EMPTY_POLICY, query);
     let mut tasks = vec![
         query_task(
@@ -243,49 +274,61 @@ fn tasks() -> Vec<Task> {
         ),
         query_task(
             "j: delegation to 40 observatories under a rewritten policy, 640 draws",
-            Asked { policy: tasks::vetted_policy(), query: tasks::VETTED_QUERY.to_vec(), store: tasks::store_of(&vetted_delegations) },
+            of_store(&vetted_delegations, &tasks::vetted_policy(), tasks::VETTED_QUERY.to_vec()),
             640,
             hand::vetted_delegation,
             hand::vetted_delegation,
         ),
         rewriting_task(&tasks::long_external_policy()),
         unions_task(&unions),
+        query_task(
+            "m: released and not withdrawn, a full store, half of it expired",
+            of_store(&half_expired, &tasks::policy_p(), tasks::QUERY_Q.to_vec()),
+            128,
+            hand::public,
+            hand::public,
+        ),
+        converting_task(&tasks::dates()),
     ];
-    let stores = [&certificates, &delegations, &observations, &vetted_delegations, &unions];
+    let stores = [&certificates, &delegations, &observations, &vetted_delegations, &unions, &half_expired];
     for (task, run) in tasks.iter_mut().zip(sqlite_runs(stores, filed)) {
         task.contestants.extend(run.map(|run| Contestant { name: SQLITE, run }));
     }
     tasks
 }
 
-/// In the order of the tasks, none for rewriting. The databases live as long as the program.
+/// In the order of the tasks, none for rewriting and converting. The databases live as long as the program.
 #[cfg(sqlite)]
-fn sqlite_runs(stores: [&Certificates; 5], filed: Vec<Record>) -> [Option<Run>; 12] {
+fn sqlite_runs(stores: [&Certificates; 6], filed: Vec<Record>) -> [Option<Run>; 14] {
     let kept = |database: Database| -> &'static Database { Box::leak(Box::new(database)) };
     let stores = stores.map(|certificates| kept(Database::holding(tasks::words_of(certificates))));
-    let [held, delegations, observations, vetted_delegations, unions] = stores;
+    let [held, delegations, observations, vetted_delegations, unions, half_expired] = stores;
     let (empty, literals) = (kept(Database::holding([])), kept(Database::of_literals()));
     held.hold("embargoed", tasks::embargoed());
-    let answered = |mut statement: Statement<'static>, columns| -> Option<Run> { Some(Box::new(move || Some(statement.run(&[], columns)))) };
+    let answered =
+        |mut statement: Statement<'static>, columns| -> Option<Run> { Some(Box::new(move || Some(statement.run(&[tasks::NOW], columns)))) };
+    let drawn = |mut statement: Statement<'static>| -> Option<Run> { Some(Box::new(move || Some(statement.run(&[], 1)))) };
     let (mut insert, mut transaction) = (empty.insert(), empty.transaction());
     [
         answered(held.public(), 1),
         answered(held.join(), 2),
-        answered(literals.draws_constant(), 1),
+        drawn(literals.draws_constant()),
         Some(Box::new(move || Some(empty.file_all(&mut insert, &mut transaction, &filed)))),
         answered(held.small(), 4),
-        answered(literals.draws_last(), 1),
+        drawn(literals.draws_last()),
         answered(delegations.delegation(), 1),
         answered(held.embargo(), 1),
         answered(observations.small(), 4),
         answered(vetted_delegations.vetted_delegation(), 1),
         None,
         answered(unions.unions(), 1),
+        answered(half_expired.public(), 1),
+        None,
     ]
 }
 
 #[cfg(not(sqlite))]
-fn sqlite_runs(_: [&Certificates; 5], _: Vec<Record>) -> [Option<Run>; 0] {
+fn sqlite_runs(_: [&Certificates; 6], _: Vec<Record>) -> [Option<Run>; 0] {
     []
 }
 

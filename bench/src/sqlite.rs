@@ -30,16 +30,22 @@ pub fn version() -> String {
     unsafe { CStr::from_ptr(sqlite3_libversion()) }.to_string_lossy().into_owned()
 }
 
-/// That a certificate is of this name and width.
-fn of_name(certificate: &str, key: impl Display, name: u32, polarity: u32, width: u32) -> String {
-    let conditions = [format!("key = {key}"), format!("name = {name}"), format!("polarity = {polarity}"), format!("width = {width}")];
+/// That a certificate is of this name and holds at the minute, which is bound when the statement runs.
+fn of_name(certificate: &str, key: impl Display, name: u32, polarity: u32) -> String {
+    let conditions =
+        [format!("key = {key}"), format!("name = {name}"), format!("polarity = {polarity}"), "first_minute <= ?1".into(), "end_minute > ?1".into()];
     conditions.map(|condition| format!("{certificate}.{condition}")).join(" AND ")
+}
+
+/// The same of this width.
+fn of_width(certificate: &str, key: impl Display, name: u32, polarity: u32, width: u32) -> String {
+    format!("{} AND {certificate}.width = {width}", of_name(certificate, key, name, polarity))
 }
 
 /// That a certificate `r` says that a row is released, and another of the same key that it is not withdrawn.
 fn public(key: impl Display) -> String {
-    let released = of_name("r", &key, RELEASED, 0, 1);
-    let not_withdrawn = of_name("w", &key, WITHDRAWN, 1, 1);
+    let released = of_width("r", &key, RELEASED, 0, 1);
+    let not_withdrawn = of_width("w", &key, WITHDRAWN, 1, 1);
     format!("{released} AND EXISTS (SELECT 1 FROM certificate w WHERE {not_withdrawn} AND w.a = r.a AND w.b = 0 AND w.c = 0 AND w.d = 0)")
 }
 
@@ -77,7 +83,7 @@ impl Database {
         let database = Database::open();
         database.run(
             "CREATE TABLE certificate (key INTEGER, name INTEGER, polarity INTEGER, width INTEGER, a INTEGER, b INTEGER, c INTEGER, d INTEGER,
-             PRIMARY KEY (key, name, polarity, a, b, c, d, width)) WITHOUT ROWID",
+             first_minute INTEGER, end_minute INTEGER, PRIMARY KEY (key, name, polarity, a, b, c, d, width, first_minute, end_minute)) WITHOUT ROWID",
         );
         let mut insert = database.insert();
         for record in certificates {
@@ -107,7 +113,7 @@ impl Database {
     }
 
     pub fn insert(&self) -> Statement<'_> {
-        self.prepare("INSERT OR IGNORE INTO certificate VALUES (?1, ?2, ?3, ?4, ?5, ?6, ?7, ?8)")
+        self.prepare("INSERT OR IGNORE INTO certificate VALUES (?1, ?2, ?3, ?4, ?5, ?6, ?7, ?8, ?9, ?10)")
     }
 
     /// Empties the table of certificates and files these.
@@ -124,19 +130,19 @@ impl Database {
     }
 
     pub fn public(&self) -> Statement<'_> {
-        self.prepare(&format!("SELECT r.a FROM certificate r WHERE {} ORDER BY r.a", public(OBSERVATORY)))
+        self.prepare(&format!("SELECT DISTINCT r.a FROM certificate r WHERE {} ORDER BY r.a", public(OBSERVATORY)))
     }
 
     pub fn delegation(&self) -> Statement<'_> {
-        let trusted = of_name("t", ARCHIVE, TRUSTED, 0, 1);
+        let trusted = of_width("t", ARCHIVE, TRUSTED, 0, 1);
         self.prepare(&format!("SELECT DISTINCT r.a FROM certificate t, certificate r WHERE {trusted} AND {} ORDER BY r.a", public("t.a")))
     }
 
     /// The archive's key must not be compromised either.
     pub fn vetted_delegation(&self) -> Statement<'_> {
-        let (trusted, released) = (of_name("t", ARCHIVE, TRUSTED, 0, 1), of_name("r", "t.a", RELEASED, 0, 1));
+        let (trusted, released) = (of_width("t", ARCHIVE, TRUSTED, 0, 1), of_width("r", "t.a", RELEASED, 0, 1));
         let vetted = |key: &str| {
-            let certified = of_name("n", ARCHIVE, COMPROMISED, 1, 1);
+            let certified = of_width("n", ARCHIVE, COMPROMISED, 1, 1);
             format!("EXISTS (SELECT 1 FROM certificate n WHERE {certified} AND n.a = {key} AND n.b = 0 AND n.c = 0 AND n.d = 0)")
         };
         let (archive, observatory) = (vetted(&ARCHIVE.to_string()), vetted("t.a"));
@@ -147,20 +153,20 @@ impl Database {
 
     /// The definition is a table, `embargoed`.
     pub fn embargo(&self) -> Statement<'_> {
-        let released = of_name("r", OBSERVATORY, RELEASED, 0, 1);
+        let released = of_width("r", OBSERVATORY, RELEASED, 0, 1);
         self.prepare(&format!(
-            "SELECT r.a FROM certificate r WHERE {released} AND NOT EXISTS (SELECT 1 FROM embargoed WHERE embargoed.n = r.a) ORDER BY r.a"
+            "SELECT DISTINCT r.a FROM certificate r WHERE {released} AND NOT EXISTS (SELECT 1 FROM embargoed WHERE embargoed.n = r.a) ORDER BY r.a"
         ))
     }
 
     /// The lists have rows of one atom alone.
     pub fn unions(&self) -> Statement<'_> {
-        let released = OBSERVATORIES.map(|observatory| format!("SELECT r.a FROM certificate r WHERE {}", of_name("r", observatory, RELEASED, 0, 1)));
+        let released = OBSERVATORIES.map(|observatory| format!("SELECT r.a FROM certificate r WHERE {}", of_width("r", observatory, RELEASED, 0, 1)));
         self.prepare(&format!("{} ORDER BY 1", released.join(" UNION ")))
     }
 
     pub fn join(&self) -> Statement<'_> {
-        let (left, right) = (of_name("l", OBSERVATORY, LEFT, 0, 2), of_name("r", OBSERVATORY, RIGHT, 0, 2));
+        let (left, right) = (of_width("l", OBSERVATORY, LEFT, 0, 2), of_width("r", OBSERVATORY, RIGHT, 0, 2));
         self.prepare(&format!("SELECT DISTINCT l.a, r.b FROM certificate l, certificate r WHERE {left} AND {right} AND r.a = l.b ORDER BY 1, 2"))
     }
 
@@ -174,9 +180,8 @@ impl Database {
     }
 
     pub fn small(&self) -> Statement<'_> {
-        self.prepare(&format!(
-            "SELECT a, b, c, d FROM certificate WHERE key = {OBSERVATORY} AND name = {SMALL} AND polarity = 0 ORDER BY a, b, c, d, width"
-        ))
+        let small = of_name("s", OBSERVATORY, SMALL, 0);
+        self.prepare(&format!("SELECT DISTINCT s.a, s.b, s.c, s.d, s.width FROM certificate s WHERE {small} ORDER BY 1, 2, 3, 4, 5"))
     }
 }
 

@@ -1,6 +1,6 @@
 //! What is measured: the words of each task, the same for all.
 
-use differential::evaluator::{self, Row};
+use differential::evaluator::{self, Date, Evaluator, Row, Validity};
 use differential::generate::{assemble, rewritten, united};
 use differential::random::Random;
 use std::collections::BTreeSet;
@@ -23,6 +23,14 @@ pub const COMPROMISED: u32 = 0;
 /// The observatories whose released lists are united.
 pub const OBSERVATORIES: [u32; 4] = [OBSERVATORY, key(2), key(3), key(4)];
 
+/// The minute at which queries are asked: 2027-03-20 00:00.
+pub const NOW: u32 = 14_313_600;
+/// It lies in the semester from 2027-01-01 00:00 to 2027-07-01 00:00.
+const SEMESTER: Validity = Validity { first: 14_201_280, end: 14_461_920 };
+/// The next one, to 2028-01-01 00:00, and both together.
+const NEXT: Validity = Validity { first: SEMESTER.end, end: 14_726_880 };
+const YEAR: Validity = Validity { first: SEMESTER.first, end: NEXT.end };
+
 /// A certificate's words.
 pub type Record = [u32; CERTIFICATE_WORDS];
 /// Certificates in the order of a store.
@@ -32,6 +40,7 @@ pub type Certificates = BTreeSet<evaluator::Record>;
 pub struct Asked {
     pub policy: Vec<u32>,
     pub query: Vec<u32>,
+    pub minute: u32,
     pub store: Vec<u32>,
 }
 
@@ -140,25 +149,47 @@ pub fn long_external_policy() -> Vec<u32> {
     assemble(&definitions)
 }
 
+/// It holds in the semester.
 fn certificate(issuer: u32, name: u32, polarity: u32, row: &[u32]) -> evaluator::Record {
-    evaluator::Record { name: [issuer, name, polarity], row: Row::new(row) }
+    evaluator::Record { name: [issuer, name, polarity], row: Row::new(row), validity: SEMESTER }
 }
 
-/// 2,000 certificates: 128 released rows, 100 of them not withdrawn, 100 left and 100 right, four of a small name, and others.
+/// 1,600 certificates: 128 released rows, 100 of them not withdrawn, 100 left and 100 right, four of a small name, and others. Four rows are released for the
+/// year as well, and four others for the next semester.
 pub fn certificates() -> Certificates {
+    observatory(MOST_CERTIFICATES)
+}
+
+/// 1,600 certificates: 800 of the same, and 800 of a year earlier. Most rows are among both, some have expired for good.
+pub fn half_expired() -> Certificates {
+    let all = observatory(MOST_CERTIFICATES / 2);
+    let a_year_earlier = |record: &evaluator::Record| {
+        let mut record = *record;
+        record.row.atoms[0] += 7 * 32;
+        record.validity.first -= YEAR.end - YEAR.first;
+        record.validity.end -= YEAR.end - YEAR.first;
+        record
+    };
+    all.iter().copied().chain(all.iter().map(a_year_earlier)).collect()
+}
+
+/// Others fill up the count.
+fn observatory(count: usize) -> Certificates {
     let certificate = |name, polarity, row: &[u32]| certificate(OBSERVATORY, name, polarity, row);
     let mut all: Certificates = (0..128).map(|n| certificate(RELEASED, 0, &[7 * n])).collect();
+    all.extend((20..24).map(|n| evaluator::Record { validity: YEAR, ..certificate(RELEASED, 0, &[7 * n]) }));
+    all.extend((128..132).map(|n| evaluator::Record { validity: NEXT, ..certificate(RELEASED, 0, &[7 * n]) }));
     all.extend((14..114).map(|n| certificate(WITHDRAWN, 1, &[7 * n])));
     all.extend((0..100).map(|n| certificate(LEFT, 0, &[n, 1_000 + (37 * n) % 100])));
     all.extend((0..100).map(|n| certificate(RIGHT, 0, &[1_000 + n, 2_000 + n])));
     all.extend((0..4).map(|n| certificate(SMALL, 0, &[n])));
     let others = (0..).map(|n| certificate(100 + n / 50, n % 2, &[n]));
-    let missing = MOST_CERTIFICATES - all.len();
+    let missing = count - all.len();
     all.extend(others.take(missing));
     all
 }
 
-/// 1,640 certificates: 40 trusted observatories, each with 20 of 100 observations released and 20 not withdrawn, 10 in both lists.
+/// 1,560 certificates: 40 trusted observatories, each with 20 of 100 observations released and 18 not withdrawn, 10 in both lists.
 pub fn delegations() -> Certificates {
     let mut all = BTreeSet::new();
     for n in 0..40 {
@@ -166,7 +197,7 @@ pub fn delegations() -> Certificates {
         let observed = |place: u32| (37 * n + 3 * place) % 100;
         all.insert(certificate(ARCHIVE, TRUSTED, 0, &[observatory]));
         all.extend((0..20).map(|place| certificate(observatory, RELEASED, 0, &[observed(place)])));
-        let even = (0..40).map(observed).filter(|observation| observation % 2 == 0);
+        let even = (0..36).map(observed).filter(|observation| observation % 2 == 0);
         all.extend(even.map(|observation| certificate(observatory, WITHDRAWN, 1, &[observation])));
     }
     all
@@ -188,7 +219,7 @@ pub fn unions() -> Certificates {
     all
 }
 
-/// 2,000 certificates: of each observation a row of one, of two and of three atoms, side by side; and four of the small name.
+/// 1,600 certificates: of each observation a row of one, of two and of three atoms, side by side; and four of the small name.
 pub fn observations() -> Certificates {
     let rows = (0..).flat_map(|n| [vec![n], vec![n, 1], vec![n, 1, 2]]);
     let mut all: Certificates = (0..4).map(|n| certificate(OBSERVATORY, SMALL, 0, &[n])).collect();
@@ -208,8 +239,35 @@ pub fn words_of(certificates: &Certificates) -> impl Iterator<Item = Record> + '
     certificates.iter().map(evaluator::Record::words)
 }
 
+/// 1,000 dates of 2000 to 2099.
+pub fn dates() -> Vec<Date> {
+    let mut random = Random::new(1);
+    let date = |minutes| Evaluator::default().date(minutes).expect("these minutes have dates");
+    (0..1_000).map(|_| date(random.below(52_596_000) as u32)).collect()
+}
+
 pub fn in_random_order(certificates: &Certificates) -> Vec<Record> {
     let mut filed: Vec<Record> = words_of(certificates).collect();
     Random::new(1).shuffle(&mut filed);
     filed
+}
+
+#[cfg(test)]
+mod tests {
+    use super::*;
+
+    #[test]
+    fn stores_hold_what_their_comments_say() {
+        let counts = [certificates(), half_expired(), observations(), delegations(), vetted_delegations(), unions()].map(|all| all.len());
+        assert_eq!(counts, [1_600, 1_600, 1_600, 1_560, 1_591, 130]);
+        assert_eq!(half_expired().iter().filter(|record| record.validity.end <= NOW).count(), 800);
+    }
+
+    #[test]
+    fn minutes_have_the_dates_that_their_comments_say() {
+        let days = [(NOW, [2027, 3, 20]), (SEMESTER.first, [2027, 1, 1]), (SEMESTER.end, [2027, 7, 1]), (NEXT.end, [2028, 1, 1])];
+        for (minute, [year, month, day]) in days {
+            assert_eq!(Evaluator::default().date(minute), Ok([year, month, day, 0, 0]));
+        }
+    }
 }

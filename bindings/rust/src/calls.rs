@@ -1,4 +1,4 @@
-//! The six calls of `include/txindurbe.h` over slices of words. All of this crate's unsafe code is here.
+//! The eight calls of `include/txindurbe.h` over slices of words. All of this crate's unsafe code is here.
 //!
 //! Every call takes any words at all and ends: what is malformed gets its refusal number. Most portals use [`Store`](crate::Store) and
 //! [`Engine`](crate::Engine) instead.
@@ -13,6 +13,7 @@ mod c {
             policy_words: usize,
             query: *const u32,
             query_words: usize,
+            minute: u32,
             store: *const u32,
             store_words: usize,
             answer: *mut u32,
@@ -37,6 +38,8 @@ mod c {
             start: *mut usize,
         ) -> usize;
         pub fn txb_certificates_of(store: *const u32, store_words: usize, key: u32, name: u32, polarity: u32, start: *mut usize) -> usize;
+        pub fn txb_minutes(year: u32, month: u32, day: u32, hour: u32, minute: u32, minutes: *mut u32) -> u32;
+        pub fn txb_date(minutes: u32, year: *mut u32, month: *mut u32, day: *mut u32, hour: *mut u32, minute: *mut u32) -> u32;
     }
 }
 
@@ -65,6 +68,20 @@ pub struct Rewriting {
     pub length: usize,
 }
 
+/// What converting a date hands out: number 0 and its minute; with a refusal its number and 0 minutes.
+#[derive(Clone, Copy, PartialEq, Eq, Debug)]
+pub struct Minutes {
+    pub number: u32,
+    pub minutes: u32,
+}
+
+/// What converting a minute hands out: number 0 and its year, month, day, hour and minute; with a refusal its number and zeros.
+#[derive(Clone, Copy, PartialEq, Eq, Debug)]
+pub struct Dated {
+    pub number: u32,
+    pub date: [u32; 5],
+}
+
 /// What out-parameters hold before a call. No reply has it, so that one left unwritten would be seen.
 const UNWRITTEN: u32 = u32::MAX;
 const UNWRITTEN_SIZE: usize = usize::MAX;
@@ -78,7 +95,7 @@ pub fn file(store: &mut [u32], certificate: &[u32]) -> u32 {
 }
 
 /// The answer's set is written to the front of its area.
-pub fn query(policy: &[u32], query: &[u32], store: &[u32], answer: &mut [u32], definitions: &mut [u32], scratch: &mut [u32]) -> Reply {
+pub fn query(policy: &[u32], query: &[u32], minute: u32, store: &[u32], answer: &mut [u32], definitions: &mut [u32], scratch: &mut [u32]) -> Reply {
     let [mut part, mut verdict, mut draws] = [UNWRITTEN; 3];
     let number = unsafe {
         c::txb_query(
@@ -86,6 +103,7 @@ pub fn query(policy: &[u32], query: &[u32], store: &[u32], answer: &mut [u32], d
             policy.len(),
             query.as_ptr(),
             query.len(),
+            minute,
             store.as_ptr(),
             store.len(),
             answer.as_mut_ptr(),
@@ -127,4 +145,17 @@ pub fn certificates_of(store: &[u32], key: u32, name: u32, polarity: u32) -> Ran
     let mut start = UNWRITTEN_SIZE;
     let length = unsafe { c::txb_certificates_of(store.as_ptr(), store.len(), key, name, polarity, &mut start) };
     start..start + length
+}
+
+/// Of a year, month, day, hour and minute.
+pub fn minutes([year, month, day, hour, minute]: [u32; 5]) -> Minutes {
+    let mut minutes = UNWRITTEN;
+    let number = unsafe { c::txb_minutes(year, month, day, hour, minute, &mut minutes) };
+    Minutes { number, minutes }
+}
+
+pub fn date(minutes: u32) -> Dated {
+    let [mut year, mut month, mut day, mut hour, mut minute] = [UNWRITTEN; 5];
+    let number = unsafe { c::txb_date(minutes, &mut year, &mut month, &mut day, &mut hour, &mut minute) };
+    Dated { number, date: [year, month, day, hour, minute] }
 }

@@ -1,5 +1,5 @@
 use crate::sizes::{ANSWER_WORDS, DEFINITIONS_WORDS, SCRATCH_WORDS};
-use crate::{calls, Part, Policy, Query, Refusal, Rows, Store};
+use crate::{calls, Minute, Part, Policy, Query, Refusal, Rows, Store};
 
 /// How a table is to be read: see [`Table`]. Policy and query alone decide it.
 #[derive(Clone, Copy, PartialEq, Eq, Hash, Debug)]
@@ -26,14 +26,15 @@ impl Verdict {
 ///
 /// The archive rarely holds every certificate there is: a + list has the rows certified and perhaps others, a − list lacks the rows certified and perhaps
 /// others. Whether a row belongs to a query can hang on those others, and the verdict says what the table promises about them. The promises are proved, and
-/// hold as long as the certificates are true. They compare answers: with more certificates a query may also come to be refused, as with too many rows.
+/// are kept as long as the certificates that hold at the minute asked for are true. They compare answers, and at one minute: with more certificates a query
+/// may also come to be refused, as with too many rows, and at another minute other certificates hold, so that a table may gain rows and lose others.
 #[derive(Clone, PartialEq, Eq, Debug)]
 pub enum Table {
     /// Exactly the rows that belong to the query whatever the lists have beside what is certified. Other rows may belong too. When more certificates are
-    /// filed, the same query under the same policy gains rows or keeps them.
+    /// filed, the same query under the same policy and at the same minute gains rows or keeps them.
     Lower(Rows),
     /// The rows that are missing here are exactly those that do not belong to the query whatever the lists have beside what is certified. Those here need
-    /// not all belong. When more certificates are filed, the same query under the same policy loses rows or keeps them.
+    /// not all belong. When more certificates are filed, the same query under the same policy and at the same minute loses rows or keeps them.
     Upper(Rows),
     /// The rows that belong to the query, and no others, whatever the lists have. The same query under the same policy always gives the same ones.
     Exact(Rows),
@@ -66,9 +67,10 @@ impl Engine {
         Engine { answer: vec![0; ANSWER_WORDS], definitions: vec![0; DEFINITIONS_WORDS], scratch: vec![0; SCRATCH_WORDS] }
     }
 
-    pub fn query(&mut self, policy: &Policy, query: &Query, store: &Store) -> Result<Answer, Refusal> {
+    /// From the certificates that hold at the minute. A row counts once, however many of its certificates hold then.
+    pub fn query(&mut self, policy: &Policy, query: &Query, minute: Minute, store: &Store) -> Result<Answer, Refusal> {
         let Engine { answer, definitions, scratch } = self;
-        let reply = calls::query(policy.words(), query.words(), store.words(), answer, definitions, scratch);
+        let reply = calls::query(policy.words(), query.words(), minute.number(), store.words(), answer, definitions, scratch);
         let verdict = Verdict::from_numbers(reply.number, reply.part, reply.verdict)?;
         let rows = Rows::from_words(answer);
         let table = match verdict {

@@ -1,13 +1,16 @@
-//! Txindurbe for Rust: file certificates, ask queries, get tables marked lower, upper or exact.
+//! Txindurbe for Rust: file certificates, ask queries at a minute, get tables marked lower, upper or exact.
 //!
 //! The engine behind it is proved to do what its documents say, on every input. This crate gives it types and owns its areas. A policy that is to rely on no
 //! compromised key is written by the external rules and rewritten ([`Policy::rewrite`]). Before you show a table, read
 //! - [`Table`]: what lower, upper and exact promise about lists that the archive holds in part;
 //! - [`Polarity`]: the + list and the − list of one number are two lists;
-//! - [`Rows`]: no set lists over 128 rows, and what would is refused.
+//! - [`Rows`]: no set lists over 128 rows, and what would is refused;
+//! - [`Validity`]: a certificate is read only while its term lasts.
 //!
 //! ```
-//! use txindurbe::{key, Certificate, Definition, Engine, Expression, Guard, Policy, Polarity, Query, Row, Slot, Store, Table, Term};
+//! use txindurbe::{
+//!     key, Certificate, Date, Definition, Engine, Expression, Guard, Minute, Policy, Polarity, Query, Row, Slot, Store, Table, Term, Validity,
+//! };
 //!
 //! const RELEASED: u16 = 1;
 //! const WITHDRAWN: u16 = 2;
@@ -16,10 +19,11 @@
 //!     let observatory = key(1);
 //!     let observation = Row::from([7]);
 //!
-//!     // Certificates arrive; their signatures have been checked elsewhere.
+//!     // Certificates arrive, for the first semester of 2027; their signatures have been checked elsewhere.
+//!     let semester = Validity::from_dates(Date::day(2027, 1, 1), Date::day(2027, 7, 1))?;
 //!     let mut store = Store::new();
-//!     store.file(&Certificate::listed(observatory, RELEASED, observation))?;
-//!     store.file(&Certificate::not_listed(observatory, WITHDRAWN, observation))?;
+//!     store.file(&Certificate::listed(observatory, RELEASED, observation, semester))?;
+//!     store.file(&Certificate::not_listed(observatory, WITHDRAWN, observation, semester))?;
 //!
 //!     // A curator's policy: released and not withdrawn.
 //!     let x = Term::Variable(0);
@@ -32,9 +36,10 @@
 //!     );
 //!     let policy = Policy::new(&[Definition { name: 10, polarity: Polarity::Plus, expression: public }]);
 //!
-//!     // An astronomer's search.
+//!     // An astronomer's search, in March.
+//!     let now = Minute::from_date(Date::day(2027, 3, 20))?;
 //!     let mut engine = Engine::new();
-//!     let answer = engine.query(&policy, &Query::new(&Expression::definition(0)), &store)?;
+//!     let answer = engine.query(&policy, &Query::new(&Expression::definition(0)), now, &store)?;
 //!     match answer.table {
 //!         Table::Lower(rows) => println!("these rows, whatever is in the lists that we do not hold: {rows:?}"),
 //!         Table::Upper(rows) => println!("no rows but these: {rows:?}"),
@@ -50,6 +55,7 @@
 pub mod calls;
 mod engine;
 mod expression;
+mod minute;
 mod policy;
 mod refusal;
 mod row;
@@ -58,6 +64,7 @@ mod store;
 
 pub use engine::{Answer, Engine, Table, Verdict};
 pub use expression::{Expression, Guard, Polarity, Slot, Term};
+pub use minute::{Date, Minute, Validity};
 pub use policy::{Definition, Policy, Query};
 pub use refusal::{Part, Refusal, RefusalKind};
 pub use row::{key, Row, Rows};

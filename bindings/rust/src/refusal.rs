@@ -66,13 +66,15 @@ refusal_table! {
     NoPolarity = 6, "a definition does not have its declared polarity, or the query has none";
     OpenDraw = 7, "a draw is made from an open expression";
     BadStore = 8, "the store is too short or unsound";
-    BadCertificate = 9, "the certificate is not eight words or unsound";
-    StoreFull = 10, "the store holds 2,000 certificates and this one is new";
+    BadCertificate = 9, "the certificate is not ten words or unsound";
+    StoreFull = 10, "the store holds 1,600 certificates and this one is new";
     ShortArea = 11, "an area lent to the call is too short";
     ComplementDrawn = 12, "a complement is drawn from while reading";
     TooManyRows = 13, "a value lists over 128 rows";
     TooManyDraws = 14, "a draw is due and 1,000,000 were made";
     NotExternal = 15, "an external rule is broken, or the output would pass 8,192 words";
+    BadDate = 16, "a date does not exist or lies outside 2000 to 2099";
+    BadTerm = 17, "the certificate's end is not after its first minute";
 }
 
 impl RefusalKind {

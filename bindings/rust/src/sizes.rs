@@ -1,4 +1,4 @@
-//! Document 01's sizes. Whoever needs one takes it from here.
+//! The documents' sizes. Whoever needs one takes it from here.
 
 /// The most atoms of a row.
 pub const MOST_WIDTH: usize = 4;
@@ -9,10 +9,10 @@ pub const MOST_ROWS: usize = 128;
 /// A set in words: its form, its count, then the rows that it lists.
 pub const SET_WORDS: usize = 2 + ROW_WORDS * MOST_ROWS;
 
-/// A certificate in words: key, name, polarity, then the row.
-pub const CERTIFICATE_WORDS: usize = 3 + ROW_WORDS;
+/// A certificate in words: key, name, polarity, then the row, then first and end minute.
+pub const CERTIFICATE_WORDS: usize = 3 + ROW_WORDS + 2;
 /// The most certificates that a store holds.
-pub const MOST_CERTIFICATES: usize = 2_000;
+pub const MOST_CERTIFICATES: usize = 1_600;
 /// A store in words: its count, then the certificates.
 pub const STORE_WORDS: usize = 1 + CERTIFICATE_WORDS * MOST_CERTIFICATES;
 

@@ -1,29 +1,32 @@
 use crate::sizes::{CERTIFICATE_WORDS, STORE_WORDS};
-use crate::{calls, Polarity, Refusal, Row};
+use crate::{calls, Minute, Polarity, Refusal, Row, Validity};
 
-/// What an observatory says of one row and one of its lists. Its signature has been checked before: the engine takes what is filed as said by that key.
+/// What an observatory says of one row and one of its lists, for a term of validity. Its signature has been checked before: the engine takes what is filed as
+/// said by that key. Certificates are in order as in a store.
 #[derive(Clone, Copy, PartialEq, Eq, PartialOrd, Ord, Hash, Debug)]
 pub struct Certificate {
     pub key: u32,
     pub name: u16,
     pub polarity: Polarity,
     pub row: Row,
+    pub validity: Validity,
 }
 
 impl Certificate {
     /// The row is in the key's + list of this name.
-    pub fn listed(key: u32, name: u16, row: impl Into<Row>) -> Certificate {
-        Certificate { key, name, polarity: Polarity::Plus, row: row.into() }
+    pub fn listed(key: u32, name: u16, row: impl Into<Row>, validity: Validity) -> Certificate {
+        Certificate { key, name, polarity: Polarity::Plus, row: row.into(), validity }
     }
 
     /// The row is not in the key's − list of this name.
-    pub fn not_listed(key: u32, name: u16, row: impl Into<Row>) -> Certificate {
-        Certificate { key, name, polarity: Polarity::Minus, row: row.into() }
+    pub fn not_listed(key: u32, name: u16, row: impl Into<Row>, validity: Validity) -> Certificate {
+        Certificate { key, name, polarity: Polarity::Minus, row: row.into(), validity }
     }
 
     pub fn words(&self) -> [u32; CERTIFICATE_WORDS] {
         let [width, a, b, c, d] = self.row.words();
-        [self.key, self.name.into(), self.polarity as u32, width, a, b, c, d]
+        let Validity { first, end } = self.validity;
+        [self.key, self.name.into(), self.polarity as u32, width, a, b, c, d, first.number(), end.number()]
     }
 }
 
@@ -31,11 +34,11 @@ impl Certificate {
 pub enum Filing {
     /// The certificate is new and now in the store.
     Filed,
-    /// It was there already.
+    /// It was there already, with the same term.
     Held,
 }
 
-/// The certificates held, up to 2,000. None is ever taken back.
+/// The certificates held, up to 1,600, whenever they hold. None is ever taken back.
 #[derive(Clone, PartialEq, Eq, Debug)]
 pub struct Store {
     words: Vec<u32>,
@@ -47,8 +50,9 @@ impl Store {
         Store { words: vec![0; STORE_WORDS] }
     }
 
-    /// From words kept earlier. Any words at all: an unsound store is refused with 8 when it is used. A store kept by a version before 0.3 may be unsound,
-    /// since its rows are in order by width first: every eight words behind its count are a certificate, for [`file_words`](Store::file_words) into a new store.
+    /// From words kept earlier. Any words at all: an unsound store is refused with 8 when it is used. A store kept by a version before 0.5 has certificates
+    /// without a term and is not to be used as it is: every eight words behind its count are for [`file_words`](Store::file_words) into a new store, with a
+    /// first and an end minute behind them.
     pub fn from_words(words: Vec<u32>) -> Store {
         Store { words }
     }
@@ -71,10 +75,12 @@ impl Store {
         }
     }
 
-    /// The rows certified of one name, in ascending order; none if the store is unsound.
-    pub fn certificates_of(&self, key: u32, name: u16, polarity: Polarity) -> impl Iterator<Item = Row> + '_ {
+    /// The rows certified of one name, each with its term, in ascending order; none if the store is unsound. A row comes once for each of its terms, also for
+    /// those that have not begun or are over.
+    pub fn certificates_of(&self, key: u32, name: u16, polarity: Polarity) -> impl Iterator<Item = (Row, Validity)> + '_ {
         let words = calls::certificates_of(&self.words, key, name.into(), polarity as u32);
-        self.words[words].chunks_exact(CERTIFICATE_WORDS).map(|record| Row::from_words(&record[3..]))
+        let records = self.words[words].as_chunks::<CERTIFICATE_WORDS>().0.iter();
+        records.map(|[_, _, _, row @ .., first, end]| (Row::from_words(row), Validity { first: Minute::new(*first), end: Minute::new(*end) }))
     }
 }
 

@@ -3,7 +3,8 @@
 
 use txindurbe::calls::{self, Rewriting};
 use txindurbe::{
-    key, Certificate, Definition, Engine, Expression, Guard, Part, Polarity, Policy, Query, Refusal, RefusalKind, Row, Rows, Slot, Store, Table, Term,
+    key, Certificate, Definition, Engine, Expression, Guard, Minute, Part, Polarity, Policy, Query, Refusal, RefusalKind, Row, Rows, Slot, Store,
+    Table, Term, Validity,
 };
 
 const ALICE: u32 = key(1);
@@ -12,6 +13,8 @@ const COMPROMISED: u16 = 0;
 const RELEASED: u16 = 1;
 const TRUSTED: u16 = 6;
 const PUBLIC: u16 = 10;
+const NOW: Minute = Minute::new(0);
+const TERM: Validity = Validity { first: NOW, end: Minute::new(1) };
 
 /// Alice is responsible for key compromise, as in source document 000, section 6: name 0 − is her name 0 −.
 fn compromised() -> Definition {
@@ -35,7 +38,7 @@ fn delegated(trusted: Expression, released: fn(Term) -> Expression) -> Expressio
 
 /// The rows of definition 1.
 fn at_least(policy: &Policy, store: &Store) -> Vec<Row> {
-    let answer = Engine::new().query(policy, &Query::new(&Expression::definition(1)), store).unwrap();
+    let answer = Engine::new().query(policy, &Query::new(&Expression::definition(1)), NOW, store).unwrap();
     match answer.table {
         Table::Lower(Rows::Only(rows)) => rows,
         table => panic!("{table:?}"),
@@ -63,14 +66,14 @@ fn a_key_is_relied_on_once_it_is_certified_not_to_be_compromised() {
     let policy = Policy::new(&[compromised(), public(released())]);
     let rewritten = policy.rewrite().unwrap();
     let mut store = Store::new();
-    store.file(&Certificate::listed(OBSERVATORY, RELEASED, [7])).unwrap();
+    store.file(&Certificate::listed(OBSERVATORY, RELEASED, [7], TERM)).unwrap();
     assert_eq!(at_least(&policy, &store), [Row::from([7])]);
     assert_eq!(at_least(&rewritten, &store), []);
     // of other keys, and of a longer row, nothing follows for this one
-    store.file(&Certificate::not_listed(ALICE, COMPROMISED, [ALICE])).unwrap();
-    store.file(&Certificate::not_listed(ALICE, COMPROMISED, [OBSERVATORY, 7])).unwrap();
+    store.file(&Certificate::not_listed(ALICE, COMPROMISED, [ALICE], TERM)).unwrap();
+    store.file(&Certificate::not_listed(ALICE, COMPROMISED, [OBSERVATORY, 7], TERM)).unwrap();
     assert_eq!(at_least(&rewritten, &store), []);
-    store.file(&Certificate::not_listed(ALICE, COMPROMISED, [OBSERVATORY])).unwrap();
+    store.file(&Certificate::not_listed(ALICE, COMPROMISED, [OBSERVATORY], TERM)).unwrap();
     assert_eq!(at_least(&rewritten, &store), [Row::from([7])]);
 }
 
@@ -86,10 +89,10 @@ fn variable_issuers_are_vetted_one_by_one() {
     let mut store = Store::new();
     // a number that Alice trusts has no list
     for trusted in [key(2), key(3), 5] {
-        store.file(&Certificate::listed(ALICE, TRUSTED, [trusted])).unwrap();
+        store.file(&Certificate::listed(ALICE, TRUSTED, [trusted], TERM)).unwrap();
     }
-    store.file(&Certificate::listed(key(2), RELEASED, [7])).unwrap();
-    store.file(&Certificate::listed(key(3), RELEASED, [8])).unwrap();
+    store.file(&Certificate::listed(key(2), RELEASED, [7], TERM)).unwrap();
+    store.file(&Certificate::listed(key(3), RELEASED, [8], TERM)).unwrap();
     assert_eq!(at_least(&policy, &store), [Row::from([7]), Row::from([8])]);
     assert_eq!(at_least(&rewritten, &store), [Row::from([7])]);
 }

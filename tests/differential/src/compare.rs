@@ -1,7 +1,7 @@
 //! Puts the same words to two engines and compares replies and areas, word for word.
 
 use crate::engine::{Engine, Lent};
-use crate::evaluator::{Evaluator, Set};
+use crate::evaluator::{Date, Evaluator, Set};
 use crate::generate::{Case, Filings, Generator, PORTAL};
 use crate::random::Random;
 use std::collections::BTreeMap;
@@ -13,9 +13,10 @@ use txindurbe::calls::Reply;
 pub struct Tally {
     pub passed: u64,
     pub failed: u64,
-    /// Replies to filings and to rewritings by number, to queries by refusal number, and answers by verdict and form.
+    /// Replies to filings, to rewritings and to conversions by number, to queries by refusal number, and answers by verdict and form.
     pub filings: BTreeMap<u32, u64>,
     pub rewritings: BTreeMap<u32, u64>,
+    pub conversions: BTreeMap<u32, u64>,
     pub refusals: BTreeMap<u32, u64>,
     pub answers: BTreeMap<(u32, &'static str), u64>,
     /// The first few failures, in full.
@@ -140,7 +141,8 @@ impl<'a> Comparison<'a> {
             *store = generator.store();
         }
         let case = generator.case();
-        let show = |report| format!("{report}\n  policy {:?}\n  query {:?}\n  areas {:?}", case.policy, case.query, case.areas);
+        let Case { policy, query, minute, areas, .. } = &case;
+        let show = |report| format!("{report}\n  policy {policy:?}\n  query {query:?}\n  minute {minute}\n  areas {areas:?}");
         self.case(&case, store).map_err(show)
     }
 
@@ -170,7 +172,17 @@ impl<'a> Comparison<'a> {
         equal(&format!("whether part {} is the query", case.number), tested_of_query, of_query)?;
         same_range(&format!("part {}", case.number), tested_words, words)?;
         let certificates = Engine::certificates_of(&self.expected, store, case.name);
-        same_range(&format!("certificates of {:?}", case.name), self.tested.certificates_of(store, case.name), certificates)
+        same_range(&format!("certificates of {:?}", case.name), self.tested.certificates_of(store, case.name), certificates)?;
+        self.convert(case.date, case.minutes)
+    }
+
+    fn convert(&mut self, date: Date, minutes: u32) -> Result<(), String> {
+        let (of_date, of_minutes) = (Engine::minutes(&self.expected, date), Engine::date(&self.expected, minutes));
+        for number in [of_date.number, of_minutes.number] {
+            *self.tally.conversions.entry(number).or_default() += 1;
+        }
+        equal(&format!("minutes of {date:?}"), self.tested.minutes(date), of_date)?;
+        equal(&format!("date of {minutes}"), self.tested.date(minutes), of_minutes)
     }
 
     fn rewrite(&mut self, policy: &[u32], length: usize) -> Result<(), String> {
@@ -189,7 +201,7 @@ impl<'a> Comparison<'a> {
         let mut tested = expected.clone();
         let mut ask = |engine: &dyn Engine, answer: &mut Area| {
             let lent = Lent { answer: answer.lent(), definitions: definitions.lent(), scratch: scratch.lent() };
-            engine.query(&case.policy, &case.query, store, lent)
+            engine.query(&case.policy, &case.query, case.minute, store, lent)
         };
         let reply = ask(&self.expected, &mut expected);
         let store_before = store.to_vec();
@@ -236,11 +248,14 @@ mod tests {
     fn every_refusal_and_every_verdict_occurs_often() {
         let tally = run(Evaluator::default(), 10_000, false);
         assert_eq!(tally.failed, 0);
-        for number in [0, 1, 8, 9, 10] {
+        for number in [0, 1, 8, 9, 10, 17] {
             assert!(tally.filings.get(&number) > Some(&20), "filing reply {number}: {:?}", tally.filings);
         }
         for number in [0, 1, 2, 3, 4, 5, 6, 7, 11, 15] {
             assert!(tally.rewritings.get(&number) > Some(&20), "rewriting reply {number}: {:?}", tally.rewritings);
+        }
+        for number in [0, 16] {
+            assert!(tally.conversions.get(&number) > Some(&1_000), "conversion reply {number}: {:?}", tally.conversions);
         }
         for number in [1, 2, 3, 4, 5, 6, 7, 8, 11, 13] {
             assert!(tally.refusals.get(&number) > Some(&20), "refusal {number}: {:?}", tally.refusals);

@@ -1,21 +1,24 @@
 //! The C interface as a trait, which the compiled library and the evaluator both have, so that one is asked as the other is.
 
-use crate::evaluator::{certificates_of, Answer, Areas, Evaluator, Filing, Part, Refusal, Verdict};
+use crate::evaluator::{Answer, Areas, Date, Evaluator, Filing, Part, Refusal, Verdict};
 use crate::faults::{self, Fault};
 use crate::numbers::NO_PART;
 use std::ops::Range;
-use txindurbe::calls::{Judgement, Reply, Rewriting};
+use txindurbe::calls::{Dated, Judgement, Minutes, Reply, Rewriting};
 
-/// The six calls of `include/txindurbe.h`, with all that they hand out.
+/// The eight calls of `include/txindurbe.h`, with all that they hand out.
 pub trait Engine {
     /// 0 Filed, 1 Held, else the refusal's number.
     fn file(&self, store: &mut [u32], certificate: &[u32]) -> u32;
-    fn query(&self, policy: &[u32], query: &[u32], store: &[u32], lent: Lent) -> Reply;
+    fn query(&self, policy: &[u32], query: &[u32], minute: u32, store: &[u32], lent: Lent) -> Reply;
     fn judge(&self, policy: &[u32], query: &[u32]) -> Judgement;
     fn rewrite(&self, policy: &[u32], area: &mut [u32]) -> Rewriting;
     /// 1 for words of the query, 0 for words of the policy, and where in it they stand.
     fn part(&self, policy: &[u32], query: &[u32], number: u32) -> (u32, Range<usize>);
     fn certificates_of(&self, store: &[u32], name: [u32; 3]) -> Range<usize>;
+    /// Of a year, month, day, hour and minute.
+    fn minutes(&self, date: Date) -> Minutes;
+    fn date(&self, minutes: u32) -> Dated;
 }
 
 /// The areas lent to a query.
@@ -56,8 +59,8 @@ impl Engine for Evaluator {
         }
     }
 
-    fn query(&self, policy: &[u32], query: &[u32], store: &[u32], lent: Lent) -> Reply {
-        let answered = Evaluator::query(self, policy, query, store, lent.lengths());
+    fn query(&self, policy: &[u32], query: &[u32], minute: u32, store: &[u32], lent: Lent) -> Reply {
+        let answered = Evaluator::query(self, policy, query, minute, store, lent.lengths());
         match &answered {
             Ok(answer) => {
                 let words = faults::wrong_layout(self.fault, &answer.set).unwrap_or_else(|| answer.set.words());
@@ -94,6 +97,20 @@ impl Engine for Evaluator {
     }
 
     fn certificates_of(&self, store: &[u32], name: [u32; 3]) -> Range<usize> {
-        certificates_of(store, name)
+        Evaluator::certificates_of(self, store, name)
+    }
+
+    fn minutes(&self, date: Date) -> Minutes {
+        match Evaluator::minutes(self, date) {
+            Ok(minutes) => Minutes { number: 0, minutes },
+            Err(number) => Minutes { number, minutes: if self.has(Fault::RefusedMinutesHandedOut) { u32::MAX } else { 0 } }, // planted
+        }
+    }
+
+    fn date(&self, minutes: u32) -> Dated {
+        match Evaluator::date(self, minutes) {
+            Ok(date) => Dated { number: 0, date },
+            Err(number) => Dated { number, date: if self.has(Fault::RefusedDateHandedOut) { [2_100, 1, 1, 0, 0] } else { [0; 5] } }, // planted
+        }
     }
 }

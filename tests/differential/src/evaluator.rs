@@ -1,4 +1,4 @@
-//! Document 01, with document 02's N1 and N2, as a plain program, section by section, to be read with the documents beside it.
+//! Document 01, with document 02's N1 to N4, as a plain program, section by section, to be read with the documents beside it.
 //!
 //! It is slow and short on purpose: sets are `BTreeSet`s, words are parsed by recursive descent, and nothing is shared with the engine it is compared with.
 //! Places marked `planted`, and calls of [`faults`], are mistakes that are made only when asked for; without a [`Fault`] they do nothing.
@@ -123,38 +123,47 @@ impl Set {
 
 // ---- Store and filing ----
 
-/// A certificate. The derived order is the store's: by key, name and polarity, then by the row.
+/// A certificate's term of validity: its first and its end minute.
+#[derive(Clone, Copy, PartialEq, Eq, PartialOrd, Ord, Debug)]
+pub struct Validity {
+    pub first: u32,
+    pub end: u32,
+}
+
+impl Validity {
+    /// "A held record whose end is not after its first minute makes the store unsound"; filing it is refused with 17.
+    pub fn sound(self) -> bool {
+        self.end > self.first
+    }
+
+    /// "it holds from the first up to, but without, the end"
+    pub fn holds_at(self, minute: u32) -> bool {
+        (self.first..self.end).contains(&minute)
+    }
+}
+
+/// A certificate. The derived order is the store's: by key, name and polarity, then by the row, then by first, then by end minute.
 #[derive(Clone, Copy, PartialEq, Eq, PartialOrd, Ord, Debug)]
 pub struct Record {
     /// Key, name, polarity.
     pub name: [u32; 3],
     pub row: Row,
+    pub validity: Validity,
 }
 
 impl Record {
-    /// Key, name, polarity, width, four atoms, if they keep the rules.
+    /// Key, name, polarity, width, four atoms, if they keep the rules; then first and end minute, whatever they are.
     pub fn from_words(words: &[u32]) -> Option<Record> {
-        let (&name, row) = words.split_first_chunk()?;
-        let [key, number, polarity] = name;
+        let &[key, number, polarity, ref row @ .., first, end] = words else { return None };
         let sound = is_key(key) && number <= LAST_NAME && polarity <= 1;
-        Row::from_words(row).filter(|_| sound).map(|row| Record { name, row })
+        let record = |row| Record { name: [key, number, polarity], row, validity: Validity { first, end } };
+        Row::from_words(row).filter(|_| sound).map(record)
     }
 
     pub fn words(&self) -> [u32; RECORD_WORDS] {
         let ([key, number, polarity], [width, a, b, c, d]) = (self.name, self.row.words());
-        [key, number, polarity, width, a, b, c, d]
+        [key, number, polarity, width, a, b, c, d, self.validity.first, self.validity.end]
     }
-}
-
-/// The records of a sound store.
-pub fn certificates(store: &[u32]) -> Option<Vec<Record>> {
-    if store.len() < STORE_WORDS || store[0] as usize > MOST_CERTIFICATES {
-        return None;
-    }
-    let words = &store[1..1 + RECORD_WORDS * store[0] as usize];
-    let records = words.chunks(RECORD_WORDS).map(Record::from_words).collect::<Option<Vec<Record>>>()?;
-    let ascending = records.windows(2).all(|pair| pair[0] < pair[1]);
-    ascending.then_some(records)
 }
 
 #[derive(Clone, Copy, PartialEq, Eq, Debug)]
@@ -164,13 +173,23 @@ pub enum Filing {
     Refused(u32),
 }
 
-/// The part of the store with one name's certificates, in words; empty if there is none or the store is unsound.
-pub fn certificates_of(store: &[u32], name: [u32; 3]) -> Range<usize> {
-    let Some(records) = certificates(store) else { return 0..0 };
-    let of_name = |record: &Record| record.name == name;
-    let Some(first) = records.iter().position(of_name) else { return 0..0 };
-    let count = records.iter().filter(|record| of_name(record)).count();
-    1 + RECORD_WORDS * first..1 + RECORD_WORDS * (first + count)
+// ---- Dates ----
+
+/// Year, month, day, hour, minute.
+pub type Date = [u32; 5];
+
+/// The Gregorian rule.
+fn leap(year: u32) -> bool {
+    year.is_multiple_of(4) && !year.is_multiple_of(100) || year.is_multiple_of(400)
+}
+
+fn days_of_month(year: u32, month: u32) -> u32 {
+    match month {
+        4 | 6 | 9 | 11 => 30,
+        2 if leap(year) => 29,
+        2 => 28,
+        _ => 31,
+    }
 }
 
 // ---- Policy words ----
@@ -481,9 +500,23 @@ pub struct Judged {
 
 // ---- Reading ----
 
-/// Reads in the minimal model of the certificates held.
-struct Reading {
-    held: BTreeMap<[u32; 3], BTreeSet<Row>>,
+/// The rows certified of each name.
+pub type Certified = BTreeMap<[u32; 3], BTreeSet<Row>>;
+
+pub fn certified<'a>(records: impl IntoIterator<Item = &'a Record>) -> Certified {
+    let mut rows = Certified::new();
+    for record in records {
+        rows.entry(record.name).or_default().insert(record.row);
+    }
+    rows
+}
+
+/// Reads in the minimal model of the certificates that hold at the minute.
+struct Reading<'a> {
+    /// All that are held in the store, at whatever minute; only planted faults look at them.
+    records: &'a [Record],
+    minute: u32,
+    certified: Certified,
     definitions: Vec<Set>,
     draws: u32,
     evaluator: Evaluator,
@@ -512,13 +545,11 @@ pub fn row_of(terms: &[Term], values: &[u32]) -> Row {
     row
 }
 
-impl Reading {
-    fn new(records: &[Record], evaluator: Evaluator) -> Reading {
-        let mut held: BTreeMap<[u32; 3], BTreeSet<Row>> = BTreeMap::new();
-        for record in records {
-            held.entry(record.name).or_default().insert(record.row);
-        }
-        Reading { held, definitions: Vec::new(), draws: 0, evaluator }
+impl Reading<'_> {
+    fn new(records: &[Record], minute: u32, evaluator: Evaluator) -> Reading<'_> {
+        let holds = |record: &&Record| faults::wrongly_holds(evaluator.fault, records, record, minute).unwrap_or(record.validity.holds_at(minute));
+        let certified = certified(records.iter().filter(holds));
+        Reading { records, minute, certified, definitions: Vec::new(), draws: 0, evaluator }
     }
 
     fn read(&mut self, expression: &Expression, values: &mut Vec<u32>) -> Numbered<Set> {
@@ -540,8 +571,12 @@ impl Reading {
 
     /// A + name has just its certified rows, a − name all but those. Nothing is certified under a number.
     fn list(&self, issuer: Term, name: u32, polarity: u32, values: &[u32]) -> Numbered<Set> {
-        let rows = self.held.get(&[value(issuer, values), name, polarity]).cloned().unwrap_or_default();
+        let name = [value(issuer, values), name, polarity];
+        let rows = self.certified.get(&name).cloned().unwrap_or_default();
         let set = if polarity == 0 { Set::Finite(rows) } else { Set::Complement(rows) };
+        if faults::rows_wrongly_counted(self.evaluator.fault, self.records, name, self.minute) > MOST_ROWS {
+            return Err(TOO_MANY_ROWS); // planted
+        }
         match faults::wrong_list(self.evaluator.fault, issuer, values, &set) {
             Some(planted) => Ok(planted),
             None => limited(set),
@@ -560,7 +595,15 @@ impl Reading {
         if faults::wrong_look_up(fault, compromised, &issuer_row).unwrap_or_else(|| compromised.holds(&issuer_row)) {
             return Ok(Set::Finite(BTreeSet::new()));
         }
+        if fault == Some(Fault::VettedAtAnyMinute) {
+            return self.at_any_minute().list(issuer, name, 0, values); // planted
+        }
         self.list(issuer, name, 0, values)
+    }
+
+    /// Planted with `VettedAtAnyMinute` and `AbsentAtAnyMinute`.
+    fn at_any_minute(&self) -> Reading<'_> {
+        Reading { certified: certified(self.records), definitions: self.definitions.clone(), ..*self }
     }
 
     fn union(&mut self, left: &Expression, right: &Expression, values: &mut Vec<u32>) -> Numbered<Set> {
@@ -593,7 +636,11 @@ impl Reading {
             Guard::Absent { row, from } => {
                 let row = row_of(row, values);
                 let draws = self.draws;
-                let absent = !self.read(from, values)?.holds(&row);
+                let mut absent = !self.read(from, values)?.holds(&row);
+                if self.evaluator.has(Fault::AbsentAtAnyMinute) && matches!(from, Expression::List { .. }) {
+                    absent = !self.at_any_minute().read(from, values)?.holds(&row);
+                    // planted
+                }
                 if self.evaluator.has(Fault::OperandReadOnce) && draws > 0 {
                     self.draws = draws; // planted
                 }
@@ -622,6 +669,11 @@ impl Reading {
         let mut rows: Vec<Row> = rows.into_iter().collect();
         if self.evaluator.has(Fault::DrawnByWidth) {
             rows.sort_by_key(|row| row.width); // planted
+        }
+        if let (true, Expression::List { issuer, name, polarity }) = (self.evaluator.has(Fault::DrawnForEachRecord), from) {
+            let name = [value(*issuer, values), *name, *polarity];
+            rows = faults::rows_of_records(self.records, name, self.minute).collect();
+            // planted
         }
         let most = MOST_DRAWS_MADE - self.evaluator.has(Fault::MillionthDrawRefused) as u32; // planted
         let outside = values.len();
@@ -712,23 +764,67 @@ impl Evaluator {
         self.fault == Some(fault)
     }
 
-    /// 8, 9, Held, 10.
+    /// The records of a sound store.
+    pub fn certificates(&self, store: &[u32]) -> Option<Vec<Record>> {
+        let most = faults::wrong_capacity(self.fault, store).unwrap_or(0).max(MOST_CERTIFICATES); // the other capacity is planted
+        if store.len() < STORE_WORDS || store[0] as usize > most {
+            return None;
+        }
+        let words = &store[1..1 + RECORD_WORDS * store[0] as usize];
+        let records = words.chunks(RECORD_WORDS).map(Record::from_words).collect::<Option<Vec<Record>>>()?;
+        let ascending = |pair: &[Record]| faults::wrongly_ascending(self.fault, &pair[0], &pair[1]).unwrap_or(pair[0] < pair[1]);
+        let sound = |record: &Record| faults::wrongly_sound(self.fault, record.validity).unwrap_or(record.validity.sound());
+        (records.iter().all(sound) && records.windows(2).all(ascending)).then_some(records)
+    }
+
+    /// The part of the store with one name's certificates, in words; empty if there is none or the store is unsound.
+    pub fn certificates_of(&self, store: &[u32], name: [u32; 3]) -> Range<usize> {
+        let Some(records) = self.certificates(store) else { return 0..0 };
+        let of_name = |record: &Record| record.name == name;
+        let Some(first) = records.iter().position(of_name) else { return 0..0 };
+        let mut count = records.iter().filter(|record| of_name(record)).count();
+        if self.has(Fault::NamePartByRows) {
+            count = certified(&records)[&name].len(); // planted
+        }
+        1 + RECORD_WORDS * first..1 + RECORD_WORDS * (first + count)
+    }
+
+    /// 8, 9, 17, Held, 10.
     pub fn file(&self, store: &mut [u32], certificate: &[u32]) -> Filing {
-        let Some(records) = certificates(store) else { return Filing::Refused(BAD_STORE) };
+        if self.has(Fault::BadTermBeforeStore) && faults::has_bad_term(certificate) {
+            return Filing::Refused(BAD_TERM); // planted
+        }
+        let Some(records) = self.certificates(store) else { return Filing::Refused(BAD_STORE) };
+        if self.has(Fault::BadTermBeforeCertificate) && faults::has_bad_term(certificate) {
+            return Filing::Refused(BAD_TERM); // planted
+        }
         let Some(record) = Record::from_words(certificate) else { return Filing::Refused(BAD_CERTIFICATE) };
-        if self.has(Fault::FullBeforeHeld) && records.len() == MOST_CERTIFICATES {
+        let full = records.len() >= faults::wrong_capacity(self.fault, store).unwrap_or(MOST_CERTIFICATES); // the other capacity is planted
+        if full && self.has(Fault::FullBeforeTerm) {
             return Filing::Refused(STORE_FULL); // planted
         }
-        let Err(mut place) = records.binary_search(&record) else { return Filing::Held };
-        if self.has(Fault::FiledByWidth) {
-            place = records.iter().filter(|held| held.words() < record.words()).count();
-            // planted
+        if faults::wrongly_held(self.fault, &records, &record) {
+            return Filing::Held; // planted
         }
-        if records.len() == MOST_CERTIFICATES {
+        if !faults::wrongly_filed(self.fault, record.validity).unwrap_or(record.validity.sound()) {
+            return Filing::Refused(if self.has(Fault::BadTermAsCertificate) { BAD_CERTIFICATE } else { BAD_TERM });
+            // 9 is planted
+        }
+        if full && self.has(Fault::FullBeforeHeld) {
+            return Filing::Refused(STORE_FULL); // planted
+        }
+        let Err(place) = records.binary_search(&record) else { return Filing::Held };
+        let place = faults::wrong_place(self.fault, &records, &record).unwrap_or(place);
+        if let Some(replaced) = faults::replaced(self.fault, &records, &record) {
+            store[1 + RECORD_WORDS * replaced..][..RECORD_WORDS].copy_from_slice(&record.words());
+            return Filing::Filed; // planted
+        }
+        if full {
             return Filing::Refused(STORE_FULL);
         }
         let (start, end) = (1 + RECORD_WORDS * place, 1 + RECORD_WORDS * records.len());
-        store.copy_within(start..end, start + RECORD_WORDS);
+        let moved = if self.has(Fault::MovedByEightWords) { 8 } else { RECORD_WORDS }; // planted
+        store.copy_within(start..end, start + moved);
         store[start..start + RECORD_WORDS].copy_from_slice(&record.words());
         store[0] += 1;
         if self.has(Fault::FilingClearsPastTheEnd) {
@@ -997,22 +1093,60 @@ impl Evaluator {
         output
     }
 
+    /// 16: a date that does not exist or lies outside 2000 to 2099.
+    pub fn minutes(&self, date: Date) -> Numbered<u32> {
+        let [year, month, day, hour, minute] = faults::wrong_date(self.fault, date);
+        let mut days_before = 0;
+        for (this_year, this_month, days) in self.months() {
+            if (this_year, this_month) == (year, month) {
+                let last_day = faults::wrong_last_day(self.fault, month).unwrap_or(days);
+                let exists = (1..=last_day).contains(&day) && hour < 24 && minute < 60;
+                return if exists { Ok(((days_before + day - 1) * 24 + hour) * 60 + minute) } else { Err(BAD_DATE) };
+            }
+            days_before += days;
+        }
+        Err(BAD_DATE)
+    }
+
+    pub fn date(&self, minutes: u32) -> Numbered<Date> {
+        let mut left = minutes;
+        for (year, month, days) in self.months() {
+            if left < days * 24 * 60 {
+                let day = left / (24 * 60) + !self.has(Fault::DaysFrom0) as u32; // planted
+                return Ok([year, month, day, left / 60 % 24, left % 60]);
+            }
+            left -= days * 24 * 60;
+        }
+        Err(BAD_DATE)
+    }
+
+    /// The months of 2000 to 2099 in order: year, month, how many days.
+    fn months(self) -> impl Iterator<Item = (u32, u32, u32)> {
+        let last = faults::wrong_last_year(self.fault).unwrap_or(LAST_YEAR);
+        let days = move |year, month| faults::wrong_days_of_month(self.fault, year, month).unwrap_or(days_of_month(year, month));
+        (FIRST_YEAR..=last).flat_map(|year| (1..=12).map(move |month| (year, month))).map(move |(year, month)| (year, month, days(year, month)))
+    }
+
     /// 1 to 7; 8; 11; then reading.
-    pub fn query(&self, policy: &[u32], query: &[u32], store: &[u32], areas: Areas) -> Result<Answer, Refusal> {
+    pub fn query(&self, policy: &[u32], query: &[u32], minute: u32, store: &[u32], areas: Areas) -> Result<Answer, Refusal> {
         let judged = self.judge(policy, query)?;
         if self.has(Fault::AreasBeforeStore) && areas.under(Areas::LEAST) {
             return refused(SHORT_AREA); // planted
         }
-        let Some(records) = certificates(store) else { return refused(BAD_STORE) };
+        let Some(records) = self.certificates(store) else { return refused(BAD_STORE) };
         if areas.under(Areas::LEAST) {
             return refused(SHORT_AREA);
         }
-        self.read(&judged, &records)
+        if self.has(Fault::MinuteWithoutDateRefused) {
+            self.date(minute).or_else(refused)?; // planted
+        }
+        self.read(&judged, &records, minute)
     }
 
     /// Definitions are read once, in file order, then the query.
-    fn read(&self, judged: &Judged, records: &[Record]) -> Result<Answer, Refusal> {
-        let mut reading = Reading::new(records, *self);
+    fn read(&self, judged: &Judged, records: &[Record], minute: u32) -> Result<Answer, Refusal> {
+        let definitions_minute = if self.has(Fault::DefinitionsAtMinute0) { 0 } else { minute }; // planted
+        let mut reading = Reading::new(records, definitions_minute, *self);
         for (definition, part) in judged.definitions.iter().zip(0..) {
             let set = if self.has(Fault::UnusedDefinitionNotRead) && !judged.uses(part as usize) {
                 Set::Finite(BTreeSet::new()) // planted
@@ -1023,6 +1157,11 @@ impl Evaluator {
             if self.has(Fault::DrawsStartAgainInEachPart) {
                 reading.draws = 0; // planted
             }
+        }
+        if definitions_minute != minute {
+            let Reading { definitions, draws, .. } = reading;
+            reading = Reading { definitions, draws, ..Reading::new(records, minute, *self) };
+            // planted
         }
         let set = in_part(reading.read(&judged.query, &mut Vec::new()), QUERY_PART)?;
         Ok(Answer { verdict: judged.verdict, draws: reading.draws, set })

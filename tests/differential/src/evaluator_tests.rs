@@ -30,8 +30,13 @@ fn empty_store() -> Vec<u32> {
     store
 }
 
+/// It holds from 0 to 1, as those of cases a to l.
 fn certificate(key: u32, name: u32, polarity: u32, row: &[u32]) -> Record {
-    Record { name: [key, name, polarity], row: Row::new(row) }
+    Record { name: [key, name, polarity], row: Row::new(row), validity: Validity { first: 0, end: 1 } }
+}
+
+fn with_term(record: Record, first: u32, end: u32) -> Record {
+    Record { validity: Validity { first, end }, ..record }
 }
 
 fn file(store: &mut [u32], record: Record) -> Filing {
@@ -46,8 +51,17 @@ fn store_of(records: impl IntoIterator<Item = Record>) -> Vec<u32> {
     store
 }
 
+/// At minute 0, as cases a to l.
 fn ask(policy: &[u32], query: &[u32], store: &[u32]) -> Result<Answer, Refusal> {
-    Evaluator::default().query(policy, query, store, Areas::LEAST)
+    ask_at(0, policy, query, store)
+}
+
+fn ask_at(minute: u32, policy: &[u32], query: &[u32], store: &[u32]) -> Result<Answer, Refusal> {
+    Evaluator::default().query(policy, query, minute, store, Areas::LEAST)
+}
+
+fn certificates_of(store: &[u32], name: [u32; 3]) -> Range<usize> {
+    Evaluator::default().certificates_of(store, name)
 }
 
 fn rows<const N: usize>(rows: [&[u32]; N]) -> BTreeSet<Row> {
@@ -155,11 +169,18 @@ fn a_million_draws_are_the_limit() {
 
 #[test]
 fn a_full_store_holds_and_refuses() {
-    let mut store = store_of((0..2_000).map(|n| certificate(K1, 1, 0, &[n])));
+    let mut store = store_of((0..1_600).map(|n| certificate(K1, 1, 0, &[n])));
     let before = store.clone();
     assert_eq!(file(&mut store, certificate(K1, 1, 0, &[5])), Filing::Held);
-    assert_eq!(file(&mut store, certificate(K1, 1, 0, &[2_000])), Filing::Refused(10));
+    assert_eq!(file(&mut store, certificate(K1, 1, 0, &[1_600])), Filing::Refused(10));
+    assert_eq!(file(&mut store, with_term(certificate(K1, 1, 0, &[5]), 0, 2)), Filing::Refused(10));
     assert_eq!(store, before);
+    // not even where there is room for more
+    store.extend([77; 4_000]);
+    assert_eq!(file(&mut store, certificate(K1, 1, 0, &[1_600])), Filing::Refused(10));
+    store[0] = 1_601;
+    store[16_001..16_011].copy_from_slice(&certificate(K1, 1, 0, &[1_600]).words());
+    assert_eq!(file(&mut store, certificate(K1, 1, 0, &[5])), Filing::Refused(8));
 }
 
 #[test]
@@ -167,9 +188,9 @@ fn filing_keeps_the_order_and_the_words_past_the_end() {
     let records = [(K2, 0, 1, [3]), (K1, 9, 0, [4]), (K1, 9, 0, [2]), (K1, 2, 1, [8])];
     let store = store_of(records.map(|(key, name, polarity, row)| certificate(key, name, polarity, &row)));
     assert_eq!(store[0], 4);
-    assert!(certificates(&store).is_some());
-    assert!(store[33..].iter().all(|&word| word == 77));
-    assert_eq!(certificates_of(&store, [K1, 9, 0]), 9..25);
+    assert!(Evaluator::default().certificates(&store).is_some());
+    assert!(store[41..].iter().all(|&word| word == 77));
+    assert_eq!(certificates_of(&store, [K1, 9, 0]), 11..31);
     assert_eq!(certificates_of(&store, [K1, 9, 1]), 0..0);
 }
 
@@ -206,7 +227,7 @@ fn unsound_certificates_get_9() {
         record[place] = word;
         assert_eq!(Evaluator::default().file(&mut empty_store(), &record), Filing::Refused(9), "{record:?}");
     }
-    for length in [0, 7, 9] {
+    for length in [0, 8, 9, 11] {
         let words = [sound.as_slice(), &[0]].concat();
         assert_eq!(Evaluator::default().file(&mut empty_store(), &words[..length]), Filing::Refused(9));
     }
@@ -215,12 +236,12 @@ fn unsound_certificates_get_9() {
 #[test]
 fn unsound_stores_get_8_and_empty_parts() {
     let sound = store_of([certificate(K1, 1, 0, &[7]), certificate(K1, 2, 1, &[7])]);
-    let damage: [(usize, u32); 4] = [(0, 2_001), (1, 3), (9, K1 - 1), (10, 1)];
+    let damage: [(usize, u32); 6] = [(0, 1_601), (1, 3), (11, K1 - 1), (12, 1), (10, 0), (19, 1)];
     for (place, word) in damage {
         let mut store = sound.clone();
         store[place] = word;
-        if place == 10 {
-            store[11] = 0; // the same record twice
+        if place == 12 {
+            store[13] = 0; // the same record twice
         }
         assert_eq!(file(&mut store, certificate(K1, 1, 0, &[7])), Filing::Refused(8));
         assert_eq!(ask(NOTHING, &[1, 0], &store), refusal(8, NO_PART));
@@ -408,10 +429,10 @@ fn declared_polarity_alone_counts_and_openness_is_passed_on() {
 #[test]
 fn short_areas_get_11_after_8() {
     let mut unsound = empty_store();
-    unsound[0] = 2_001;
+    unsound[0] = 1_601;
     let shorter = [Areas { answer: 641, ..Areas::LEAST }, Areas { definitions: 10_271, ..Areas::LEAST }, Areas { scratch: 16_383, ..Areas::LEAST }];
     for areas in shorter {
-        let ask = |store: &[u32]| Evaluator::default().query(NOTHING, &[1, 0], store, areas);
+        let ask = |store: &[u32]| Evaluator::default().query(NOTHING, &[1, 0], 0, store, areas);
         assert_eq!(ask(&empty_store()), refusal(11, NO_PART));
         assert_eq!(ask(&unsound), refusal(8, NO_PART));
     }
@@ -687,6 +708,177 @@ fn a_short_area_gets_11_and_stays() {
     assert_eq!(Evaluator::default().rewrite(&external, &mut area[..21]), Ok(21));
     assert_eq!(area[21..], [77; 4]);
     assert_eq!(Evaluator::default().rewrite(NOTHING, &mut area[..1]), refusal(11, NO_PART));
+}
+
+// ---- document 02, N4 ----
+
+/// k1's name 1, +.
+const LIST: &[u32] = &[4, 0, K1, 1, 0];
+
+fn seven(first: u32, end: u32) -> Record {
+    with_term(certificate(K1, 1, 0, &[7]), first, end)
+}
+
+#[test]
+fn a_certificate_holds_from_its_first_minute_up_to_but_without_its_end() {
+    let store = store_of([seven(10, 20)]);
+    let not_listed = store_of([with_term(certificate(K1, 2, 1, &[7]), 10, 20)]);
+    for (minute, holds) in [(0, false), (9, false), (10, true), (19, true), (20, false), (u32::MAX, false)] {
+        let certified = if holds { rows([&[7]]) } else { rows([]) };
+        assert_eq!(ask_at(minute, NOTHING, LIST, &store), answer(Lower, 0, Finite(certified.clone())), "{minute}");
+        assert_eq!(ask_at(minute, NOTHING, &[4, 0, K1, 2, 1], &not_listed), answer(Upper, 0, Complement(certified)), "{minute}");
+    }
+}
+
+#[test]
+fn nothing_holds_at_the_greatest_minute() {
+    let store = store_of([seven(0, u32::MAX)]);
+    let count = |minute| ask_at(minute, NOTHING, LIST, &store).unwrap().set.listed().len();
+    assert_eq!([0, 52_596_000, u32::MAX - 1, u32::MAX].map(count), [1, 1, 1, 0]);
+}
+
+#[test]
+fn a_row_counts_once_however_many_of_its_records_hold() {
+    let store = store_of([seven(0, 20), seven(10, 30), seven(30, 40), with_term(certificate(K1, 1, 0, &[8]), 10, 20)]);
+    // row 7's terms overlap from 10 to 20 and touch at 30: one draw for each row
+    let draw = [&[7, 1, 1], LIST, &[1, 2, 0, 1, 1, 0]].concat();
+    let both = answer(Lower, 2, Finite(rows([&[7], &[8]])));
+    let one = answer(Lower, 1, Finite(rows([&[7]])));
+    for (minute, expected) in [(0, &one), (9, &one), (10, &both), (19, &both), (20, &one), (29, &one), (30, &one), (39, &one)] {
+        assert_eq!(ask_at(minute, NOTHING, &draw, &store), *expected, "{minute}");
+    }
+    assert_eq!(ask_at(40, NOTHING, &draw, &store), answer(Lower, 0, Finite(rows([]))));
+    // the part of the store has all four
+    assert_eq!(certificates_of(&store, [K1, 1, 0]), 1..41);
+}
+
+#[test]
+fn thirteen_counts_the_different_rows_that_hold() {
+    let crowd = |count: u32, first: u32, end: u32| (0..count).map(move |n| with_term(certificate(K1, 1, 0, &[n]), first, end));
+    let twice = store_of(crowd(128, 0, 20).chain(crowd(128, 10, 30)));
+    for minute in [0, 10, 20] {
+        assert_eq!(ask_at(minute, NOTHING, LIST, &twice).unwrap().set.listed().len(), 128);
+    }
+    let one_more = store_of(crowd(128, 0, 20).chain(crowd(129, 10, 30)));
+    assert!(ask_at(9, NOTHING, LIST, &one_more).is_ok());
+    assert_eq!(ask_at(10, NOTHING, LIST, &one_more), refusal(13, QUERY_PART));
+    assert_eq!(ask_at(20, NOTHING, LIST, &one_more), refusal(13, QUERY_PART));
+    assert!(ask_at(30, NOTHING, LIST, &one_more).is_ok());
+}
+
+#[test]
+fn absent_guards_vetting_and_definitions_are_asked_at_the_minute() {
+    let store = store_of([seven(0, 40), with_term(certificate(K1, 2, 1, &[7]), 10, 30)]);
+    let public = |minute| ask_at(minute, &p(), Q, &store).unwrap().set.listed().len();
+    assert_eq!([9, 10, 29, 30].map(public), [0, 1, 1, 0]);
+    let vetted = policy(&[(0, 1, &[4, 0, K1, 0, 1]), (10, 0, &[8, 0, K2, 1, 0, 0])]);
+    let store = store_of([with_term(certificate(K2, 1, 0, &[7]), 10, 30), with_term(certificate(K1, 0, 1, &[K2]), 20, 40)]);
+    let listed = |minute| ask_at(minute, &vetted, &[3, 1], &store).unwrap().set.listed().len();
+    assert_eq!([10, 19, 20, 29, 30].map(listed), [0, 0, 1, 1, 0]);
+}
+
+#[test]
+fn an_end_not_after_its_first_minute_gets_17_right_after_9() {
+    let mut store = store_of([seven(0, 1)]);
+    let before = store.clone();
+    for (first, end) in [(0, 0), (5, 5), (5, 4), (1, 0), (u32::MAX, u32::MAX), (u32::MAX, 0)] {
+        assert_eq!(file(&mut store, seven(first, end)), Filing::Refused(17), "{first} {end}");
+    }
+    // 9 comes first, whichever word is unsound
+    for (place, word) in [(0, 5), (1, 65_536), (2, 2), (3, 0), (5, 1)] {
+        let mut unsound = seven(5, 5).words();
+        unsound[place] = word;
+        assert_eq!(Evaluator::default().file(&mut store, &unsound), Filing::Refused(9));
+    }
+    assert_eq!(store, before);
+    // 8 before, 10 after
+    assert_eq!(file(&mut store[..16_000], seven(5, 5)), Filing::Refused(8));
+    let mut full = store_of((0..1_600).map(|n| certificate(K1, 1, 0, &[n])));
+    assert_eq!(file(&mut full, seven(5, 5)), Filing::Refused(17));
+}
+
+#[test]
+fn records_of_one_row_ascend_by_first_then_by_end_minute() {
+    let ascending = [seven(0, 30), seven(5, 10), seven(5, 11), seven(5, u32::MAX), seven(6, 7), seven(key(0), key(1))];
+    let mut store = store_of([4, 1, 5, 0, 3, 2].map(|place| ascending[place]));
+    assert_eq!(Evaluator::default().certificates(&store), Some(ascending.to_vec()));
+    for record in ascending {
+        assert_eq!(file(&mut store, record), Filing::Held);
+    }
+    // longer rows come behind all terms of the shorter one
+    assert_eq!(file(&mut store, certificate(K1, 1, 0, &[7, 0])), Filing::Filed);
+    assert_eq!(store[61..71], certificate(K1, 1, 0, &[7, 0]).words());
+    // out of order by first minute, then by end minute alone, then the same twice
+    for (place, words) in [(9, [6, 30]), (29, [5, 10]), (29, [5, 9])] {
+        let mut broken = store.clone();
+        broken[place..place + 2].copy_from_slice(&words);
+        assert_eq!(ask(NOTHING, &[1, 0], &broken), refusal(8, NO_PART), "{words:?}");
+    }
+}
+
+#[test]
+fn minutes_of_dates() {
+    let minutes = |date| Evaluator::default().minutes(date);
+    let day = 24 * 60;
+    let known = [
+        ([2000, 1, 1, 0, 0], 0),
+        ([2000, 1, 1, 23, 59], day - 1),
+        ([2000, 1, 31, 0, 0], 30 * day),
+        ([2000, 2, 29, 0, 0], 59 * day),
+        ([2000, 3, 1, 0, 0], 60 * day),
+        ([2000, 12, 31, 23, 59], 366 * day - 1),
+        ([2001, 1, 1, 0, 0], 366 * day),
+        ([2001, 3, 1, 0, 0], (366 + 59) * day),
+        ([2004, 1, 1, 0, 0], (4 * 365 + 1) * day),
+        ([2004, 2, 29, 12, 30], (4 * 365 + 1 + 59) * day + 750),
+        ([2099, 12, 31, 23, 59], 52_595_999),
+    ];
+    for (date, number) in known {
+        assert_eq!(minutes(date), Ok(number), "{date:?}");
+        assert_eq!(Evaluator::default().date(number), Ok(date));
+    }
+    let odd = [
+        [1999, 12, 31, 23, 59],
+        [2100, 1, 1, 0, 0],
+        [2001, 2, 29, 0, 0],
+        [2000, 2, 30, 0, 0],
+        [2099, 2, 29, 0, 0],
+        [2026, 0, 1, 0, 0],
+        [2026, 13, 1, 0, 0],
+        [2026, 4, 31, 0, 0],
+        [2026, 1, 32, 0, 0],
+        [2026, 1, 0, 0, 0],
+        [2026, 1, 1, 24, 0],
+        [2026, 1, 1, 0, 60],
+        [u32::MAX; 5],
+        [0; 5],
+    ];
+    for date in odd {
+        assert_eq!(minutes(date), Err(16), "{date:?}");
+    }
+    for number in [52_596_000, u32::MAX] {
+        assert_eq!(Evaluator::default().date(number), Err(16));
+    }
+}
+
+/// Day by day, without the months' steps: the day of the week of each, and the count of days, are those of the calendar.
+#[test]
+fn each_day_follows_the_one_before() {
+    let evaluator = Evaluator::default();
+    let mut last = [1999, 12, 31, 0, 0];
+    for day in 0..36_525 {
+        let date = evaluator.date(day * 1_440).unwrap();
+        let [year, month, number, ..] = date;
+        let next_day = [last[0], last[1], last[2] + 1, 0, 0];
+        let first_of_next_month = if last[1] == 12 { [last[0] + 1, 1, 1, 0, 0] } else { [last[0], last[1] + 1, 1, 0, 0] };
+        assert!(date == next_day || date == first_of_next_month && evaluator.minutes(next_day) == Err(16), "{last:?} {date:?}");
+        assert_eq!(evaluator.minutes(date), Ok(day * 1_440));
+        // Zeller's congruence, 0 a Saturday, as 2000-01-01 was
+        let (m, y) = if month < 3 { (month + 12, year - 1) } else { (month, year) };
+        assert_eq!((number + 13 * (m + 1) / 5 + y + y / 4 - y / 100 + y / 400) % 7, day % 7, "{date:?}");
+        last = date;
+    }
+    assert_eq!(last, [2099, 12, 31, 0, 0]);
 }
 
 #[test]

@@ -1,7 +1,7 @@
 //! Mistakes that can be planted in the evaluator, to see that the comparison notices each of them.
 
-use crate::evaluator::{is_key, limited, value, Numbered, Row, Set, Term};
-use crate::numbers::{MOST_ROWS, TOO_MANY_ROWS};
+use crate::evaluator::{certified, is_key, limited, value, Date, Numbered, Record, Row, Set, Term, Validity};
+use crate::numbers::{MOST_CERTIFICATES, MOST_ROWS, RECORD_WORDS, TOO_MANY_ROWS};
 use std::cmp::{Ordering, Reverse};
 use std::collections::BTreeSet;
 use std::ops::Range;
@@ -85,11 +85,69 @@ pub enum Fault {
     ShortAreaWritten,
     PastOutputCleared,
     RefusedLengthHandedOut,
+    EndHolds,
+    FirstDoesNotHold,
+    MinuteIgnored,
+    ExpiredRead,
+    NotYetHoldingRead,
+    MinutesComparedSigned,
+    LastMinuteHolds,
+    FirstRecordOfRowDecides,
+    LastRecordOfRowDecides,
+    RepeatedRowsCounted,
+    RowsThatDoNotHoldCounted,
+    DrawnForEachRecord,
+    VettedAtAnyMinute,
+    AbsentAtAnyMinute,
+    DefinitionsAtMinute0,
+    MinuteWithoutDateRefused,
+    BadTermBeforeStore,
+    BadTermBeforeCertificate,
+    FullBeforeTerm,
+    HeldBeforeTerm,
+    BadTermAsCertificate,
+    EndAtFirstFiled,
+    TermNotTestedWhenFiled,
+    TermWithoutDateRefused,
+    HeldTermNotTested,
+    HeldEndAtFirst,
+    HeldTermsDisjoint,
+    HeldFirstsDiffer,
+    HeldTermsInAnyOrder,
+    HeldTermsByEnd,
+    HeldWithAnotherTerm,
+    HeldWithTheSameFirst,
+    HeldByALongerTerm,
+    TermReplaced,
+    FiledByEnd,
+    FiledByTermFirst,
+    FiledBehindItsRow,
+    MovedByEightWords,
+    CapacityOf2000,
+    FullAt1599,
+    NamePartByRows,
+    NoYearLeap,
+    EveryYearLeap,
+    Year2000NotLeap,
+    MonthsAlternate,
+    LeapDayOfEveryYear,
+    Day31OfEveryMonth,
+    Day0Passes,
+    Hour24Passes,
+    Minute60Passes,
+    Month0Passes,
+    Month13Passes,
+    DateWordsCut,
+    DaysFrom0,
+    Year2099Refused,
+    Year2100Passes,
+    RefusedMinutesHandedOut,
+    RefusedDateHandedOut,
 }
 
 impl Fault {
     /// Every fault; `--plant K` plants the one at K, counted from 1.
-    pub const ALL: [Fault; 76] = [
+    pub const ALL: [Fault; 134] = [
         Fault::UnknownListTakenAsEmpty,
         Fault::ComparedTermsCounted,
         Fault::AbsentNotTurnedRound,
@@ -166,6 +224,64 @@ impl Fault {
         Fault::ShortAreaWritten,
         Fault::PastOutputCleared,
         Fault::RefusedLengthHandedOut,
+        Fault::EndHolds,
+        Fault::FirstDoesNotHold,
+        Fault::MinuteIgnored,
+        Fault::ExpiredRead,
+        Fault::NotYetHoldingRead,
+        Fault::MinutesComparedSigned,
+        Fault::LastMinuteHolds,
+        Fault::FirstRecordOfRowDecides,
+        Fault::LastRecordOfRowDecides,
+        Fault::RepeatedRowsCounted,
+        Fault::RowsThatDoNotHoldCounted,
+        Fault::DrawnForEachRecord,
+        Fault::VettedAtAnyMinute,
+        Fault::AbsentAtAnyMinute,
+        Fault::DefinitionsAtMinute0,
+        Fault::MinuteWithoutDateRefused,
+        Fault::BadTermBeforeStore,
+        Fault::BadTermBeforeCertificate,
+        Fault::FullBeforeTerm,
+        Fault::HeldBeforeTerm,
+        Fault::BadTermAsCertificate,
+        Fault::EndAtFirstFiled,
+        Fault::TermNotTestedWhenFiled,
+        Fault::TermWithoutDateRefused,
+        Fault::HeldTermNotTested,
+        Fault::HeldEndAtFirst,
+        Fault::HeldTermsDisjoint,
+        Fault::HeldFirstsDiffer,
+        Fault::HeldTermsInAnyOrder,
+        Fault::HeldTermsByEnd,
+        Fault::HeldWithAnotherTerm,
+        Fault::HeldWithTheSameFirst,
+        Fault::HeldByALongerTerm,
+        Fault::TermReplaced,
+        Fault::FiledByEnd,
+        Fault::FiledByTermFirst,
+        Fault::FiledBehindItsRow,
+        Fault::MovedByEightWords,
+        Fault::CapacityOf2000,
+        Fault::FullAt1599,
+        Fault::NamePartByRows,
+        Fault::NoYearLeap,
+        Fault::EveryYearLeap,
+        Fault::Year2000NotLeap,
+        Fault::MonthsAlternate,
+        Fault::LeapDayOfEveryYear,
+        Fault::Day31OfEveryMonth,
+        Fault::Day0Passes,
+        Fault::Hour24Passes,
+        Fault::Minute60Passes,
+        Fault::Month0Passes,
+        Fault::Month13Passes,
+        Fault::DateWordsCut,
+        Fault::DaysFrom0,
+        Fault::Year2099Refused,
+        Fault::Year2100Passes,
+        Fault::RefusedMinutesHandedOut,
+        Fault::RefusedDateHandedOut,
     ];
 
     pub fn meaning(self) -> &'static str {
@@ -246,7 +362,222 @@ impl Fault {
             Fault::ShortAreaWritten => "the area is written before 11 is known",
             Fault::PastOutputCleared => "the word past the output is cleared",
             Fault::RefusedLengthHandedOut => "a refused rewriting hands out the input's length",
+            Fault::EndHolds => "a certificate holds at its end minute too",
+            Fault::FirstDoesNotHold => "a certificate does not hold at its first minute",
+            Fault::MinuteIgnored => "certificates are read whatever the minute",
+            Fault::ExpiredRead => "a certificate is read after its end too",
+            Fault::NotYetHoldingRead => "a certificate is read before its first minute too",
+            Fault::MinutesComparedSigned => "minutes are compared as signed numbers",
+            Fault::LastMinuteHolds => "a certificate with the greatest end holds at that minute too",
+            Fault::FirstRecordOfRowDecides => "a row is read only if the first of its records holds",
+            Fault::LastRecordOfRowDecides => "a row is read only if the last of its records holds",
+            Fault::RepeatedRowsCounted => "13 counts the records that hold, a row as often as it has one",
+            Fault::RowsThatDoNotHoldCounted => "13 counts the rows of all records, also those that do not hold",
+            Fault::DrawnForEachRecord => "a row is drawn as often as its records hold",
+            Fault::VettedAtAnyMinute => "code 8 reads certificates whatever the minute",
+            Fault::AbsentAtAnyMinute => "an absent guard asks a name's certificates whatever the minute",
+            Fault::DefinitionsAtMinute0 => "definitions are read at minute 0",
+            Fault::MinuteWithoutDateRefused => "a query at a minute that has no date is refused with 16",
+            Fault::BadTermBeforeStore => "17 comes before 8",
+            Fault::BadTermBeforeCertificate => "17 comes before 9",
+            Fault::FullBeforeTerm => "10 comes before 17",
+            Fault::HeldBeforeTerm => "Held comes before 17, for a row that is held with another term",
+            Fault::BadTermAsCertificate => "an end not after its first minute is refused with 9",
+            Fault::EndAtFirstFiled => "a certificate that ends at its first minute is filed",
+            Fault::TermNotTestedWhenFiled => "an end not after its first minute is filed",
+            Fault::TermWithoutDateRefused => "a term that ends after 2099 is refused with 17",
+            Fault::HeldTermNotTested => "a held record may have an end that is not after its first minute",
+            Fault::HeldEndAtFirst => "a held record may end at its first minute",
+            Fault::HeldTermsDisjoint => "a store is unsound if two terms of a row overlap",
+            Fault::HeldFirstsDiffer => "a store is unsound if two terms of a row have the same first minute",
+            Fault::HeldTermsInAnyOrder => "a store is sound whatever the order of a row's terms",
+            Fault::HeldTermsByEnd => "a store is sound if a row's terms ascend by end, then by first minute",
+            Fault::HeldWithAnotherTerm => "a certificate is Held if its row is held with another term",
+            Fault::HeldWithTheSameFirst => "a certificate is Held if its row is held with the same first minute",
+            Fault::HeldByALongerTerm => "a certificate is Held if its row is held with a term that covers its own",
+            Fault::TermReplaced => "another term of a held row takes the place of the one held",
+            Fault::FiledByEnd => "records of a row are put in order by end, then by first minute",
+            Fault::FiledByTermFirst => "records of a name are put in order by term, then by row",
+            Fault::FiledBehindItsRow => "a record is put behind all others of its row",
+            Fault::MovedByEightWords => "filing moves later records by eight words",
+            Fault::CapacityOf2000 => "2,000 certificates may be held where the store is long enough",
+            Fault::FullAt1599 => "the 1,600th certificate is refused",
+            Fault::NamePartByRows => "a name's part of the store has one record for each row",
+            Fault::NoYearLeap => "February has 28 days in every year",
+            Fault::EveryYearLeap => "February has 29 days in every year",
+            Fault::Year2000NotLeap => "2000 is no leap year",
+            Fault::MonthsAlternate => "months have 31 and 30 days by turns, August 30",
+            Fault::LeapDayOfEveryYear => "29 February of every year is taken for a date",
+            Fault::Day31OfEveryMonth => "the 31st of every month is taken for a date",
+            Fault::Day0Passes => "day 0 is taken as day 1",
+            Fault::Hour24Passes => "24:00 is taken for the next day's first minute",
+            Fault::Minute60Passes => "minute 60 is taken for the next hour's first",
+            Fault::Month0Passes => "month 0 is taken as month 1",
+            Fault::Month13Passes => "month 13 is taken as the next year's first",
+            Fault::DateWordsCut => "a date's words are cut to their last eight bits, the year to sixteen",
+            Fault::DaysFrom0 => "a minute's day counts from 0",
+            Fault::Year2099Refused => "dates end with 2098",
+            Fault::Year2100Passes => "dates end with 2100",
+            Fault::RefusedMinutesHandedOut => "a refused date hands out minutes",
+            Fault::RefusedDateHandedOut => "a refused minute hands out a date",
         }
+    }
+}
+
+/// Whether a record is wrongly taken as holding at the minute, or as not holding.
+pub fn wrongly_holds(fault: Option<Fault>, records: &[Record], record: &Record, minute: u32) -> Option<bool> {
+    let Validity { first, end } = record.validity;
+    let mut of_row = records.iter().filter(|other| (other.name, other.row) == (record.name, record.row));
+    match fault? {
+        Fault::EndHolds => Some(first <= minute && minute <= end),
+        Fault::FirstDoesNotHold => Some(first < minute && minute < end),
+        Fault::MinuteIgnored => Some(true),
+        Fault::ExpiredRead => Some(first <= minute),
+        Fault::NotYetHoldingRead => Some(minute < end),
+        Fault::MinutesComparedSigned => Some(first as i32 <= minute as i32 && (minute as i32) < end as i32),
+        Fault::LastMinuteHolds if end == u32::MAX => Some(first <= minute),
+        Fault::FirstRecordOfRowDecides if of_row.next() != Some(record) => Some(false),
+        Fault::LastRecordOfRowDecides if of_row.next_back() != Some(record) => Some(false),
+        _ => None,
+    }
+}
+
+/// What 13 is wrongly asked of, beside the rows of the name's value; 0 if it is not.
+pub fn rows_wrongly_counted(fault: Option<Fault>, records: &[Record], name: [u32; 3], minute: u32) -> usize {
+    match fault {
+        Some(Fault::RepeatedRowsCounted) => rows_of_records(records, name, minute).count(),
+        Some(Fault::RowsThatDoNotHoldCounted) => certified(records).get(&name).map_or(0, BTreeSet::len),
+        _ => 0,
+    }
+}
+
+/// The row of each record of the name that holds at the minute, so that a row may come again.
+pub fn rows_of_records(records: &[Record], name: [u32; 3], minute: u32) -> impl Iterator<Item = Row> + '_ {
+    records.iter().filter(move |record| record.name == name && record.validity.holds_at(minute)).map(|record| record.row)
+}
+
+/// A certificate's words with an end that is not after its first minute, whatever the others are.
+pub fn has_bad_term(certificate: &[u32]) -> bool {
+    matches!(certificate, [.., first, end] if end <= first) && certificate.len() == RECORD_WORDS
+}
+
+/// Whether a term is wrongly let through when filing, or refused.
+pub fn wrongly_filed(fault: Option<Fault>, Validity { first, end }: Validity) -> Option<bool> {
+    match fault? {
+        Fault::EndAtFirstFiled => Some(first <= end),
+        Fault::TermNotTestedWhenFiled => Some(true),
+        Fault::TermWithoutDateRefused if end > 52_596_000 => Some(false),
+        Fault::MinutesComparedSigned => Some((first as i32) < end as i32),
+        _ => None,
+    }
+}
+
+/// Whether a held record's term is wrongly taken as sound.
+pub fn wrongly_sound(fault: Option<Fault>, Validity { first, end }: Validity) -> Option<bool> {
+    match fault? {
+        Fault::HeldTermNotTested => Some(true),
+        Fault::HeldEndAtFirst => Some(first <= end),
+        _ => None,
+    }
+}
+
+/// Whether two records that follow each other are wrongly taken as ascending, or as not ascending.
+pub fn wrongly_ascending(fault: Option<Fault>, earlier: &Record, later: &Record) -> Option<bool> {
+    if (earlier.name, earlier.row) != (later.name, later.row) {
+        return None;
+    }
+    let (earlier, later) = (earlier.validity, later.validity);
+    match fault? {
+        Fault::HeldTermsDisjoint => Some(earlier.end <= later.first),
+        Fault::HeldFirstsDiffer => Some(earlier.first < later.first),
+        Fault::HeldTermsInAnyOrder => Some(earlier != later),
+        Fault::HeldTermsByEnd => Some((earlier.end, earlier.first) < (later.end, later.first)),
+        _ => None,
+    }
+}
+
+/// Whether a certificate is wrongly taken as held.
+pub fn wrongly_held(fault: Option<Fault>, records: &[Record], record: &Record) -> bool {
+    let Validity { first, end } = record.validity;
+    records.iter().filter(|held| (held.name, held.row) == (record.name, record.row)).any(|held| match fault {
+        Some(Fault::HeldBeforeTerm) => end <= first,
+        Some(Fault::HeldWithAnotherTerm) => first < end,
+        Some(Fault::HeldWithTheSameFirst) => first < end && held.validity.first == first,
+        Some(Fault::HeldByALongerTerm) => first < end && held.validity.first <= first && end <= held.validity.end,
+        _ => false,
+    })
+}
+
+/// Where a record is wrongly put among those held.
+pub fn wrong_place(fault: Option<Fault>, records: &[Record], record: &Record) -> Option<usize> {
+    let fault = fault?;
+    let before = |held: &&Record| match fault {
+        Fault::FiledByWidth => held.words() < record.words(),
+        Fault::FiledByEnd => by_end(held) < by_end(record),
+        Fault::FiledByTermFirst => (held.name, held.validity, held.row) < (record.name, record.validity, record.row),
+        _ => (held.name, held.row) <= (record.name, record.row),
+    };
+    let misplaced = matches!(fault, Fault::FiledByWidth | Fault::FiledByEnd | Fault::FiledByTermFirst | Fault::FiledBehindItsRow);
+    misplaced.then(|| records.iter().filter(before).count())
+}
+
+fn by_end(record: &Record) -> ([u32; 3], Row, u32, u32) {
+    (record.name, record.row, record.validity.end, record.validity.first)
+}
+
+/// The place of the record that is wrongly written over.
+pub fn replaced(fault: Option<Fault>, records: &[Record], record: &Record) -> Option<usize> {
+    let same_row = |held: &Record| (held.name, held.row) == (record.name, record.row);
+    (fault == Some(Fault::TermReplaced)).then(|| records.iter().position(same_row)).flatten()
+}
+
+/// How many certificates a store may wrongly hold.
+pub fn wrong_capacity(fault: Option<Fault>, store: &[u32]) -> Option<usize> {
+    match fault? {
+        Fault::CapacityOf2000 => Some((store.len().saturating_sub(1) / RECORD_WORDS).min(2_000)),
+        Fault::FullAt1599 => Some(MOST_CERTIFICATES - 1),
+        _ => None,
+    }
+}
+
+pub fn wrong_days_of_month(fault: Option<Fault>, year: u32, month: u32) -> Option<u32> {
+    match (fault?, month) {
+        (Fault::NoYearLeap, 2) => Some(28),
+        (Fault::EveryYearLeap, 2) => Some(29),
+        (Fault::Year2000NotLeap, 2) if year == 2_000 => Some(28),
+        (Fault::MonthsAlternate, 8..) => Some(30 + month % 2),
+        _ => None,
+    }
+}
+
+/// The last day of a month that is wrongly taken for a date, without the month being longer.
+pub fn wrong_last_day(fault: Option<Fault>, month: u32) -> Option<u32> {
+    match fault? {
+        Fault::LeapDayOfEveryYear if month == 2 => Some(29),
+        Fault::Day31OfEveryMonth => Some(31),
+        _ => None,
+    }
+}
+
+/// What a date that does not exist is wrongly taken for.
+pub fn wrong_date(fault: Option<Fault>, date: Date) -> Date {
+    let [year, month, day, hour, minute] = date;
+    match fault {
+        Some(Fault::Day0Passes) if day == 0 => [year, month, 1, hour, minute],
+        Some(Fault::Hour24Passes) if hour == 24 && minute == 0 && day < 28 => [year, month, day + 1, 0, 0],
+        Some(Fault::Minute60Passes) if minute == 60 && hour < 23 => [year, month, day, hour + 1, 0],
+        Some(Fault::Month0Passes) if month == 0 => [year, 1, day, hour, minute],
+        Some(Fault::Month13Passes) if month == 13 => [year.wrapping_add(1), 1, day, hour, minute],
+        Some(Fault::DateWordsCut) => [year & 0xFFFF, month & 0xFF, day & 0xFF, hour & 0xFF, minute & 0xFF],
+        _ => date,
+    }
+}
+
+pub fn wrong_last_year(fault: Option<Fault>) -> Option<u32> {
+    match fault? {
+        Fault::Year2099Refused => Some(2_098),
+        Fault::Year2100Passes => Some(2_100),
+        _ => None,
     }
 }
 

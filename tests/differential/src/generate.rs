@@ -1,10 +1,12 @@
-//! Random policies, queries, stores and lists of filings.
+//! Random policies, queries, stores, lists of filings, minutes and dates.
 //!
 //! Expressions are written by the grammar, with a polarity and openness in mind, so that most are answered and many answers are not empty: keys, names and
 //! atoms come from a small universe. Then single words are changed, words cut off or added, and each limit of document 01 is approached from both sides.
 
-use crate::evaluator::{key, Areas, Evaluator, Record, Refusal, Row};
-use crate::numbers::{COMPROMISED, LAST_NAME, MOST_CERTIFICATES, MOST_POLICY_WORDS, MOST_VARIABLES, RECORD_WORDS, STORE_WORDS};
+use crate::evaluator::{key, Areas, Date, Evaluator, Record, Refusal, Row, Validity};
+use crate::numbers::{
+    COMPROMISED, FIRST_YEAR, LAST_NAME, LAST_YEAR, MOST_CERTIFICATES, MOST_POLICY_WORDS, MOST_VARIABLES, RECORD_WORDS, STORE_WORDS,
+};
 use crate::random::Random;
 use std::collections::BTreeSet;
 
@@ -14,6 +16,8 @@ pub struct Universe {
     pub names: &'static [u32],
     pub atoms: &'static [u32],
     pub widths: &'static [u32],
+    /// Terms of validity: some overlap, some touch. Queries are asked at their edges.
+    pub terms: &'static [Validity],
     /// How deep grammar-directed expressions go.
     pub depth: u32,
     /// The most guards of one comprehension.
@@ -25,9 +29,38 @@ pub const PORTAL: Universe = Universe {
     names: &[1, 1, 1, 2, 2, 2, 0, CROWD, LAST_NAME],
     atoms: &[5, 6, 7, 8, 9, key(1), key(2), 0, u32::MAX],
     widths: &[1, 1, 1, 1, 1, 1, 2, 2, 2, 3, 4],
+    terms: &[
+        ALWAYS,
+        ALWAYS,
+        ALWAYS,
+        term(0, 1),
+        term(0, 20),
+        term(0, 20),
+        term(9, 10),
+        term(10, 20),
+        term(10, 30),
+        term(10, 30),
+        term(15, 25),
+        term(20, 40),
+        term(20, 40),
+        term(10, DATED_MINUTES),
+        term(20, (1 << 31) + 1),
+        term((1 << 31) - 1, u32::MAX),
+        term(u32::MAX - 1, u32::MAX),
+    ],
     depth: 5,
     guards: 4,
 };
+
+/// But for the greatest minute, at which nothing holds.
+pub const ALWAYS: Validity = term(0, u32::MAX);
+
+/// The first minute that has no date.
+const DATED_MINUTES: u32 = 52_596_000;
+
+pub const fn term(first: u32, end: u32) -> Validity {
+    Validity { first, end }
+}
 
 /// The name that has about 128 rows in crowded stores.
 const CROWD: u32 = 3;
@@ -36,6 +69,7 @@ const CROWD: u32 = 3;
 pub struct Case {
     pub policy: Vec<u32>,
     pub query: Vec<u32>,
+    pub minute: u32,
     pub areas: Areas,
     /// The length of the area that the policy is rewritten into.
     pub rewriting_area: usize,
@@ -43,6 +77,9 @@ pub struct Case {
     pub number: u32,
     /// A name whose certificates to hand back.
     pub name: [u32; 3],
+    /// A date and minutes to convert.
+    pub date: Date,
+    pub minutes: u32,
 }
 
 pub struct Filings {
@@ -351,42 +388,64 @@ impl Generator {
         let width = self.random.pick(self.universe.widths) as usize;
         let atoms: Vec<u32> = (0..width).map(|_| self.random.pick(self.universe.atoms)).collect();
         let name = [self.random.pick(self.universe.keys), self.random.pick(self.universe.names), self.random.between(0, 1)];
-        Record { name, row: Row::new(&atoms) }
+        Record { name, row: Row::new(&atoms), validity: self.random.pick(self.universe.terms) }
     }
 
+    /// Some rows have several terms.
     fn records(&mut self, count: usize) -> BTreeSet<Record> {
-        (0..count).map(|_| self.record()).collect()
+        let mut record = self.record();
+        let mut next = || {
+            record = if self.random.chance(300) { Record { validity: self.random.pick(self.universe.terms), ..record } } else { self.record() };
+            record
+        };
+        (0..count).map(|_| next()).collect()
     }
 
-    /// 126 to 130 rows of one name, and some others.
+    /// 126 to 130 rows of one name with one term, up to 130 with another, some of which are the same rows, and some others.
     fn crowd(&mut self) -> BTreeSet<Record> {
         let mut records = self.records(20);
         for polarity in [0, 1] {
             let name = [self.universe.keys[0], CROWD, polarity];
             records.retain(|record| record.name != name);
             let count = self.random.between(126, 130);
-            records.extend((0..count).map(|n| Record { name, row: Row::new(&[n]) }));
+            let first_of_others = self.random.pick(&[0, 0, 20, count]);
+            let others = first_of_others..first_of_others + self.random.pick(&[0, 1, count - 1, count, 130]);
+            for rows in [0..count, others] {
+                let validity = self.random.pick(self.universe.terms);
+                records.extend(rows.map(|n| Record { name, row: Row::new(&[n]), validity }));
+            }
         }
         records
     }
 
-    /// `missing` fewer than 2,000.
-    fn full(&mut self, missing: usize) -> BTreeSet<Record> {
+    fn many(&mut self, count: usize) -> BTreeSet<Record> {
         let mut records = self.records(60);
         let mut n = 0;
-        while records.len() < MOST_CERTIFICATES - missing {
+        while records.len() < count {
             let name = [self.random.pick(self.universe.keys), n / 64, self.random.between(0, 1)];
-            records.insert(Record { name, row: Row::new(&[n]) });
+            records.insert(Record { name, row: Row::new(&[n]), validity: self.random.pick(self.universe.terms) });
             n += 1;
         }
         records
+    }
+
+    /// Room for so many records, and often for more.
+    fn room(&mut self, records: usize) -> usize {
+        (1 + RECORD_WORDS * records).max(STORE_WORDS) + self.random.pick(&[0, 0, 9, 10, 4_000])
+    }
+
+    /// Full, or nearly so; sometimes fuller than it may be.
+    fn full(&mut self) -> Vec<u32> {
+        let count = MOST_CERTIFICATES - 3 + self.random.pick(&[0, 1, 2, 2, 3, 3, 3, 4, 403]);
+        let (records, length) = (self.many(count), self.room(count));
+        lay_out(&records, length, &mut self.random)
     }
 
     pub fn sound_store(&mut self) -> Vec<u32> {
         let records = match self.random.below(20) {
             0 => BTreeSet::new(),
             1..=3 => self.crowd(),
-            4 => self.full(0),
+            4 => self.many(MOST_CERTIFICATES),
             5..=9 => self.records(200),
             _ => self.records(40),
         };
@@ -395,8 +454,11 @@ impl Generator {
     }
 
     pub fn store(&mut self) -> Vec<u32> {
+        if self.random.chance(20) {
+            return self.full();
+        }
         let mut store = self.sound_store();
-        if self.random.chance(120) {
+        if self.random.chance(150) {
             self.damage(&mut store);
         }
         store
@@ -406,24 +468,36 @@ impl Generator {
         let count = store[0] as usize;
         let word = if count > 0 { 1 + self.random.below(RECORD_WORDS * count) } else { 0 };
         let record = if count > 1 { 1 + RECORD_WORDS * self.random.below(count - 1) } else { 1 };
-        match self.random.below(6) {
+        match self.random.below(9) {
             0 => store.truncate(self.random.pick(&[STORE_WORDS - 1, 0, 1, 9, 8_000])),
             1 => store[0] = self.random.pick(&[MOST_CERTIFICATES as u32 + 1, u32::MAX, count as u32 + 1]),
             2 => store.copy_within(record..record + RECORD_WORDS, record + RECORD_WORDS), // the same twice
             3 => (0..RECORD_WORDS).for_each(|place| store.swap(record + place, record + RECORD_WORDS + place)),
             4 => store[word] = self.random.pick(&[0, 1, 2, 5, 65_536, u32::MAX]),
-            _ => store[word] ^= 1 << self.random.below(32),
+            5 => store[word] ^= 1 << self.random.below(32),
+            6 => {
+                let first = store[record + 8];
+                store[record + 9] = self.random.pick(&[first, first, first.saturating_sub(1), 0]);
+            }
+            _ => self.swap_terms(store),
+        }
+    }
+
+    /// Two records of one row change their places, where there are such.
+    fn swap_terms(&mut self, store: &mut [u32]) {
+        let count = store[0] as usize;
+        let records = &mut store[1..].as_chunks_mut::<RECORD_WORDS>().0[..count];
+        let of_one_row: Vec<usize> = (1..records.len()).filter(|&later| records[later - 1][..8] == records[later][..8]).collect();
+        if !of_one_row.is_empty() {
+            let later = self.random.pick(&of_one_row);
+            records.swap(later - 1, later);
         }
     }
 
     pub fn filings(&mut self) -> Filings {
         let store = match self.random.below(20) {
             0 => self.store(),
-            1 => {
-                let missing = self.random.below(4);
-                let records = self.full(missing);
-                lay_out(&records, STORE_WORDS, &mut self.random)
-            }
+            1 => self.full(),
             2 => {
                 let mut store = self.sound_store();
                 self.damage(&mut store);
@@ -431,23 +505,102 @@ impl Generator {
             }
             _ => lay_out(&BTreeSet::new(), STORE_WORDS, &mut self.random),
         };
-        let count = self.random.between(1, 24);
-        let certificates = (0..count).map(|_| self.filed(&store)).collect();
+        let mut certificates = Vec::new();
+        for _ in 0..self.random.between(1, 24) {
+            let words = self.filed(&store, &certificates);
+            certificates.push(words);
+        }
         Filings { store, certificates }
     }
 
-    /// Words to file: mostly sound, often there already, sometimes any at all.
-    fn filed(&mut self, store: &[u32]) -> Vec<u32> {
+    /// Words to file: mostly sound, often there already, perhaps with another term, sometimes any at all.
+    fn filed(&mut self, store: &[u32], earlier: &[Vec<u32>]) -> Vec<u32> {
         let mut words = self.record().words().to_vec();
         let records = store.len().saturating_sub(1) / RECORD_WORDS;
         if records > 0 && self.random.chance(150) {
             let start = 1 + RECORD_WORDS * self.random.below(records.min(store[0] as usize).max(1));
             words = store[start..start + RECORD_WORDS].to_vec();
+        } else if !earlier.is_empty() && self.random.chance(250) {
+            words = earlier[self.random.below(earlier.len())].clone();
+        }
+        if words.len() == RECORD_WORDS && self.random.chance(300) {
+            let Validity { first, end } = self.another_term(term(words[8], words[9]));
+            words[8..].copy_from_slice(&[first, end]);
         }
         if self.random.chance(200) {
             self.mutate(&mut words);
         }
         words
+    }
+
+    /// Often with one of the same edges, sometimes with an end that is not after the first minute.
+    fn another_term(&mut self, Validity { first, end }: Validity) -> Validity {
+        let other = self.random.pick(self.universe.terms);
+        match self.random.below(10) {
+            0 => term(first, first),
+            1 => term(end, first),
+            2 => term(first, first.saturating_sub(1)),
+            3 => term(first, other.end),
+            4 => term(other.first, end),
+            _ => other,
+        }
+    }
+
+    // ---- minutes and dates ----
+
+    /// Mostly at the edge of a term.
+    pub fn minute(&mut self) -> u32 {
+        let Validity { first, end } = self.random.pick(self.universe.terms);
+        match self.random.below(16) {
+            0..=4 => first,
+            5..=9 => end - 1,
+            10..=12 => end,
+            13 => first.saturating_sub(1),
+            14 => self.random.pick(&[0, u32::MAX]),
+            _ => self.random.word(),
+        }
+    }
+
+    /// Mostly one that exists, often at the end of a month; sometimes one of its words is just outside its rule, or far from it.
+    fn date(&mut self) -> Date {
+        let year = if self.random.chance(300) { self.random.pick(&[2_000, 2_000, 2_001, 2_004, 2_096, 2_099]) } else { self.year() };
+        let day = if self.random.chance(400) { self.random.between(28, 31) } else { self.random.between(1, 28) };
+        let [hour, minute] = if self.random.chance(300) { self.random.pick(&[[0, 0], [23, 59]]) } else { [self.hour(), self.random.between(0, 59)] };
+        let mut date = [year, self.random.between(1, 12), day, hour, minute];
+        if self.random.chance(250) {
+            let odd: [&[u32]; 5] = [
+                &[1_999, 2_100, 0, 100, 67_536, u32::MAX],
+                &[0, 13, 257, u32::MAX],
+                &[0, 32, 257, u32::MAX],
+                &[24, 256, u32::MAX],
+                &[60, 256, u32::MAX],
+            ];
+            let place = self.random.below(5);
+            date[place] = self.random.pick(odd[place]);
+        }
+        date
+    }
+
+    fn year(&mut self) -> u32 {
+        self.random.between(FIRST_YEAR, LAST_YEAR)
+    }
+
+    fn hour(&mut self) -> u32 {
+        self.random.between(0, 23)
+    }
+
+    /// Often at the edge of a month or of the last year.
+    fn minutes(&mut self) -> u32 {
+        match self.random.below(10) {
+            0 => DATED_MINUTES - 2 + self.random.between(0, 3),
+            1 => self.random.word(),
+            2..=5 => {
+                let month = [self.year(), self.random.between(1, 12), 1, 0, 0];
+                let first = Evaluator::default().minutes(month).expect("it exists");
+                first.wrapping_add(self.random.pick(&[0, 1, 1_439, 1_440])).wrapping_sub(self.random.pick(&[0, 0, 1, 1_440]))
+            }
+            _ => self.random.below(DATED_MINUTES as usize) as u32,
+        }
     }
 
     // ---- policies and queries ----
@@ -465,7 +618,8 @@ impl Generator {
         let number = if self.random.chance(900) { self.random.between(0, 18) } else { self.random.word() };
         let name = self.record().name;
         let rewriting_area = self.rewriting_area(&policy);
-        Case { policy, query, areas: self.areas(), rewriting_area, number, name }
+        let (minute, areas) = (self.minute(), self.areas());
+        Case { policy, query, minute, areas, rewriting_area, number, name, date: self.date(), minutes: self.minutes() }
     }
 
     /// Often just the output's length, or one word less; sometimes as long as the input.
@@ -858,7 +1012,6 @@ impl Generator {
 #[cfg(test)]
 mod tests {
     use super::*;
-    use crate::evaluator::certificates;
 
     #[test]
     fn literals_have_the_length_asked_for() {
@@ -871,8 +1024,17 @@ mod tests {
     fn sound_stores_are_sound() {
         let mut generator = Generator::new(1, &PORTAL);
         for _ in 0..300 {
-            assert!(certificates(&generator.sound_store()).is_some());
+            assert!(Evaluator::default().certificates(&generator.sound_store()).is_some());
         }
+    }
+
+    #[test]
+    fn most_dates_exist_and_many_do_not() {
+        let mut generator = Generator::new(1, &PORTAL);
+        let count = (0..1_000).filter(|_| Evaluator::default().minutes(generator.date()).is_ok()).count();
+        assert!((600..900).contains(&count), "{count}");
+        let count = (0..1_000).filter(|_| Evaluator::default().date(generator.minutes()).is_ok()).count();
+        assert!((800..950).contains(&count), "{count}");
     }
 
     #[test]
@@ -898,7 +1060,7 @@ mod tests {
         let store = generator.sound_store();
         let answered = |generator: &mut Generator| {
             let (policy, query) = generator.sound_pair();
-            Evaluator::default().query(&policy, &query, &store, Areas::LEAST).is_ok()
+            Evaluator::default().query(&policy, &query, 10, &store, Areas::LEAST).is_ok()
         };
         let count = (0..1_000).filter(|_| answered(&mut generator)).count();
         assert!(count > 700, "{count}");

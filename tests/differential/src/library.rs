@@ -1,8 +1,9 @@
 //! The compiled library.
 
 use crate::engine::{Engine, Lent};
+use crate::evaluator::Date;
 use std::ops::Range;
-use txindurbe::calls::{self, Judgement, Reply, Rewriting};
+use txindurbe::calls::{self, Dated, Judgement, Minutes, Reply, Rewriting};
 
 pub struct Library;
 
@@ -11,8 +12,8 @@ impl Engine for Library {
         calls::file(store, certificate)
     }
 
-    fn query(&self, policy: &[u32], query: &[u32], store: &[u32], lent: Lent) -> Reply {
-        calls::query(policy, query, store, lent.answer, lent.definitions, lent.scratch)
+    fn query(&self, policy: &[u32], query: &[u32], minute: u32, store: &[u32], lent: Lent) -> Reply {
+        calls::query(policy, query, minute, store, lent.answer, lent.definitions, lent.scratch)
     }
 
     fn judge(&self, policy: &[u32], query: &[u32]) -> Judgement {
@@ -29,5 +30,13 @@ impl Engine for Library {
 
     fn certificates_of(&self, store: &[u32], [key, name, polarity]: [u32; 3]) -> Range<usize> {
         calls::certificates_of(store, key, name, polarity)
+    }
+
+    fn minutes(&self, date: Date) -> Minutes {
+        calls::minutes(date)
+    }
+
+    fn date(&self, minutes: u32) -> Dated {
+        calls::date(minutes)
     }
 }

@@ -75,6 +75,10 @@ fn print_tally(tally: &Tally, seen: &Seen) {
         let reply = if *number == 0 { "done".into() } else { format!("refused with {number}") };
         println!("rewriting {reply}: {count}");
     }
+    for (number, count) in &tally.conversions {
+        let reply = if *number == 0 { "done".into() } else { format!("refused with {number}") };
+        println!("conversion {reply}: {count}");
+    }
     for (number, count) in &tally.refusals {
         println!("query refused with {number}: {count}");
     }

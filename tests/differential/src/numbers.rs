@@ -14,11 +14,16 @@ pub const SET_WORDS: usize = 642;
 
 // ---- Store and filing ----
 
-/// Key, name, polarity, width, four atoms.
-pub const RECORD_WORDS: usize = 8;
-pub const MOST_CERTIFICATES: usize = 2_000;
+/// Key, name, polarity, width, four atoms, first minute, end minute.
+pub const RECORD_WORDS: usize = 10;
+pub const MOST_CERTIFICATES: usize = 1_600;
 pub const STORE_WORDS: usize = 16_001;
 pub const LAST_NAME: u32 = 65_535;
+
+// ---- Dates ----
+
+pub const FIRST_YEAR: u32 = 2_000;
+pub const LAST_YEAR: u32 = 2_099;
 
 // ---- Policy words ----
 
@@ -54,6 +59,8 @@ pub const COMPLEMENT_DRAWN: u32 = 12;
 pub const TOO_MANY_ROWS: u32 = 13;
 pub const TOO_MANY_DRAWS: u32 = 14;
 pub const NOT_EXTERNAL: u32 = 15;
+pub const BAD_DATE: u32 = 16;
+pub const BAD_TERM: u32 = 17;
 
 /// The part that is the query, after 0 to 15, the definitions.
 pub const QUERY_PART: u32 = 16;

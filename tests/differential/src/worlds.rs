@@ -1,4 +1,4 @@
-//! Demand 3 by brute force: answers are held against belonging in every consistent world over a small universe of rows.
+//! Demand 3 by brute force: answers at a minute are held against belonging in every world of that minute over a small universe of rows.
 //!
 //! Why a small universe is enough to be worth asking:
 //! - A row that is wrongly left out of a lower answer, or wrongly kept in an upper one, is shown by the minimal model, which is always among the worlds
@@ -10,13 +10,20 @@
 
 use crate::engine::{Engine, Lent};
 use crate::evaluator::{key, row_of, value, Areas, Evaluator, Expression, Guard, Judged, Record, Row, Set, Slot, Term, Verdict};
-use crate::generate::{lay_out, rewritten, Generator, Universe};
+use crate::generate::{lay_out, rewritten, term, Generator, Universe, ALWAYS};
 use crate::numbers::{FIRST_KEY, MOST_POLICY_WORDS, STORE_WORDS};
 use crate::random::Random;
 use std::collections::{BTreeMap, BTreeSet};
 
-pub const SMALL: Universe =
-    Universe { keys: &[key(1), key(2)], names: &[1, 2], atoms: &[5, 6, key(1)], widths: &[1, 1, 1, 1, 2], depth: 3, guards: 3 };
+pub const SMALL: Universe = Universe {
+    keys: &[key(1), key(2)],
+    names: &[1, 2],
+    atoms: &[5, 6, key(1)],
+    widths: &[1, 1, 1, 1, 2],
+    terms: &[ALWAYS, ALWAYS, ALWAYS, term(0, 20), term(10, 20), term(10, 30), term(20, 40)],
+    depth: 3,
+    guards: 3,
+};
 
 /// Rows that worlds may list beside the certified ones; the last three are made of atoms that nothing mentions.
 const ROWS: [&[u32]; 7] = [&[5], &[6], &[key(1)], &[5, key(1)], &[98], &[99], &[98, 5]];
@@ -52,10 +59,10 @@ impl World<'_> {
     }
 }
 
-/// Worlds in which all certificates accepted so far are true. The first one is the minimal model.
-fn consistent_worlds<'a>(names: &BTreeSet<Name>, universe: &'a BTreeSet<Row>, accepted: &BTreeSet<Record>, random: &mut Random) -> Vec<World<'a>> {
-    let minimal = minimal_model(names, universe, accepted);
-    let undecided = undecided(names, universe, accepted);
+/// The worlds of a minute: those in which all certificates accepted so far that hold then are true. The first one is the minimal model.
+fn worlds_of_minute<'a>(names: &BTreeSet<Name>, universe: &'a BTreeSet<Row>, holding: &BTreeSet<Record>, random: &mut Random) -> Vec<World<'a>> {
+    let minimal = minimal_model(names, universe, holding);
+    let undecided = undecided(names, universe, holding);
     let turned = |turn: &dyn Fn(usize) -> bool| {
         let mut lists = minimal.clone();
         for (_, (name, row)) in undecided.iter().enumerate().filter(|(place, _)| turn(*place)) {
@@ -77,23 +84,23 @@ fn consistent_worlds<'a>(names: &BTreeSet<Name>, universe: &'a BTreeSet<Row>, ac
 }
 
 /// A + name has just its certified rows; a − name has all rows but its certified ones.
-fn minimal_model(names: &BTreeSet<Name>, universe: &BTreeSet<Row>, accepted: &BTreeSet<Record>) -> BTreeMap<Name, List> {
+fn minimal_model(names: &BTreeSet<Name>, universe: &BTreeSet<Row>, holding: &BTreeSet<Record>) -> BTreeMap<Name, List> {
     let list = |name: &Name| {
-        let certified = certified(accepted, name);
+        let certified = certified(holding, name);
         let minus = name[2] == 1;
         List { rows: if minus { universe - &certified } else { certified }, rest: minus }
     };
     names.iter().map(|name| (*name, list(name))).collect()
 }
 
-fn certified(accepted: &BTreeSet<Record>, name: &Name) -> BTreeSet<Row> {
-    accepted.iter().filter(|record| record.name == *name).map(|record| record.row).collect()
+fn certified(holding: &BTreeSet<Record>, name: &Name) -> BTreeSet<Row> {
+    holding.iter().filter(|record| record.name == *name).map(|record| record.row).collect()
 }
 
-/// What no certificate decides: rows of the universe, and for − names the rest (`None`).
-fn undecided(names: &BTreeSet<Name>, universe: &BTreeSet<Row>, accepted: &BTreeSet<Record>) -> Vec<(Name, Option<Row>)> {
+/// What no certificate decides then: rows of the universe, and for − names the rest (`None`).
+fn undecided(names: &BTreeSet<Name>, universe: &BTreeSet<Row>, holding: &BTreeSet<Record>) -> Vec<(Name, Option<Row>)> {
     let of_name = |name: &Name| {
-        let certified = certified(accepted, name);
+        let certified = certified(holding, name);
         let mut open: Vec<(Name, Option<Row>)> = universe.difference(&certified).map(|row| (*name, Some(*row))).collect();
         open.extend((name[2] == 1).then_some((*name, None)));
         open
@@ -195,11 +202,20 @@ fn pattern_row(pattern: &[Slot], outside: usize, values: &[u32]) -> Row {
 
 // ---- one list of filings ----
 
-/// The answer at one point, with what was accepted so far.
+/// The answer at one point and minute, with what was accepted so far.
 struct Point {
     accepted: BTreeSet<Record>,
+    minute: u32,
     verdict: Verdict,
     answer: Set,
+}
+
+impl Point {
+    /// What was accepted so far and holds at the minute.
+    fn holding(&self) -> BTreeSet<Record> {
+        let holds = |record: &&Record| record.validity.first <= self.minute && self.minute < record.validity.end;
+        self.accepted.iter().filter(holds).copied().collect()
+    }
 }
 
 /// What a check has looked at.
@@ -213,10 +229,12 @@ pub struct Seen {
     pub worlds: u64,
     /// Rows that are in some of a point's worlds and not in others: there the bounds say something.
     pub undecided_rows: u64,
+    /// Certificates that were accepted before a point and do not hold at its minute.
+    pub not_holding: u64,
 }
 
-/// A random policy and query at several points of a random list of filings. An external policy is rewritten by the engine, and what it answers under the output
-/// is held against the policy as it was written.
+/// A random policy and query at one minute and several points of a random list of filings. An external policy is rewritten by the engine, and what it answers
+/// under the output is held against the policy as it was written.
 pub fn check(engine: &dyn Engine, generator: &mut Generator, seen: &mut Seen) -> Result<(), String> {
     let external = generator.random.chance(300);
     let (written, query) = if external { generator.external_pair() } else { generator.sound_pair() };
@@ -233,7 +251,9 @@ pub fn check(engine: &dyn Engine, generator: &mut Generator, seen: &mut Seen) ->
     let atoms = atoms(&judged, &universe);
     let show = |report| format!("{report}\n  policy {policy:?}\n  query {query:?}");
     for point in &points {
-        let worlds = consistent_worlds(&names, &universe, &point.accepted, &mut generator.random);
+        let holding = point.holding();
+        seen.not_holding += (point.accepted.len() - holding.len()) as u64;
+        let worlds = worlds_of_minute(&names, &universe, &holding, &mut generator.random);
         let belonging: Vec<Belonging> =
             worlds.iter().map(|world| Belonging { judged: &judged, world, atoms: &atoms, external, later: false }).collect();
         for row in rows_asked(&universe, &atoms, &points) {
@@ -256,10 +276,10 @@ fn bounded(point: &Point, row: &Row, belongs: &[bool]) -> Result<(), String> {
         Verdict::Upper => answered == belongs.iter().any(|&in_world| in_world),
         Verdict::Exact => belongs.iter().all(|&in_world| in_world == answered),
     };
-    let held = &point.accepted;
+    let Point { accepted, minute, verdict, answer } = point;
     let count = belongs.iter().filter(|&&in_world| in_world).count();
-    let report =
-        || format!("{:?} {:?}: row {:?} belongs in {count} of {} worlds; held {held:?}", point.verdict, point.answer, row.used(), belongs.len());
+    let worlds = || format!("row {:?} belongs in {count} of {} worlds of minute {minute}", row.used(), belongs.len());
+    let report = || format!("{verdict:?} {answer:?}: {}; held {accepted:?}", worlds());
     if right {
         Ok(())
     } else {
@@ -283,19 +303,21 @@ fn in_step(earlier: &Point, later: &Point) -> Result<(), String> {
     }
 }
 
-/// Files certificates through the engine, and asks at the first point, in between and at the last.
+/// Files certificates through the engine, and asks at the first point, in between and at the last, always at one minute.
 fn points(engine: &dyn Engine, generator: &mut Generator, names: &BTreeSet<Name>, policy: &[u32], query: &[u32]) -> Result<Vec<Point>, String> {
     let mut store = lay_out(&BTreeSet::new(), STORE_WORDS, &mut generator.random);
     let mut accepted = BTreeSet::new();
-    let mut points = vec![point(engine, policy, query, &store, &accepted)?];
+    let minute = generator.minute();
+    let mut points = vec![point(engine, policy, query, minute, &store, &accepted)?];
     for _ in 0..3 {
-        for _ in 0..generator.random.between(1, 4) {
+        for _ in 0..generator.random.between(1, 6) {
             let record = filed(generator, names);
             if engine.file(&mut store, &record) == 0 {
-                accepted.insert(Record::from_words(&record).ok_or_else(|| format!("{record:?} was accepted"))?);
+                let sound = Record::from_words(&record).filter(|record| record.validity.sound());
+                accepted.insert(sound.ok_or_else(|| format!("{record:?} was accepted"))?);
             }
         }
-        points.push(point(engine, policy, query, &store, &accepted)?);
+        points.push(point(engine, policy, query, minute, &store, &accepted)?);
     }
     Ok(points)
 }
@@ -319,25 +341,26 @@ fn filed(generator: &mut Generator, names: &BTreeSet<Name>) -> Vec<u32> {
     }
     let words = record.words();
     match generator.random.below(10) {
-        0 => words[..7].to_vec(),
-        1 => [5, 1, 0, 1, 5, 0, 0, 0].to_vec(), // a number as key
+        0 => words[..8].to_vec(),
+        1 => [5, 1, 0, 1, 5, 0, 0, 0, 0, 20].to_vec(), // a number as key
+        2 => [&words[..9], &words[8..9]].concat(),     // it ends at its first minute
         _ => words.to_vec(),
     }
 }
 
-fn point(engine: &dyn Engine, policy: &[u32], query: &[u32], store: &[u32], accepted: &BTreeSet<Record>) -> Result<Point, String> {
+fn point(engine: &dyn Engine, policy: &[u32], query: &[u32], minute: u32, store: &[u32], accepted: &BTreeSet<Record>) -> Result<Point, String> {
     let Areas { answer, definitions, scratch } = Areas::LEAST;
     let (mut answer, mut definitions, mut scratch) = (vec![9; answer], vec![9; definitions], vec![9; scratch]);
     let lent = Lent { answer: &mut answer, definitions: &mut definitions, scratch: &mut scratch };
-    let reply = engine.query(policy, query, store, lent);
+    let reply = engine.query(policy, query, minute, store, lent);
     let verdict = match (reply.number, reply.verdict) {
         (0, 0) => Verdict::Exact,
         (0, 1) => Verdict::Lower,
         (0, 2) => Verdict::Upper,
-        _ => return Err(format!("no answer where no refusal applies: {reply:?}\n  policy {policy:?}\n  query {query:?}")),
+        _ => return Err(format!("no answer where no refusal applies: {reply:?}\n  policy {policy:?}\n  query {query:?}\n  minute {minute}")),
     };
     let answer = Set::from_words(&answer).ok_or("the answer is no sound set")?;
-    Ok(Point { accepted: accepted.clone(), verdict, answer })
+    Ok(Point { accepted: accepted.clone(), minute, verdict, answer })
 }
 
 /// The names that the expressions may ask a world for; a variable issuer may be any key.
@@ -410,7 +433,8 @@ mod tests {
             let (result, seen) = run(engine, 400);
             assert_eq!(result, Ok(()));
             println!("{seen:?}");
-            assert!(seen.points.iter().all(|&count| count > 100) && seen.undecided_rows > 1_000 && seen.rewritten > 50, "{seen:?}");
+            assert!(seen.points.iter().all(|&count| count > 100) && seen.undecided_rows > 1_000, "{seen:?}");
+            assert!(seen.rewritten > 50 && seen.not_holding > 1_000, "{seen:?}");
         }
     }
 
@@ -432,6 +456,17 @@ mod tests {
             Fault::OneListRewritten,
             Fault::OffsetsNotMoved,
             Fault::LengthsNotChanged,
+            Fault::EndHolds,
+            Fault::FirstDoesNotHold,
+            Fault::MinuteIgnored,
+            Fault::ExpiredRead,
+            Fault::NotYetHoldingRead,
+            Fault::LastMinuteHolds,
+            Fault::FirstRecordOfRowDecides,
+            Fault::LastRecordOfRowDecides,
+            Fault::VettedAtAnyMinute,
+            Fault::AbsentAtAnyMinute,
+            Fault::DefinitionsAtMinute0,
         ];
         for fault in meanings {
             let (result, _) = run(&Evaluator { fault: Some(fault) }, 8_000);
