@@ -13,7 +13,7 @@ use Rattle.rows.specs.Row.{IsRow, isKey}
 use Rattle.rows.specs.Name.{isName, isPolarity}
 use Rattle.rows.specs.Layout.{rowWords, fiveAt, soundRow}
 use Rattle.rows.proofs.Case.{and-true, true-and}
-use Rattle.rows.proofs.Lists.{all-drop, all-take}
+use Rattle.rows.proofs.Lists.{all-drop, all-take, no-elements}
 use Rattle.rows.proofs.LayoutLaws.{Sized, row-is, row-written}
 use Rattle.rows.proofs.Records.{SoundRecords, true-sound, sound-true}
 use Rattle.certificates.specs.Certificate.{recordWords, firstMinute, endMinute, soundCertificate, soundTerm, soundRecord, recordName, recordRow, recordTerm, certificateOf}
@@ -64,12 +64,8 @@ five-long w ten = length-take-le 5 (drop 3 w) (omega (arith, length-drop 3 w))
 
 last-two : (w : List ℕ) → length w ≡ recordWords → drop 8 w ≡ recordTerm w
 last-two w ten =
-    let ends : drop 10 w ≡ [] = none (drop 10 w) (omega (arith, length-drop 10 w)) in
+    let ends : drop 10 w ≡ [] = no-elements (drop 10 w) (omega (arith, length-drop 10 w)) in
     drop-cons w 8 0 (omega arith) ∙ ap (λ (l : List ℕ). getD w 8 0 ∷ l) (drop-cons w 9 0 (omega arith) ∙ ap (λ (l : List ℕ). getD w 9 0 ∷ l) ends)
-  where
-    none : (l : List ℕ) → length l ≡ 0 → l ≡ []
-    none [] e = refl
-    none (x ∷ l) e = absurd (omega arith)
 
 words-are : (w : List ℕ) → soundRecord w ≡ true → w ≡ recordName w ++ (rowWords (recordRow w) ++ recordTerm w)
 words-are w e =

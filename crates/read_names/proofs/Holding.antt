@@ -1,8 +1,8 @@
 -- The rows of the records that hold, record by record: which are listed, how the list grows, and that it is in order.
-use Prim.Native.Nat.{ℕ, zero, suc, _+_, _-_, _*_, _≤_, _<_}
+use Prim.Native.Nat.{ℕ, zero, suc, _+_, _-_, _≤_, _<_}
 use mathlib.Core.Path.{_≡_, refl, sym, _∙_, ap, subst}
-use mathlib.Core.Logic.{_⊎_, inl, inr, _↔_}
-use mathlib.Core.Bool.{Bool, true, false}
+use mathlib.Core.Logic.{_⊎_, inl, inr}
+use mathlib.Core.Bool.{true, false}
 use mathlib.Core.List.{List, [], _∷_, _++_, map, append-nil, map-append}
 use native.Mathlib.Omega.{arith}
 use lib.Dec.{ltb}
@@ -15,7 +15,7 @@ use Rattle.rows.specs.Layout.{pieces}
 use Rattle.rows.proofs.Case.{Case, isTrue, isFalse, split, never}
 use Rattle.rows.proofs.Order.{row-order}
 use Rattle.rows.proofs.Ordered.{Ascending, keep-append, insert-∈, join-ascending}
-use Rattle.rows.proofs.Place.{Between, gap-insert, insert-known, getD-∈}
+use Rattle.rows.proofs.Place.{gap-insert, getD-∈}
 use Rattle.rows.proofs.Joining.{join-longer, join-one-more, insert-shorter}
 use Rattle.rows.proofs.LayoutLaws.{length-pieces, piece-at}
 use Rattle.rows.proofs.Pieces.{pieces-take}
@@ -79,16 +79,20 @@ module _ (minute : ℕ) (rs : List ℕ) where
     step-keeps x (isTrue e) m = subst (λ (l : List Row). x ∈ l) (sym (rows-hold i e)) (insert-∈ rowBefore row-order (rowAt rs i) (rowsHeld minute rs i) x .1 (inr m))
     step-keeps x (isFalse e) m = subst (λ (l : List Row). x ∈ l) (sym (rows-skip i e)) m
 
-  -- no more rows than records
-  pub rows-few : (i : ℕ) → length (rowsHeld minute rs i) ≤ i
-  rows-few zero = omega (arith, ap length rows-none)
-  rows-few (suc i) = omega (arith, rows-few i, step-shorter i (split (holdsAt minute (recordIn rs i))))
-
   rows-longer : (n i : ℕ) → length (rowsHeld minute rs i) ≤ length (rowsHeld minute rs (i + n))
   rows-longer zero i = let e : i ≡ i + 0 = omega arith in omega (arith, ap (λ (k : ℕ). length (rowsHeld minute rs k)) e)
   rows-longer (suc n) i =
       let e : i + suc n ≡ suc (i + n) = omega arith in
       omega (arith, rows-longer n i, step-longer (i + n) (split (holdsAt minute (recordIn rs (i + n)))), ap (λ (k : ℕ). length (rowsHeld minute rs k)) e)
+
+  rows-shorter : (n i : ℕ) → length (rowsHeld minute rs (i + n)) ≤ length (rowsHeld minute rs i) + n
+  rows-shorter zero i = let e : i + 0 ≡ i = omega arith in omega (arith, ap (λ (k : ℕ). length (rowsHeld minute rs k)) e)
+  rows-shorter (suc n) i =
+      let e : i + suc n ≡ suc (i + n) = omega arith in
+      omega (arith, rows-shorter n i, step-shorter (i + n) (split (holdsAt minute (recordIn rs (i + n)))), ap (λ (k : ℕ). length (rowsHeld minute rs k)) e)
+
+  pub rows-most : (i j : ℕ) → i ≤ j → length (rowsHeld minute rs j) ≤ length (rowsHeld minute rs i) + (j - i)
+  rows-most i j h = let e : i + (j - i) ≡ j = omega arith in omega (arith, rows-shorter (j - i) i, ap (λ (k : ℕ). length (rowsHeld minute rs k)) e)
 
   pub rows-more : (i j : ℕ) → i ≤ j → length (rowsHeld minute rs i) ≤ length (rowsHeld minute rs j)
   rows-more i j h = let e : i + (j - i) ≡ j = omega arith in omega (arith, rows-longer (j - i) i, ap (λ (k : ℕ). length (rowsHeld minute rs k)) e)
@@ -121,25 +125,6 @@ module _ (minute : ℕ) (rs : List ℕ) where
     | inl q ↦ (i, omega arith, q .0)
     | inr q ↦ let f = rows-from i x q in let h = f .1 in (f .0, omega arith, f .2)
   ]
-
-  -- records that do not hold, or whose row is listed, change nothing
-  stays : (n i : ℕ) → ((l : ℕ) → i ≤ l → l < i + n → (rowAt rs l ∈ rowsHeld minute rs i) ⊎ (holdsAt minute (recordIn rs l) ≡ false)) → rowsHeld minute rs (i + n) ≡ rowsHeld minute rs i
-  stays zero i each = let e : i + 0 ≡ i = omega arith in ap (rowsHeld minute rs) e
-  stays (suc n) i each =
-      let e : i + suc n ≡ suc (i + n) = omega arith in
-      let ih = stays n i (λ l h k. each l h (omega arith)) in
-      ap (rowsHeld minute rs) e ∙ go ih (each (i + n) (omega arith) (omega arith)) (split (holdsAt minute (recordIn rs (i + n)))) ∙ ih
-    where
-      go : rowsHeld minute rs (i + n) ≡ rowsHeld minute rs i → (rowAt rs (i + n) ∈ rowsHeld minute rs i) ⊎ (holdsAt minute (recordIn rs (i + n)) ≡ false) →
-          Case (holdsAt minute (recordIn rs (i + n))) → rowsHeld minute rs (suc (i + n)) ≡ rowsHeld minute rs (i + n)
-      go ih t (isFalse f) = rows-skip (i + n) f
-      go ih (inr t) (isTrue f) = never f t
-      go ih (inl t) (isTrue f) =
-          rows-hold (i + n) f
-          ∙ insert-known rowBefore row-order [] (rowsHeld minute rs (i + n)) (rowAt rs (i + n)) (rows-ascend (i + n)) (subst (λ (l : List Row). rowAt rs (i + n) ∈ l) (sym ih) t)
-
-  pub rows-stay : (i r : ℕ) → i ≤ r → ((l : ℕ) → i ≤ l → l < r → (rowAt rs l ∈ rowsHeld minute rs i) ⊎ (holdsAt minute (recordIn rs l) ≡ false)) → rowsHeld minute rs r ≡ rowsHeld minute rs i
-  rows-stay i r h each = let e : i + (r - i) ≡ r = omega arith in ap (rowsHeld minute rs) (sym e) ∙ stays (r - i) i (λ l k m. each l k (omega arith))
 
   -- a record that holds, whose row comes after all that are listed
   pub rows-last : (i : ℕ) → holdsAt minute (recordIn rs i) ≡ true → ((x : Row) → x ∈ rowsHeld minute rs i → rowBefore x (rowAt rs i) ≡ true) →

@@ -1,11 +1,11 @@
 -- A name's records, as they stand one after the other in its part of the store, and the rows of those that hold at a minute: what the code asks and finds.
-use Prim.Native.Nat.{ℕ, _*_, _≤_, _<_}
+use Prim.Native.Nat.{ℕ, _+_, _*_, _≤_, _<_}
 use mathlib.Core.Path.{_≡_}
-use mathlib.Core.Logic.{_⊎_, _↔_}
+use mathlib.Core.Logic.{_↔_}
 use mathlib.Core.Bool.{Bool, true, false}
 use mathlib.Core.List.{List, [], map}
 use lib.ListN.{length}
-use Rattle.rows.specs.Ordered.{keep, lists, join}
+use Rattle.rows.specs.Ordered.{_∈_, keep, lists, join}
 use Rattle.rows.specs.Row.{Row, rowBefore}
 use Rattle.rows.specs.Layout.{pieces}
 use Rattle.certificates.specs.Certificate.{recordWords, recordRow, soundRecord, holdsAt}
@@ -30,6 +30,19 @@ rowsHeld minute rs count = join rowBefore (map (λ w. recordRow w) (keep (holdsA
 pub record SameRow (rs : List ℕ) (i j : ℕ) (r : Bool) : Type 0 where
   pub means : (r ≡ true) ↔ (rowAt rs j ≡ rowAt rs i)
 
+-- the records before record i have so many rows that hold; if there are any, the last of them is record `last`'s
+pub record ListedSoFar (rs : List ℕ) (minute listed last i : ℕ) : Type 0 where
+  pub many : listed ≡ length (rowsHeld minute rs i)
+  pub earlier : 0 < listed → last < i
+  pub there : 0 < listed → rowAt rs last ∈ rowsHeld minute rs i
+  pub greatest : 0 < listed → (x : Row) → x ∈ rowsHeld minute rs i → rowBefore (rowAt rs last) x ≡ false
+
+-- whether record i brings a row that is not listed yet; it then comes behind those that are
+pub record SayNew (rs : List ℕ) (minute i : ℕ) (r : Bool) : Type 0 where
+  pub holds : r ≡ true → holdsAt minute (recordIn rs i) ≡ true
+  pub above : r ≡ true → (x : Row) → x ∈ rowsHeld minute rs i → rowBefore x (rowAt rs i) ≡ true
+  pub stays : r ≡ false → rowsHeld minute rs (i + 1) ≡ rowsHeld minute rs i
+
 -- the first from i on that holds, if there is one before the end
 pub record NextHeld (rs : List ℕ) (end minute i r : ℕ) : Type 0 where
   pub from : i ≤ r
@@ -44,18 +57,17 @@ pub record PastRow (rs : List ℕ) (count i r : ℕ) : Type 0 where
   pub alike : (l : ℕ) → i ≤ l → l < r → rowAt rs l ≡ rowAt rs i
   pub later : (l : ℕ) → r ≤ l → l < count → rowBefore (rowAt rs i) (rowAt rs l) ≡ true
 
--- the next record that holds and has another row than record i
-pub record NextRow (rs : List ℕ) (count minute i r : ℕ) : Type 0 where
-  pub more : i < r
-  pub few : r ≤ count
-  pub between : (l : ℕ) → i < l → l < r → (rowAt rs l ≡ rowAt rs i) ⊎ (holdsAt minute (recordIn rs l) ≡ false)
-  pub here : r < count → (holdsAt minute (recordIn rs r) ≡ true) × (rowBefore (rowAt rs i) (rowAt rs r) ≡ true)
+-- the first of those with the row of record i: all before have earlier rows
+pub record RowStart (rs : List ℕ) (i r : ℕ) : Type 0 where
+  pub few : r ≤ i
+  pub alike : (l : ℕ) → r ≤ l → l ≤ i → rowAt rs l ≡ rowAt rs i
+  pub earlier : (l : ℕ) → l < r → rowBefore (rowAt rs l) (rowAt rs i) ≡ true
 
--- how many rows come before this one
-pub record SayPlace (rs : List ℕ) (count : ℕ) (x : Row) (r : ℕ) : Type 0 where
+-- a record of this row, if there is one
+pub record SayRecord (rs : List ℕ) (count : ℕ) (x : Row) (r : ℕ) : Type 0 where
   pub few : r ≤ count
-  pub before : (l : ℕ) → l < r → rowBefore (rowAt rs l) x ≡ true
-  pub behind : (l : ℕ) → r ≤ l → l < count → rowBefore (rowAt rs l) x ≡ false
+  pub here : r < count → rowAt rs r ≡ x
+  pub none : r ≡ count → (l : ℕ) → l < count → rowAt rs l ≡ x → ⊥
 
 -- whether the row is among those that hold
 pub record SayFound (rs : List ℕ) (count minute : ℕ) (x : Row) (r : Bool) : Type 0 where

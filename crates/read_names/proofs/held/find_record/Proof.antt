@@ -1,12 +1,12 @@
--- The invariant: rows below `low` come before the row, those from `high` on do not.
+-- The invariant: rows below `low` come before the row, those from `high` on behind it.
 use borrow.Author.Needs.{needs}
 use Prim.Native.Nat.{ℕ, _+_, _*_, _-_, _/_, _≤_, _<_}
 use native.Mathlib.Omega.{arith}
 use lib.ListN.{length}
 use Rattle.row_words.specs.Values.{rowIs}
 use Rattle.read_names.proofs.Walking.{Halving, halving-all, halve-before, halve-same, halve-after, halved, row-narrow, row-inside}
-use Rattle.read_names.proofs.held.place_of.Statement.{statement}
-use Rattle.read_names.proofs.held.place_of.Tie as tie
+use Rattle.read_names.proofs.held.find_record.Statement.{statement}
+use Rattle.read_names.proofs.held.find_record.Tie as tie
 
 abbrev Inv-loop : tie.InvT-loop
 Inv-loop records count row low₀ high₀ low high = Halving records count (rowIs row) low high
@@ -43,20 +43,20 @@ loop-again c =
     let m = in-middle d in
     halve-before (entry d .pre .0) (d .before .loop .inv) (m .low) (m .high) (c .before .before .compare .ensures) (c .enum-told .given .1)
 
-loop-again-2 : tie.Need-loop-again-2 Inv-loop μ-loop
-loop-again-2 c =
+returns : tie.Need-returns Inv-loop μ-loop
+returns c =
     let d = c .before .before .before in
     let m = in-middle d in
     halve-same (entry d .pre .0) (d .before .loop .inv) (m .low) (m .high) (c .before .before .compare .ensures) (c .enum-told2 .given .1)
 
-loop-again-3 : tie.Need-loop-again-3 Inv-loop μ-loop
-loop-again-3 c =
+loop-again-2 : tie.Need-loop-again-2 Inv-loop μ-loop
+loop-again-2 c =
     let d = c .before .before .before in
     let m = in-middle d in
     halve-after (entry d .pre .0) (d .before .loop .inv) (m .low) (m .high) (c .before .before .compare .ensures) (c .enum-told3 .given .1)
 
-pub place-of-spec : {M : Type 1} → statement M
-place-of-spec =
+pub find-record-spec : {M : Type 1} → statement M
+find-record-spec =
     tie.close
     (tie.spec
     Inv-loop
@@ -71,10 +71,9 @@ place-of-spec =
     (λ c. search needs)
     loop-again
     (λ c. search needs)
-    (λ c. search needs)
-    loop-again-2
+    returns
     (λ c. search needs)
     (λ c. let m = in-middle (c .before .before .before) in omega arith)
     (λ c. search needs)
-    loop-again-3
+    loop-again-2
     (λ c. halved (c .before .before .before .pre .0) (c .before .loop .inv) (c .loop-test .left)))
