@@ -34,11 +34,11 @@ openDraw = 7
 abbrev pub badStore : ℕ
 badStore = 8
 
--- 9: certificate not eight words or unsound
+-- 9: certificate not ten words (document 02, N4) or unsound
 abbrev pub badCertificate : ℕ
 badCertificate = 9
 
--- 10: 2,000 held and this one is new
+-- 10: 1,600 held (document 02, N4) and this one is new
 abbrev pub storeFull : ℕ
 storeFull = 10
 
