@@ -1,8 +1,11 @@
 pub mod RecordOrder
+pub mod Filings
 pub mod Sound
+pub mod Links
+pub mod LinkFiling
 pub mod Terms
 pub mod Saying
+pub mod Both
 pub mod StoreOrder
-pub mod Filings
 pub mod NameParts
 pub mod NameRows

@@ -15,6 +15,7 @@ use Rattle.rows.proofs.Lists.{all-in, all-of}
 use Rattle.rows.proofs.Ordered.{same-iff}
 use Rattle.rows.proofs.Leading.{leading-more, ascending-pass-first, keep-between}
 use Rattle.rows.proofs.Records.{count-few, records-between}
+use Rattle.rows.proofs.Fronts.{begin-first}
 use Rattle.certificates.specs.Certificate.{recordWords, recordName, soundRecord, recordBefore}
 use Rattle.certificates.specs.Store.{capacity, records, soundStore}
 use Rattle.certificates.specs.NamePart.{ofName, namePart, nameStart}
@@ -66,16 +67,6 @@ module _ (key name polarity : ℕ) where
   earlier-not-later : (w : List ℕ) → earlier w ≡ true → notLater w ≡ true
   earlier-not-later w e = ap not (not-both words-order (recordName w) nameGiven e)
 
-  earlier-first : (v w : List ℕ) → recordBefore v w ≡ true → earlier w ≡ true → earlier v ≡ true
-  earlier-first v w b e = least-then-less words-order (recordName v) (recordName w) nameGiven (names-ascend v w b) e
-
-  not-later-first : (v w : List ℕ) → recordBefore v w ≡ true → notLater w ≡ true → notLater v ≡ true
-  not-later-first v w b e = go (split (wordsBefore nameGiven (recordName v)))
-    where
-      go : Case (wordsBefore nameGiven (recordName v)) → notLater v ≡ true
-      go (isTrue p) = never e (ap not (less-then-least words-order nameGiven (recordName v) (recordName w) p (names-ascend v w b)))
-      go (isFalse p) = ap not p
-
   -- the counts that the code finds
   abbrev pub Counted : Bool → List ℕ → ℕ → Type 0
   Counted also store n = n ≡ leading (beginsBefore also nameGiven) (records store)
@@ -99,9 +90,7 @@ module _ (key name polarity : ℕ) where
 
     module _ (sound : soundStore store ≡ true) where
       pub begins-first : (also : Bool) → PassFirst (beginsBefore also nameGiven) (records store)
-      unfolding beginsBefore
-      begins-first false = ascending-pass-first earlier record-order earlier-first (records store) (sound-store store sound .order)
-      begins-first true = ascending-pass-first notLater record-order not-later-first (records store) (sound-store store sound .order)
+      begins-first also = begin-first nameGiven record-order names-ascend also (records store) (sound-store store sound .order)
 
       -- every count lies within the store
       pub count-room : (also : Bool) (n : ℕ) → Counted also store n → (n ≤ capacity) × (1 + recordWords * n ≤ length store)

@@ -19,7 +19,8 @@ use Rattle.certificates.specs.Store.{records, soundStore}
 use Rattle.certificates.specs.NamePart.{ofName, namePart}
 use Rattle.certificates.specs.Steps.{recordIn}
 use Rattle.certificates.proofs.RecordOrder.{record-order, rows-climb}
-use Rattle.certificates.proofs.Sound.{sound-sized, sound-store}
+use Rattle.certificates.proofs.Filings.{sound-sized}
+use Rattle.certificates.proofs.Sound.{certificate-laws, sound-store}
 use Rattle.certificates.proofs.NameParts.{nameGiven, name-is}
 
 module _ (key name polarity : ℕ) where
@@ -40,7 +41,7 @@ module _ (key name polarity : ℕ) where
     part-flat = rw (sound, namePart)
 
     sized : All (Sized recordWords) (keep (ofName key name polarity) (records store))
-    sized = sound-sized _ (all-of _ _ (λ w i. all-in OfName _ of-name w i .sound))
+    sized = sound-sized certificate-laws _ (all-of _ _ (λ w i. all-in OfName _ of-name w i .sound))
 
     pub name-length : length (namePart store key name polarity) ≡ recordWords * length (keep (ofName key name polarity) (records store))
     name-length = rw part-flat (flat-length recordWords (keep (ofName key name polarity) (records store)) sized)

@@ -1,6 +1,6 @@
 -- What soundness says of a record and of a store.
-use Prim.Native.Nat.{ℕ, suc, _<_}
-use mathlib.Core.Path.{_≡_, refl, sym, _∙_, ap}
+use Prim.Native.Nat.{ℕ, _<_}
+use mathlib.Core.Path.{_≡_, _∙_, ap}
 use mathlib.Core.Bool.{true}
 use mathlib.Core.List.{List, [], _∷_, _++_}
 use native.Mathlib.Omega.{arith}
@@ -8,16 +8,17 @@ use lib.Dec.{eqb}
 use lib.ListN.{length, getD, take, drop, length-drop, take-append-drop}
 use lib.Seq.{drop-cons, drop-drop, length-take-le}
 use borrow.Author.Tests.{eqb-true, eq-eqb, ltb-true, lt-ltb}
-use Rattle.rows.specs.Word.{All, IsWord, Words}
+use Rattle.rows.specs.Word.{IsWord, Words}
 use Rattle.rows.specs.Row.{IsRow, isKey}
 use Rattle.rows.specs.Name.{isName, isPolarity}
 use Rattle.rows.specs.Layout.{rowWords, fiveAt, soundRow}
 use Rattle.rows.proofs.Case.{and-true, true-and}
 use Rattle.rows.proofs.Lists.{all-drop, all-take, no-elements}
-use Rattle.rows.proofs.LayoutLaws.{Sized, row-is, row-written}
-use Rattle.rows.proofs.Records.{SoundRecords, true-sound, sound-true}
+use Rattle.rows.proofs.LayoutLaws.{row-is, row-written}
+use Rattle.rows.proofs.Records.{SoundRecords}
 use Rattle.certificates.specs.Certificate.{recordWords, firstMinute, endMinute, soundCertificate, soundTerm, soundRecord, recordName, recordRow, recordTerm, certificateOf}
-use Rattle.certificates.specs.Store.{capacity, soundStore}
+use Rattle.certificates.specs.Store.{capacity, soundStore, certificateKind}
+use Rattle.certificates.proofs.Filings.{Lawful, sound-in}
 use Rattle.certificates.proofs.RecordOrder.{record-order}
 
 -- a record, test by test
@@ -87,19 +88,11 @@ about-row w e p =
     let s = sound-record w e in
     row-is (fiveAt w 3) (five-long w (s .ten)) (s .row) (all-take IsWord 5 (drop 3 w) (all-drop IsWord 3 w p))
 
-abbrev pub AllSound : List (List ℕ) → Type 0
-AllSound = All (λ w. soundRecord w ≡ true)
-
-pub sound-sized : (rs : List (List ℕ)) → AllSound rs → All (Sized recordWords) rs
-unfolding All
-sound-sized [] a = tt
-sound-sized (r ∷ rs) a = (sound-record r (a .0) .ten, sound-sized rs (a .1))
+-- certificates are a kind
+abbrev pub certificate-laws : Lawful certificateKind
+certificate-laws = record { order = record-order; sized = λ w e. sound-record w e .ten }
 
 -- a sound store, test by test
 pub sound-store : (store : List ℕ) → soundStore store ≡ true → SoundRecords recordWords capacity soundRecord record-order store
 unfolding soundStore
-sound-store store e = true-sound recordWords capacity soundRecord record-order store e
-
-pub store-sound : (store : List ℕ) → SoundRecords recordWords capacity soundRecord record-order store → soundStore store ≡ true
-unfolding soundStore
-store-sound store s = sound-true recordWords capacity soundRecord record-order store s
+sound-store store e = sound-in certificate-laws store e

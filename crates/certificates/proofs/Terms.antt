@@ -1,21 +1,20 @@
 -- When a certificate holds, by the two tests of its term.
 use Prim.Native.Nat.{ℕ, zero, suc, _+_, _*_, _≤_, _<_}
 use mathlib.Core.Path.{_≡_, refl}
-use mathlib.Core.Logic.{_↔_}
 use mathlib.Core.Bool.{true, false}
 use mathlib.Core.List.{List, [], _∷_}
 use native.Mathlib.Omega.{arith}
 use lib.Dec.{T, leb, ltb}
 use lib.ListN.{getD}
-use borrow.Author.Tests.{leb-true, ltb-true, ltb-false, le-leb, lt-ltb, le-ltb}
+use borrow.Author.Tests.{leb-true, ltb-true, ltb-false, le-leb, lt-ltb}
 use Rattle.refusals.specs.RefusalTable.{badCertificate, badTerm}
 use Rattle.rows.specs.Word.{All, Words}
 use Rattle.rows.specs.Ordered.{lists, tied, firstBy, wordsBefore}
 use Rattle.rows.specs.Row.{rowBefore}
-use Rattle.rows.specs.Layout.{rowIn, soundRow}
+use Rattle.rows.specs.Layout.{rowIn, rowWords, soundRow}
 use Rattle.rows.proofs.Case.{Case, isTrue, isFalse, split, T-true, true-T, and-true, true-and}
 use Rattle.certificates.specs.Certificate.{recordWords, firstMinute, endMinute, soundCertificate, soundTerm, soundRecord, recordBefore, holdsAt}
-use Rattle.certificates.specs.Store.{capacity}
+use Rattle.certificates.specs.Store.{capacity, certificateKind, certificateRefusal}
 use Rattle.certificates.specs.Filing.{filed, held, refused, replyGiven}
 use Rattle.certificates.specs.Terms.{row7, semester, bothBad, Theorem}
 use Rattle.certificates.proofs.Sound.{sound-parts}
@@ -47,43 +46,43 @@ small (x ∷ w) (suc i) a = small w i (a .1)
 -- ---- by computation, each for itself
 
 not-yet : holdsAt 9 semester ≡ false
-unfolding holdsAt
+unfolding holdsAt rowWords
 not-yet = refl
 
 begins : holdsAt 10 semester ≡ true
-unfolding holdsAt
+unfolding holdsAt rowWords
 begins = refl
 
 lasts : holdsAt 19 semester ≡ true
-unfolding holdsAt
+unfolding holdsAt rowWords
 lasts = refl
 
 ended : holdsAt 20 semester ≡ false
-unfolding holdsAt
+unfolding holdsAt rowWords
 ended = refl
 
-nine : replyGiven [] bothBad ≡ refused badCertificate
-unfolding replyGiven soundCertificate soundTerm soundRow lists tied recordBefore firstBy wordsBefore rowBefore rowIn
+nine : replyGiven certificateKind [] bothBad ≡ refused badCertificate
+unfolding replyGiven certificateRefusal soundRecord soundCertificate soundTerm soundRow lists tied recordBefore firstBy wordsBefore rowBefore rowIn rowWords
 nine = refl
 
-seventeen : replyGiven [] (row7 10 10) ≡ refused badTerm
-unfolding replyGiven soundCertificate soundTerm soundRow lists tied recordBefore firstBy wordsBefore rowBefore rowIn
+seventeen : replyGiven certificateKind [] (row7 10 10) ≡ refused badTerm
+unfolding replyGiven certificateRefusal soundRecord soundCertificate soundTerm soundRow lists tied recordBefore firstBy wordsBefore rowBefore rowIn rowWords
 seventeen = refl
 
-not-held : replyGiven (row7 10 10 ∷ []) (row7 10 10) ≡ refused badTerm
-unfolding replyGiven soundCertificate soundTerm soundRow lists tied recordBefore firstBy wordsBefore rowBefore rowIn
+not-held : replyGiven certificateKind (row7 10 10 ∷ []) (row7 10 10) ≡ refused badTerm
+unfolding replyGiven certificateRefusal soundRecord soundCertificate soundTerm soundRow lists tied recordBefore firstBy wordsBefore rowBefore rowIn rowWords
 not-held = refl
 
-again : replyGiven (semester ∷ []) (row7 20 30) ≡ filed
-unfolding replyGiven soundCertificate soundTerm soundRow lists tied recordBefore firstBy wordsBefore rowBefore rowIn
+again : replyGiven certificateKind (semester ∷ []) (row7 20 30) ≡ filed
+unfolding replyGiven certificateRefusal soundRecord soundCertificate soundTerm soundRow lists tied recordBefore firstBy wordsBefore rowBefore rowIn rowWords
 again = refl
 
-same : replyGiven (semester ∷ []) semester ≡ held
-unfolding replyGiven soundCertificate soundTerm soundRow lists tied recordBefore firstBy wordsBefore rowBefore rowIn
+same : replyGiven certificateKind (semester ∷ []) semester ≡ held
+unfolding replyGiven certificateRefusal soundRecord soundCertificate soundTerm soundRow lists tied recordBefore firstBy wordsBefore rowBefore rowIn rowWords
 same = refl
 
 unsound : soundRecord (row7 10 10) ≡ false
-unfolding soundRecord soundCertificate soundTerm soundRow
+unfolding soundRecord soundCertificate soundTerm soundRow rowWords
 unsound = refl
 
 room : 1 + recordWords * capacity ≡ 16001

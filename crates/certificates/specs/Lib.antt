@@ -1,7 +1,10 @@
 pub mod Certificate
 pub mod StoreOrder
-pub mod Store
 pub mod Filing
+pub mod Store
+pub mod Link
+pub mod LinkFiling
+pub mod Stores
 pub mod Terms
 pub mod Steps
 pub mod NamePart

@@ -9,12 +9,13 @@ use Rattle.refusals.specs.RefusalTable.{badCertificate, badTerm}
 use Rattle.rows.specs.Word.{Words}
 use Rattle.rows.specs.Row.{firstKey}
 use Rattle.certificates.specs.Certificate.{recordWords, firstMinute, endMinute, soundTerm, soundRecord, holdsAt}
-use Rattle.certificates.specs.Store.{capacity}
+use Rattle.certificates.specs.StoreOrder.{inList}
+use Rattle.certificates.specs.Store.{capacity, certificateKind}
 use Rattle.certificates.specs.Filing.{filed, held, refused, replyGiven}
 
 -- row 7 in the first key's list 1 +, with a term
 abbrev pub row7 : ℕ → ℕ → List ℕ
-row7 first end = firstKey ∷ 1 ∷ 0 ∷ 1 ∷ 7 ∷ 0 ∷ 0 ∷ 0 ∷ first ∷ end ∷ []
+row7 first end = inList first end (7 ∷ [])
 
 abbrev pub semester : List ℕ
 semester = row7 10 20
@@ -37,12 +38,12 @@ pub record Theorem : Type 0 where
   pub lasts : holdsAt 19 semester ≡ true
   pub ended : holdsAt 20 semester ≡ false
   -- "17, an end not after its first minute, when filing, right after 9": before Held too
-  pub nine : replyGiven [] bothBad ≡ refused badCertificate
-  pub seventeen : replyGiven [] (row7 10 10) ≡ refused badTerm
-  pub notHeld : replyGiven (row7 10 10 ∷ []) (row7 10 10) ≡ refused badTerm
+  pub nine : replyGiven certificateKind [] bothBad ≡ refused badCertificate
+  pub seventeen : replyGiven certificateKind [] (row7 10 10) ≡ refused badTerm
+  pub notHeld : replyGiven certificateKind (row7 10 10 ∷ []) (row7 10 10) ≡ refused badTerm
   -- a row may be certified for several terms
-  pub again : replyGiven (semester ∷ []) (row7 20 30) ≡ filed
-  pub same : replyGiven (semester ∷ []) semester ≡ held
+  pub again : replyGiven certificateKind (semester ∷ []) (row7 20 30) ≡ filed
+  pub same : replyGiven certificateKind (semester ∷ []) semester ≡ held
   -- "A held record whose end is not after its first minute makes the store unsound."
   pub unsound : soundRecord (row7 10 10) ≡ false
   -- "A store is at least 16,001 words"

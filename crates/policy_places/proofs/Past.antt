@@ -7,6 +7,7 @@ use mathlib.Core.List.{List, [], _∷_, _++_}
 use native.Mathlib.Omega.{arith}
 use lib.ListN.{length, getD, length-append}
 use Rattle.rows.specs.Word.{All}
+use Rattle.rows.proofs.Lists.{no-elements}
 use Rattle.policy.specs.Syntax.{Term, Slot, Expr, union, difference, Body, head, draw, same, different, absent}
 use Rattle.policy.specs.Words.{termWords, each, termRowWords, slotWords, fresh, guardCount, exprWords, bodyWords}
 use Rattle.policy.specs.WellFormed.{FitRow}
@@ -60,11 +61,7 @@ rows-next {ws} {at} {left} {n} {rs} z s = go rs s
     }
 
 pub rows-none : {ws : List ℕ} {at n : ℕ} {rs : List (List Term)} (left : ℕ) → left ≡ 0 → RowsLeft ws at left n rs → rs ≡ []
-rows-none {ws} {at} {n} {rs} left z s = go rs (s .many ∙ z)
-  where
-    go : (rs : List (List Term)) → length rs ≡ 0 → rs ≡ []
-    go [] h = refl
-    go (r ∷ rs) h = absurd (omega arith)
+rows-none {rs} left z s = no-elements rs (s .many ∙ z)
 
 -- i of the rows at `start` are passed: those left stand at `next`
 pub record Passing (ws : List ℕ) (start count next i : ℕ) : Type 0 where

@@ -10,6 +10,7 @@ use lib.Seq.{drop-cons, drop-drop, length-take-le}
 use borrow.Author.Tests.{eqb-true, ne-eqb}
 use Rattle.rows.specs.Name.{plus, minus, polarityOf}
 use Rattle.rows.proofs.Case.{and-true}
+use Rattle.rows.proofs.Lists.{no-elements}
 use Rattle.policy.specs.Syntax.{Expr}
 use Rattle.policy.specs.Words.{each, exprWords}
 use Rattle.policy.specs.Parse.{parsed, parse}
@@ -314,10 +315,6 @@ module _ (policy before : List ℕ) {keys : Bool} (k : SayKeys policy keys) (g :
 passed-same : {xs ys : List Entry} {es fs : List Expr} {ks ls : List Known} → passed xs es ks ≡ passed ys fs ls → (xs ≡ ys) × (es ≡ fs)
 passed-same {xs} {ys} {es} {fs} {ks} {ls} h = (cc, cc)
 
-no-entries : (xs : List Entry) → length xs ≡ 0 → xs ≡ []
-no-entries [] h = refl
-no-entries (x ∷ xs) h = absurd (omega arith)
-
 -- the next one of those that are left
 record Next (policy : List ℕ) (at due : ℕ) (earlier ys : List Entry) (fs : List Expr) (ks ls : List Known) : Type 0 where
   x : Entry
@@ -460,7 +457,7 @@ module _ {policy before : List ℕ} {keys : Bool} {i to : ℕ} {area : List ℕ}
   pub all-laid : {after : List ℕ} → getD policy 1 0 ≤ i → after ≡ laid 0 (take 2 (drop 0 policy)) area → SayWords policy before (Words to) after
   unfolding MeasuredAs rulesFrom outs parts each placed
   all-laid {after} done l =
-      let none : o .entries ≡ [] = no-entries (o .entries) (omega (arith, o .count)) in
+      let none : o .entries ≡ [] = no-elements (o .entries) (omega (arith, o .count)) in
       let external : isExternal (o .allEntries) (o .allExprs) ≡ true = o .rules ∙ ap (λ (ys : List Entry). rulesFrom keys i ys (o .exprs)) none in
       let whole = policyWords (getD policy 0 0) (o .allEntries) (outs keys (o .allEntries) (o .allExprs)) in
       let All = AllBut (take 2 (drop 0 policy)) whole before in

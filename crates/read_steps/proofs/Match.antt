@@ -12,6 +12,7 @@ use lib.Seq.{drop-cons}
 use borrow.Author.Tests.{eq-eqb, ne-eqb}
 use Rattle.rows.specs.Row.{Row}
 use Rattle.rows.specs.Layout.{rowIn, fiveAt}
+use Rattle.rows.proofs.Lists.{no-elements}
 use Rattle.row_words.proofs.RowLaws.{row-at-length, row-at-atom}
 use Rattle.policy.specs.Syntax.{Term, Slot, old, new}
 use Rattle.policy.specs.Words.{termWords, slotWords, fresh}
@@ -165,18 +166,10 @@ module _ {ws : List ℕ} {at n : ℕ} {vs : Values} {x : Row} {width scope : ℕ
       matching-fails e = iv .means none (λ q s. let y = old-next (omega arith) i s in old-match q y none false (ne-eqb _ _ e) refl)
 
 none-left : (x : Row) (j : ℕ) → length x ≤ j → drop j x ≡ []
-none-left x j h = short (drop j x) (omega (arith, length-drop j x))
-  where
-    short : (l : Row) → length l ≡ 0 → l ≡ []
-    short [] e = refl
-    short (y ∷ l) e = absurd (omega arith)
+none-left x j h = no-elements (drop j x) (omega (arith, length-drop j x))
 
 slots-none : {ws : List ℕ} {at n : ℕ} {p : List Slot} (left : ℕ) → left ≡ 0 → SlotsLeft ws at n left p → p ≡ []
-slots-none {ws} {at} {n} {p} left z s = go p (s .many ∙ z)
-  where
-    go : (p : List Slot) → length p ≡ 0 → p ≡ []
-    go [] e = refl
-    go (y ∷ p) e = absurd (omega arith)
+slots-none {p} left z s = no-elements p (s .many ∙ z)
 
 -- ---- the loop: the values lent are those of the first scope, and behind them those of the slots passed
 

@@ -70,6 +70,14 @@ badDate = 16
 abbrev pub badTerm : ℕ
 badTerm = 17
 
+-- 18 (document 02, N5): a malformed link or an unsound link store
+abbrev pub badLink : ℕ
+badLink = 18
+
+-- 19 (document 02, N5): 256 links held and this one is new
+abbrev pub linksFull : ℕ
+linksFull = 19
+
 -- With a refusal of a policy or a query comes its part: 0 to 15 a definition, 16 the query, 17 neither.
 abbrev pub queryPart : ℕ
 queryPart = 16

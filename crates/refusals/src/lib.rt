@@ -33,6 +33,10 @@ pub const BAD_DATE: u32 = 16;
 
 pub const BAD_TERM: u32 = 17;
 
+pub const BAD_LINK: u32 = 18;
+
+pub const LINKS_FULL: u32 = 19;
+
 // The parts that are no definition.
 pub const QUERY_PART: u32 = 16;
 

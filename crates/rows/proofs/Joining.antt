@@ -130,6 +130,13 @@ module _ {A : Type 0} (before : A → A → Bool) (laws : StrictTotal before) wh
   join-longer [] vs = omega arith
   join-longer (a ∷ us) vs = omega (arith, join-longer us vs, insert-longer a (join before us vs))
 
+  -- what is all among others is no longer than they
+  pub within-shorter : (us vs : List A) → Ascending before laws us → Ascending before laws vs → ((r : A) → r ∈ us → r ∈ vs) → length us ≤ length vs
+  within-shorter us vs a b h =
+      let same : join before vs us ≡ vs = ascending-unique before laws (join before vs us) vs (join-ascending before laws vs us a) b
+      (λ r. join-∈ before laws vs us r then (λ t. elim t [ inl i ↦ i | inr i ↦ h r i ], λ i. inl i)) in
+      omega (arith, join-longer vs us, ap length same)
+
   -- nor longer than the two together
   pub insert-shorter : (r : A) (xs : List A) → length (insert before r xs) ≤ suc (length xs)
   unfolding insert

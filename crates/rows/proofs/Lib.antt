@@ -11,4 +11,5 @@ pub mod Place
 pub mod Leading
 pub mod Pieces
 pub mod Records
+pub mod Fronts
 pub mod Joining

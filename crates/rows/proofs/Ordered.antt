@@ -1,10 +1,11 @@
 -- Lists in strictly ascending order: what the operations hold, that they keep the order, and that such a list is determined by its elements.
 -- One theory for rows, records and whatever else is kept in order: of the order only its laws are used.
-use Prim.Native.Nat.{suc}
+use Prim.Native.Nat.{suc, _≤_}
 use mathlib.Core.Path.{_≡_, refl, sym, _∙_, ap, subst}
 use mathlib.Core.Logic.{_⊎_, inl, inr, _↔_}
 use mathlib.Core.Bool.{Bool, true, false, not, _&&_}
 use mathlib.Core.List.{List, [], _∷_, _++_}
+use native.Mathlib.Omega.{arith}
 use lib.Dec.{T}
 use lib.ListN.{length}
 use Rattle.rows.specs.Word.{All}
@@ -57,6 +58,15 @@ module _ {A : Type 0} where
       go ih (isTrue a) (isFalse b) = ap (keep f) (drops g x xs b) ∙ ih ∙ sym (drops g x (keep f xs) b) ∙ ap (keep g) (sym (keeps f x xs a))
       go ih (isFalse a) (isTrue b) = ap (keep f) (keeps g x xs b) ∙ drops f x (keep g xs) a ∙ ih ∙ ap (keep g) (sym (drops f x xs a))
       go ih (isFalse a) (isFalse b) = ap (keep f) (drops g x xs b) ∙ ih ∙ ap (keep g) (sym (drops f x xs a))
+
+pub keep-length : {A : Type 0} (f : A → Bool) (xs : List A) → length (keep f xs) ≤ length xs
+unfolding keep
+keep-length f [] = omega arith
+keep-length f (x ∷ xs) = go (keep-length f xs) (split (f x))
+  where
+    go : length (keep f xs) ≤ length xs → Case (f x) → length (keep f (x ∷ xs)) ≤ length (x ∷ xs)
+    go ih (isTrue e) = rw (e, keep) (omega arith)
+    go ih (isFalse e) = rw (e, keep) (omega arith)
 
 module _ {A : Type 0} (before : A → A → Bool) (laws : StrictTotal before) where
   pub same-iff : (r x : A) → T (tied before r x) ↔ (r ≡ x)

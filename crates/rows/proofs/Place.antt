@@ -18,6 +18,13 @@ getD-∈ [] i d h = absurd (omega arith)
 getD-∈ (x ∷ xs) zero d h = inl refl
 getD-∈ (x ∷ xs) (suc i) d h = inr (getD-∈ xs i d (omega arith))
 
+-- what is in a list stands somewhere in it
+pub at-∈ : {A : Type 0} (xs : List A) (x d : A) → x ∈ xs → (i : ℕ) × (i < length xs) × (x ≡ getD xs i d)
+unfolding _∈_
+at-∈ [] x d m = absurd m
+at-∈ (y ∷ ys) x d (inl e) = (0, omega arith, e)
+at-∈ (y ∷ ys) x d (inr m) = let f = at-∈ ys x d m in let h = f .1 in (suc (f .0), omega arith, f .2)
+
 module _ {A : Type 0} (before : A → A → Bool) (laws : StrictTotal before) (d : A) where
   -- by their numbers
   pub ascending-at : (xs : List A) → Ascending before laws xs → (i j : ℕ) → i < j → j < length xs → before (getD xs i d) (getD xs j d) ≡ true

@@ -13,7 +13,7 @@ use Rattle.rows.specs.Layout.{rowWords, fiveAt, flat, laid, written, put, forme
 use Rattle.set_algebra.specs.Private.{roomAt, lefts, rights, Rooms, Passed, alike, picked}
 use Rattle.rows.proofs.Case.{Case, isTrue, isFalse, split}
 use Rattle.rows.proofs.Lists.{all-at, all-take}
-use Rattle.rows.proofs.Ordered.{keep-append}
+use Rattle.rows.proofs.Ordered.{keep-append, keep-length}
 use Rattle.rows.proofs.Sets.{keep-all}
 use Rattle.rows.proofs.Put.{part-after, put-then-after, put-none}
 use Rattle.rows.proofs.LayoutLaws.{row-length, formed-listing, formed-word}
@@ -22,15 +22,6 @@ use Rattle.sets.proofs.Laid.{Narrow, laid-length, laid-append, narrow-in, writt
 use Rattle.set_algebra.proofs.Walking.{Walk, walk-start, walk-on, room-kept, room-few, room-form, room-count, room-row}
 
 -- ---- what is kept
-
-keep-length : {A : Type 0} (f : A → Bool) (xs : List A) → length (keep f xs) ≤ length xs
-unfolding keep
-keep-length f [] = omega arith
-keep-length f (x ∷ xs) = go (keep-length f xs) (split (f x))
-  where
-    go : length (keep f xs) ≤ length xs → Case (f x) → length (keep f (x ∷ xs)) ≤ length (x ∷ xs)
-    go ih (isTrue e) = rw (e, keep) (omega arith)
-    go ih (isFalse e) = rw (e, keep) (omega arith)
 
 test : Bool → List Row → Row → Bool
 test b ys r = alike b (lists rowBefore ys r)

@@ -1,15 +1,19 @@
-// Certificates and the store that holds them: document 01, "Store and filing".
+// Certificates and the store that holds them: document 01, "Store and filing". Links have a store of their own, filed into alike.
+mod links;
+
 ghost use Prim.Native.Nat.{_-_, _≤_};
 ghost use mathlib.Core.Path.{_≡_};
 ghost use mathlib.Core.Bool.{true};
 ghost use lib.ListN.{length, take, drop};
-ghost use Rattle.certificates.specs.Store.{soundStore};
+ghost use Rattle.certificates.specs.Store.{soundStore, certificateKind};
 ghost use Rattle.store.specs.Reply.{filingIs};
 ghost use Rattle.certificates.specs.Filing.{fileReply, storeAfter};
 ghost use Rattle.certificates.specs.NamePart.{namePart};
 ghost use Rattle.certificates.specs.Spans.{Spans};
+pub use crate::links::file_link;
 use certificates::CAPACITY;
 use certificates::RECORD_WORDS;
+pub use link_records::sound_links;
 use records::count_before;
 use records::insert;
 use store_records::is_held;
@@ -26,8 +30,8 @@ pub enum Filing {
 
 // Files a certificate: 8 for the store, 9 for the certificate, 17 for its term, Held, 10, and otherwise it is put in its place.
 pub fn file(store: &mut [u32], certificate: &[u32]) -> Filing
-    ensures { λ r. ⌜ filingIs r ≡ fileReply (now (store .entry)) (now (certificate .entry)) ⌝ }
-    ensures { λ _. ⌜ now (store .exit) ≡ storeAfter (now (store .entry)) (now (certificate .entry)) ⌝ }
+    ensures { λ r. ⌜ filingIs r ≡ fileReply certificateKind (now (store .entry)) (now (certificate .entry)) ⌝ }
+    ensures { λ _. ⌜ now (store .exit) ≡ storeAfter certificateKind (now (store .entry)) (now (certificate .entry)) ⌝ }
 {
     if !sound_store(store) {
         return Filing::Refused(refusals::BAD_STORE);
