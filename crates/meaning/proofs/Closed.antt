@@ -14,22 +14,22 @@ use Rattle.rows.specs.Row.{Row, isKey, rowBefore}
 use Rattle.rows.specs.Name.{plus}
 use Rattle.rows.specs.Sets.{RowSet, only, allBut, mostRows, has, unite, subtract}
 use Rattle.rows.proofs.Case.{T-left, T-right}
-use Rattle.certificates.specs.Certificate.{Certificate}
+use Rattle.certificates.specs.Stores.{Held}
 use Rattle.policy.specs.Syntax.{Slot, Expr, leaf, union, difference, comprehension, Body, head, draw, same, different, absent}
 use Rattle.policy.specs.Polarity.{Known, openExpr, drawsClosed, guardsClosed}
 use Rattle.meaning.specs.Values.{Values, value, rowOf}
-use Rattle.meaning.specs.Evidence.{Evidence, certified, namesHeld}
+use Rattle.meaning.specs.Evidence.{Evidence, joined, namesHeld}
 use Rattle.meaning.specs.Reading.{Result, done, refused, Reading, after, within, drawable, tick, match, onMatch, drawEach, read, gather}
 use Rattle.meaning.specs.Closed.{IsFinite, FiniteNames, FiniteSets, Not12, ReadFinite, Never12, Theorem}
 use Rattle.meaning.proofs.Steps.{done-value, refused-number, not-refused, after-done, after-refused, small-done}
 use Rattle.meaning.proofs.Claims.{give-not, refuse-not, either-not, small-not}
 use Rattle.meaning.proofs.Leaf.{leaf-finite, leaf-not-12}
 
-pub held-finite : (cs : List Certificate) → FiniteNames (namesHeld cs)
+pub held-finite : (h : Held) → FiniteNames (namesHeld h)
 unfolding IsFinite namesHeld
-held-finite cs k n = go (isKey k)
+held-finite h k n = go (isKey k)
   where
-    go : (b : Bool) → IsFinite (elim b as (λ c. RowSet) [ true ↦ only (certified cs k n plus) | false ↦ only [] ])
+    go : (b : Bool) → IsFinite (elim b as (λ c. RowSet) [ true ↦ only (joined (h .links) (h .certificates) k n plus) | false ↦ only [] ])
     go true = tt
     go false = tt
 

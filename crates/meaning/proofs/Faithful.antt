@@ -32,7 +32,7 @@ use Rattle.meaning.proofs.Rows.{row-of-terms, match-words}
 use Rattle.meaning.proofs.Claims.{has-by}
 use Rattle.meaning.proofs.Leaf.{leaf-rows}
 use Rattle.meaning.proofs.Proper.{read-tidy}
-use Rattle.meaning.proofs.Minimal.{held-names-proper, held-shows}
+use Rattle.meaning.proofs.Model.{held-names-proper, held-shows}
 
 -- a pattern matches a row by `match` just where it does by `Matches`
 record Bound (p : List Slot) (vs : Values) (x : Row) (ws : Values) : Type 0 where

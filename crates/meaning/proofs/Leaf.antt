@@ -22,10 +22,10 @@ use Rattle.policy.specs.Leaf.{Leaf, finite, cofinite, definition, listed, vette
 use Rattle.meaning.specs.Values.{Values, value, rowOf}
 use Rattle.meaning.specs.Evidence.{Evidence}
 use Rattle.meaning.specs.Reading.{done, small, rowsOf, readLeaf}
-use Rattle.meaning.specs.World.{World}
+use Rattle.meaning.specs.World.{World, Below}
 use Rattle.meaning.specs.Belonging.{InList, Meanings, BelongsLeaf}
 use Rattle.meaning.specs.Faithful.{Tidy, ProperNames, TidySets, Shows, Agree}
-use Rattle.meaning.specs.Monotone.{Below, Along, Ways}
+use Rattle.meaning.specs.Monotone.{Along, Ways}
 use Rattle.meaning.specs.Exact.{Steady}
 use Rattle.meaning.specs.Closed.{IsFinite, FiniteNames, FiniteSets, Not12}
 use Rattle.meaning.proofs.Steps.{done-value, either, either-done, small-done}

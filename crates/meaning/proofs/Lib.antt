@@ -2,7 +2,8 @@ pub mod Steps
 pub mod Rows
 pub mod Claims
 pub mod Leaf
-pub mod Minimal
+pub mod Links
+pub mod Model
 pub mod Proper
 pub mod Faithful
 pub mod Monotone

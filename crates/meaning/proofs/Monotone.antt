@@ -8,9 +8,9 @@ use Rattle.rows.proofs.Case.{T-left, T-right}
 use Rattle.policy.specs.Syntax.{Slot, Expr, leaf, union, difference, comprehension, Body, head, draw, same, different, absent}
 use Rattle.policy.specs.Polarity.{Known, hasPolarity, guardsHave}
 use Rattle.meaning.specs.Values.{Values, rowOf}
-use Rattle.meaning.specs.World.{World}
+use Rattle.meaning.specs.World.{World, Below}
 use Rattle.meaning.specs.Belonging.{Meanings, BelongsBy, Belongs, PassesBy, Passes}
-use Rattle.meaning.specs.Monotone.{Below, Along, Ways, Follows, Theorem}
+use Rattle.meaning.specs.Monotone.{Along, Ways, Follows, Theorem}
 use Rattle.meaning.proofs.Claims.{along-same}
 use Rattle.meaning.proofs.Leaf.{leaf-along}
 

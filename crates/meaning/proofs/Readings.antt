@@ -19,7 +19,7 @@ pub record Trial : Type 0 where
 -- nothing is held
 unfoldable pub Holds : Trial → Type 0
 unfolding read namesHeld
-Holds t = read (namesHeld []) [] (t .expr) [] 0 ≡ t .answer
+Holds t = read (namesHeld (record { certificates = []; links = [] })) [] (t .expr) [] 0 ≡ t .answer
 
 -- n rows of one atom, from `base` on
 oneAtom : ℕ → ℕ → List (List Term)

@@ -9,7 +9,7 @@ use lib.ListN.{getD}
 use Rattle.refusals.specs.RefusalTable.{complementDrawn}
 use Rattle.rows.specs.Name.{plus}
 use Rattle.rows.specs.Sets.{RowSet, only, allBut}
-use Rattle.certificates.specs.Certificate.{Certificate}
+use Rattle.certificates.specs.Stores.{Held}
 use Rattle.policy.specs.Syntax.{Expr}
 use Rattle.policy.specs.Polarity.{Known, unknown, openExpr, drawsClosed}
 use Rattle.meaning.specs.Values.{Values}
@@ -44,4 +44,4 @@ pub record Theorem : Type 0 where
   pub finite : (names : Evidence) → FiniteNames names → (sets : List RowSet) (ks : List Known) → FiniteSets ks sets → (e : Expr) → ReadFinite names sets ks e
   pub never12 : (names : Evidence) → FiniteNames names → (sets : List RowSet) (ks : List Known) → FiniteSets ks sets → (e : Expr) → Never12 names sets ks e
   -- so it is with what is held
-  pub held : (cs : List Certificate) → FiniteNames (namesHeld cs)
+  pub held : (h : Held) → FiniteNames (namesHeld h)

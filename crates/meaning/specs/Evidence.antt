@@ -2,33 +2,34 @@
 use Prim.Native.Nat.{ℕ}
 use mathlib.Core.Bool.{Bool, true, false, _&&_}
 use mathlib.Core.List.{List, [], _∷_}
-use lib.Dec.{eqb}
 use Rattle.rows.specs.Ordered.{insert}
 use Rattle.rows.specs.Row.{Row, isKey, rowBefore}
 use Rattle.rows.specs.Name.{Polarity, plus, minus, samePolarity}
 use Rattle.rows.specs.Sets.{RowSet, only, allBut}
 use Rattle.certificates.specs.Certificate.{Certificate}
-use Rattle.certificates.specs.Store.{certificatesAt}
+use Rattle.certificates.specs.Link.{Named, Link}
+use Rattle.certificates.specs.Stores.{Held}
+use Rattle.meaning.specs.Links.{reachable}
 
 abbrev pub Evidence : Type 0
 Evidence = ℕ → ℕ → Polarity → RowSet
 
-abbrev pub isOf : Certificate → ℕ → ℕ → Polarity → Bool
-isOf c k n p = eqb k (c .key) && (eqb n (c .name) && samePolarity p (c .polarity))
+abbrev pub named : ℕ → ℕ → Named
+named k n = record { key = k; name = n }
 
--- the certified rows of one name, in order, each once
-unfoldable pub certified : List Certificate → ℕ → ℕ → Polarity → List Row
-unfolding insert rowBefore
-certified [] k n p = []
-certified (c ∷ cs) k n p = elim (isOf c k n p) [ true ↦ insert rowBefore (c .row) (certified cs k n p) | false ↦ certified cs k n p ]
+-- the certificate is of a name that the links reach from this one
+abbrev pub counts : List Link → Certificate → ℕ → ℕ → Polarity → Bool
+counts ls c k n p = samePolarity (c .polarity) p && reachable ls p (named k n) (named (c .key) (c .name))
 
--- Document 01: "Minimal model: a + name has just its certified rows; a − name has all rows but its certified ones."
+-- Document 02, N5: "The value read for a name joins the certified rows of every name that links reach from it, itself included." In order, each once.
+unfoldable pub joined : List Link → List Certificate → ℕ → ℕ → Polarity → List Row
+unfolding insert rowBefore reachable
+joined ls [] k n p = []
+joined ls (c ∷ cs) k n p = elim (counts ls c k n p) [ true ↦ insert rowBefore (c .row) (joined ls cs k n p) | false ↦ joined ls cs k n p ]
+
+-- Document 01: "a + name has just its certified rows; a − name has all rows but its certified ones", here those joined.
 -- "A variable issuer that holds a number reads as no rows (+) or all rows (−)."
-unfoldable pub namesHeld : List Certificate → Evidence
-unfolding certified
-namesHeld cs k n plus = elim (isKey k) [ true ↦ only (certified cs k n plus) | false ↦ only [] ]
-namesHeld cs k n minus = elim (isKey k) [ true ↦ allBut (certified cs k n minus) | false ↦ allBut [] ]
-
--- what is held enters here: "A query call takes a minute and reads only the certificates that hold then" (document 02, N4)
-abbrev pub heldIn : ℕ → List ℕ → Evidence
-heldIn minute store = namesHeld (certificatesAt minute store)
+unfoldable pub namesHeld : Held → Evidence
+unfolding joined
+namesHeld h k n plus = elim (isKey k) [ true ↦ only (joined (h .links) (h .certificates) k n plus) | false ↦ only [] ]
+namesHeld h k n minus = elim (isKey k) [ true ↦ allBut (joined (h .links) (h .certificates) k n minus) | false ↦ allBut [] ]

@@ -13,14 +13,15 @@ use Rattle.rows.specs.Word.{Words}
 use Rattle.rows.specs.Row.{Row, IsRow}
 use Rattle.rows.specs.Name.{Polarity}
 use Rattle.rows.specs.Sets.{RowSet, only, listing, Proper, mostRows, has}
-use Rattle.certificates.specs.Certificate.{Certificate}
+use Rattle.certificates.specs.Stores.{Held}
 use Rattle.policy.specs.Syntax.{Expr}
 use Rattle.policy.specs.Words.{exprWords}
 use Rattle.policy.specs.WellFormed.{Fit}
 use Rattle.meaning.specs.Values.{Values}
 use Rattle.meaning.specs.Evidence.{Evidence, namesHeld}
 use Rattle.meaning.specs.Reading.{done, read}
-use Rattle.meaning.specs.World.{World, Minimal, AboutRows}
+use Rattle.meaning.specs.World.{World, AboutRows}
+use Rattle.meaning.specs.Model.{Minimal}
 use Rattle.meaning.specs.Belonging.{InList, Meanings, Belongs}
 
 -- the set lists rows alone, in ascending order, at most 128 of them: it has a layout
@@ -59,5 +60,5 @@ pub record Theorem : Type 1 where
   pub rows : (names : Evidence) (W : World) → Shows names W → ProperNames names → (sets : List RowSet) (D : Meanings) → Agree sets D → TidySets sets →
       (e : Expr) → WheneverRead names sets e (JustThose W D e)
   -- what is held shows the minimal model
-  pub proper : (cs : List Certificate) → AboutRows cs → ProperNames (namesHeld cs)
-  pub shows : (cs : List Certificate) (W : World) → Minimal cs W → Shows (namesHeld cs) W
+  pub proper : (h : Held) → AboutRows h → ProperNames (namesHeld h)
+  pub shows : (h : Held) → AboutRows h → (W : World) → Minimal h W → Shows (namesHeld h) W

@@ -1,7 +1,9 @@
 pub mod Values
+pub mod Links
 pub mod Evidence
 pub mod Reading
 pub mod World
+pub mod Model
 pub mod Belonging
 pub mod Faithful
 pub mod Monotone

@@ -4,19 +4,13 @@ use Prim.Native.Nat.{ℕ}
 use mathlib.Core.List.{List}
 use lib.Dec.{T}
 use lib.ListN.{getD}
-use Rattle.rows.specs.Ordered.{_∈_}
 use Rattle.rows.specs.Row.{Row}
 use Rattle.rows.specs.Name.{Polarity, plus, minus}
 use Rattle.policy.specs.Syntax.{Expr}
 use Rattle.policy.specs.Polarity.{Known, unknown, hasPolarity}
 use Rattle.meaning.specs.Values.{Values}
-use Rattle.meaning.specs.World.{World}
+use Rattle.meaning.specs.World.{World, Below}
 use Rattle.meaning.specs.Belonging.{Meanings, Belongs}
-
--- U has all that W has in + lists, and nothing that W lacks in − lists
-pub record Below (W U : World) : Type 0 where
-  pub more : (k n : ℕ) (r : Row) → r ∈ W .finiteList k n → r ∈ U .finiteList k n
-  pub less : (k n : ℕ) (r : Row) → U .anyList k n r → W .anyList k n r
 
 -- from A to B for +, back for −. (A record, so that A and B can be implicit in the proofs.)
 abbrev pub Way : Polarity → Type 0 → Type 0 → Type 0

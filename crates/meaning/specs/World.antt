@@ -1,11 +1,12 @@
--- Document 01, "Rows, sets, worlds", "Store and filing" and "Lists of filings": worlds, when a certificate is true in one, the minimal model.
+-- Document 01, "Rows, sets, worlds" and "Lists of filings", document 02, N5: worlds, and when a certificate or a link is true in one.
 use Prim.Native.Nat.{ℕ}
-use mathlib.Core.Logic.{_↔_}
 use mathlib.Core.List.{List}
 use Rattle.rows.specs.Ordered.{_∈_}
 use Rattle.rows.specs.Row.{Row, IsRow}
 use Rattle.rows.specs.Name.{Polarity, plus, minus}
 use Rattle.certificates.specs.Certificate.{Certificate}
+use Rattle.certificates.specs.Link.{Named, Link}
+use Rattle.certificates.specs.Stores.{Held}
 
 -- "A world gives each key and + name any finite set of rows, and each key and − name any set of rows at all."
 -- (What it gives to a number, or to a name over 65,535, nothing ever asks.)
@@ -24,18 +25,24 @@ Says W k n minus r = ¬ (W .anyList k n r)
 abbrev pub TrueIn : World → Certificate → Type 0
 TrueIn W c = Says W (c .key) (c .name) (c .polarity) (c .row)
 
-abbrev pub AllTrue : World → List Certificate → Type 0
-AllTrue W cs = (c : Certificate) → c ∈ cs → TrueIn W c
+-- "A + link says that the first list contains the second, a − link that it is contained in it."
+unfoldable pub LinkSays : World → Polarity → Named → Named → Type 0
+LinkSays W plus x y = (r : Row) → r ∈ W .finiteList (y .key) (y .name) → r ∈ W .finiteList (x .key) (x .name)
+LinkSays W minus x y = (r : Row) → W .anyList (x .key) (x .name) r → W .anyList (y .key) (y .name) r
 
--- one of the certificates says this
-abbrev pub Certified : List Certificate → ℕ → ℕ → Polarity → Row → Type 0
-Certified cs k n p r = record { key = k; name = n; polarity = p; row = r } ∈ cs
+abbrev pub LinkTrueIn : World → Link → Type 0
+LinkTrueIn W l = LinkSays W (l .polarity) (l .first) (l .second)
 
--- "Minimal model: a + name has just its certified rows; a − name has all rows but its certified ones."
-pub record Minimal (cs : List Certificate) (W : World) : Type 0 where
-  pub plusName : (k n : ℕ) (r : Row) → (r ∈ W .finiteList k n) ↔ Certified cs k n plus r
-  pub minusName : (k n : ℕ) (r : Row) → W .anyList k n r ↔ (IsRow r × (¬ Certified cs k n minus r))
+-- "worlds where all certificates accepted so far are true"; "In its worlds the links accepted so far are true as well."
+pub record AllTrue (W : World) (h : Held) : Type 0 where
+  pub certificates : (c : Certificate) → c ∈ h .certificates → TrueIn W c
+  pub links : (l : Link) → l ∈ h .links → LinkTrueIn W l
+
+-- U has all that W has in + lists, and nothing that W lacks in − lists
+pub record Below (W U : World) : Type 0 where
+  pub more : (k n : ℕ) (r : Row) → r ∈ W .finiteList k n → r ∈ U .finiteList k n
+  pub less : (k n : ℕ) (r : Row) → U .anyList k n r → W .anyList k n r
 
 -- each certificate is about a row
-abbrev pub AboutRows : List Certificate → Type 0
-AboutRows cs = (c : Certificate) → c ∈ cs → IsRow (c .row)
+abbrev pub AboutRows : Held → Type 0
+AboutRows h = (c : Certificate) → c ∈ h .certificates → IsRow (c .row)
