@@ -11,6 +11,7 @@ use Rattle.rows.specs.Name.{plus, minus}
 use Rattle.rows.specs.Sets.{RowSet, has}
 use Rattle.rows.proofs.Case.{T-true, true-T, T-left, T-right}
 use Rattle.rows.proofs.Lists.{length-snoc}
+use Rattle.certificates.specs.Stores.{heldAfter}
 use Rattle.policy.specs.Leaf.{Leaf, finite, cofinite, definition, listed, vetted, leafWords}
 use Rattle.policy.specs.Syntax.{atom, Expr, leaf, union, difference, comprehension}
 use Rattle.policy.specs.Words.{exprWords}
@@ -29,7 +30,6 @@ use Rattle.meaning.specs.World.{World, AllTrue}
 use Rattle.meaning.specs.Belonging.{Lists, InList, Meanings, BelongsLeaf, BelongsBy, Belongs, meaningsBy, meanings, BelongsTo}
 use Rattle.demands.specs.Query.{Call}
 use Rattle.demands.specs.Demand2.{InQuery}
-use Rattle.demands.specs.Demand3.{heldAfter}
 use Rattle.demands.specs.External.{uncompromised, transformed, LowerAnswer, without, withoutKey, NotReliedOn}
 use Rattle.demands.proofs.Bounds.{in-query}
 use Rattle.demands.proofs.Demand3.{demand-3}
@@ -62,7 +62,7 @@ lower-rows : (policy : List ℕ) (entries : List Entry) (source : List Expr) (kn
     (W : World) → AllTrue W (heldAfter (a .call .minute) (a .point .passed)) → (r : Row) → IsRow r → T (has S r) → getD (transformed W entries source) d (λ x. ⊥) r
 lower-rows policy entries source known c d S a W allowed r i h =
     let m = theorem policy (a .out) (a .rewrites) in
-    let all = demand-3 (a .store) (a .empty) (a .filings) in
+    let all = demand-3 (a .stores) (a .empty) (a .filings) in
     let read = all .answer (a .point) (a .call) lower (a .draws) S (a .answer) .isRead in
     let inQuery = all .bounds (a .filed) (a .point) (a .call) (a .words) lower (a .draws) S (a .answer) .lowerRows refl r i .0 h W allowed in
     let belongs = asks-definition (a .call) d (a .queryIs) (m .places) (m .target) (m .known) (subst (λ (ws : List ℕ). checkPolicy ws ≡ passed (m .places) (m .target) (m .known)) (sym (a .policyIs)) (m .passes))

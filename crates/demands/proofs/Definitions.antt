@@ -27,10 +27,10 @@ use Rattle.policy.proofs.Decoding.{parse-words, parse-fits}
 use Rattle.policy.proofs.Judging.{Accepted, none, one, entry-words}
 use Rattle.meaning.specs.Evidence.{Evidence}
 use Rattle.meaning.specs.Reading.{Result, done, refused, read}
-use Rattle.meaning.specs.World.{World}
+use Rattle.meaning.specs.World.{World, Below}
 use Rattle.meaning.specs.Belonging.{Meanings, Belongs, meaningsBy, meanings}
 use Rattle.meaning.specs.Faithful.{Tidy, ProperNames, TidySets, Shows, Agree}
-use Rattle.meaning.specs.Monotone.{Below, Along, Ways}
+use Rattle.meaning.specs.Monotone.{Along, Ways}
 use Rattle.meaning.specs.Closed.{IsFinite, FiniteNames, FiniteSets}
 use Rattle.meaning.proofs.Claims.{along-same}
 use Rattle.meaning.proofs.Proper.{read-tidy}

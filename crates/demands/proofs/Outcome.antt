@@ -8,21 +8,23 @@ use native.Mathlib.Omega.{arith}
 use lib.Dec.{leb}
 use lib.ListN.{length}
 use borrow.Author.Tests.{leb-true}
-use Rattle.refusals.specs.RefusalTable.{badStore, shortArea, noPart}
+use Rattle.refusals.specs.RefusalTable.{badStore, badLink, shortArea, noPart}
 use Rattle.rows.specs.Sets.{RowSet}
 use Rattle.rows.specs.Layout.{setRoom}
 use Rattle.rows.proofs.Case.{Case, isTrue, isFalse, split, and-true}
 use Rattle.certificates.specs.Store.{soundStore}
+use Rattle.certificates.specs.Link.{soundLinks}
+use Rattle.certificates.specs.Stores.{Stores, heldIn}
 use Rattle.policy.specs.Syntax.{Expr}
 use Rattle.policy.specs.Polarity.{Verdict}
 use Rattle.policy.specs.Checking.{Checked, checked, check}
 use Rattle.policy.specs.Checking as Checking
 use Rattle.policy.proofs.Judging.{judge-refused}
-use Rattle.meaning.specs.Evidence.{Evidence, heldIn}
+use Rattle.meaning.specs.Evidence.{Evidence, namesHeld}
 use Rattle.meaning.specs.Reading.{Result, done, refused, read}
 use Rattle.demands.specs.Query.{Outcome, answered, readFrom, roomy, Call, outcomeFrom, queryCall}
 use Rattle.demands.specs.Query as Query
-use Rattle.demands.specs.Refusal.{Refusal, judged, unsound, short, reading}
+use Rattle.demands.specs.Refusal.{Soundness, soundness, allSound, Refusal, judged, unsound, unsoundLinks, short, reading}
 
 pub not-both : {A : Type 0} {v : Verdict} {k : ℕ} {S : RowSet} {n part : ℕ} → answered v k S ≡ Query.refused n part → A
 not-both {v} {k} {S} {n} {part} e = let z : _≡_ {A = ℕ} 0 1 = cc in absurd (omega arith)
@@ -42,38 +44,56 @@ read-verdict names (e ∷ es) q v sets k w j S h = go (λ s i f. read-verdict na
     go ih (done s i) f = ih s i (rw (f, readFrom) at h)
     go ih (refused n) f = not-both (sym (let g : Query.refused n (length sets) ≡ answered w j S = rw (f, readFrom) at h in g))
 
--- the call on a store, by whether it is sound
-callOn : Bool → Evidence → Call → Outcome
-callOn sound names c = elim (check (c .policy) (c .query)) [
-  | Checking.refused n part ↦ Query.refused n part
-  | checked es q v ↦ elim sound [ false ↦ Query.refused badStore noPart | true ↦ outcomeFrom names c ]
+-- the refusals of unsound stores, then this outcome
+storesFirst : Soundness → Outcome → Outcome
+storesFirst sound o = elim (sound .store) [
+  | false ↦ Query.refused badStore noPart
+  | true ↦ elim (sound .links) [ false ↦ Query.refused badLink noPart | true ↦ o ]
 ]
 
-call-on : (store : List ℕ) (c : Call) → queryCall store c ≡ callOn (soundStore store) (heldIn (c .minute) store) c
-unfolding queryCall callOn
-call-on store c = refl
+-- the call, by which of the stores are sound
+callOn : Soundness → Evidence → Call → Outcome
+unfolding storesFirst
+callOn sound names c = elim (check (c .policy) (c .query)) [ Checking.refused n part ↦ Query.refused n part | checked es q v ↦ storesFirst sound (outcomeFrom names c) ]
 
--- a call on a sound store reads from what the store holds
-pub call-reads : (store : List ℕ) (names : Evidence) → soundStore store ≡ true → (c : Call) → heldIn (c .minute) store ≡ names → queryCall store c ≡ outcomeFrom names c
-unfolding queryCall outcomeFrom
-call-reads store names sound c same = go (check (c .policy) (c .query)) refl
+-- the names that a call reads
+abbrev pub namesAt : Stores → Call → Evidence
+namesAt s c = namesHeld (heldIn (c .minute) s)
+
+call-on : (s : Stores) (c : Call) → queryCall s c ≡ callOn (soundness s) (namesAt s c) c
+unfolding queryCall callOn soundness
+call-on s c = refl
+
+all-sound : (sound : Soundness) → sound .store ≡ true → sound .links ≡ true → sound ≡ allSound
+all-sound sound a b = ap (λ (x : Bool). record { store = x; links = sound .links }) a ∙ ap (λ (x : Bool). record { store = true; links = x }) b
+
+pub stores-sound : (s : Stores) → soundStore (s .store) ≡ true → soundLinks (s .links) ≡ true → soundness s ≡ allSound
+unfolding soundness
+stores-sound s a b = all-sound (soundness s) a b
+
+sound-call : (names : Evidence) (c : Call) → callOn allSound names c ≡ outcomeFrom names c
+unfolding callOn outcomeFrom
+sound-call names c = go (check (c .policy) (c .query)) refl
   where
-    go : (k : Checked) → check (c .policy) (c .query) ≡ k → queryCall store c ≡ outcomeFrom names c
-    go (Checking.refused n part) f = rw (f, queryCall, outcomeFrom)
-    go (checked es q v) f = rw (f, sound, queryCall) (ap (λ (held : Evidence). outcomeFrom held c) same)
+    go : (k : Checked) → check (c .policy) (c .query) ≡ k → callOn allSound names c ≡ outcomeFrom names c
+    go (Checking.refused n part) f = rw (f, callOn, outcomeFrom)
+    go (checked es q v) f = rw (f, callOn)
+
+-- a call on sound stores reads from what they hold
+pub call-reads : (s : Stores) (names : Evidence) → soundness s ≡ allSound → (c : Call) → namesAt s c ≡ names → queryCall s c ≡ outcomeFrom names c
+call-reads s names sound c same = call-on s c ∙ ap (λ (x : Soundness). callOn x (namesAt s c) c) sound ∙ ap (λ (held : Evidence). callOn allSound held c) same ∙ sound-call names c
 
 -- of the areas a call depends on whether they are long enough
-pub call-alike : (store : List ℕ) (c d : Call) → c .policy ≡ d .policy → c .query ≡ d .query → c .minute ≡ d .minute → roomy c ≡ roomy d → queryCall store c ≡ queryCall store d
-unfolding queryCall outcomeFrom
-call-alike store c d p q m r = go (check (d .policy) (d .query)) refl
+pub call-alike : (s : Stores) (c d : Call) → c .policy ≡ d .policy → c .query ≡ d .query → c .minute ≡ d .minute → roomy c ≡ roomy d → queryCall s c ≡ queryCall s d
+unfolding callOn outcomeFrom
+call-alike s c d p q m r = call-on s c ∙ ap (λ (minute : ℕ). callOn (soundness s) (namesHeld (heldIn minute s)) c) m ∙ go (check (d .policy) (d .query)) refl ∙ sym (call-on s d)
   where
-    go : (k : Checked) → check (d .policy) (d .query) ≡ k → queryCall store c ≡ queryCall store d
-    go (Checking.refused n part) f = let g : check (c .policy) (c .query) ≡ Checking.refused n part = rw (p, q) f in rw (f, g, queryCall)
+    go : (k : Checked) → check (d .policy) (d .query) ≡ k → callOn (soundness s) (namesAt s d) c ≡ callOn (soundness s) (namesAt s d) d
+    go (Checking.refused n part) f = let g : check (c .policy) (c .query) ≡ Checking.refused n part = rw (p, q) f in rw (f, g, callOn)
     go (checked es e v) f =
         let g : check (c .policy) (c .query) ≡ checked es e v = rw (p, q) f in
-        let same : outcomeFrom (heldIn (d .minute) store) c ≡ outcomeFrom (heldIn (d .minute) store) d = rw (f, g, r, outcomeFrom) in
-        rw (f, g, queryCall) (ap (λ (o : Outcome). elim (soundStore store) as (λ x. Outcome) [ false ↦ Query.refused badStore noPart | true ↦ o ])
-        (ap (λ (minute : ℕ). outcomeFrom (heldIn minute store) c) m ∙ same))
+        let same : outcomeFrom (namesAt s d) c ≡ outcomeFrom (namesAt s d) d = rw (f, g, r, outcomeFrom) in
+        rw (f, g, callOn) (ap (storesFirst (soundness s)) same)
 
 -- an answered call: the policy and the query passed, the areas are long enough, and the reading was done
 pub record AnsweredBy (names : Evidence) (c : Call) (w : Verdict) (k : ℕ) (S : RowSet) : Type 0 where
@@ -101,27 +121,28 @@ answered-by names c w k S h = go (check (c .policy) (c .query)) refl (split (roo
           reads = subst (λ (u : Verdict). readFrom names es q u [] 0 ≡ answered w k S) e g;
         }
 
--- an answered call has a sound store
-pub answered-sound : (store : List ℕ) (c : Call) (w : Verdict) (k : ℕ) (S : RowSet) → queryCall store c ≡ answered w k S → soundStore store ≡ true
+-- an answered call has sound stores
+pub answered-sound : (s : Stores) (c : Call) (w : Verdict) (k : ℕ) (S : RowSet) → queryCall s c ≡ answered w k S → soundness s ≡ allSound
 unfolding callOn
-answered-sound store c w k S h = go (check (c .policy) (c .query)) refl (split (soundStore store))
+answered-sound s c w k S h = go (check (c .policy) (c .query)) refl (split (soundness s .store)) (split (soundness s .links))
   where
-    g : callOn (soundStore store) (heldIn (c .minute) store) c ≡ answered w k S
-    g = sym (call-on store c) ∙ h
+    g : callOn (soundness s) (namesAt s c) c ≡ answered w k S
+    g = sym (call-on s c) ∙ h
 
-    go : (d : Checked) → check (c .policy) (c .query) ≡ d → Case (soundStore store) → soundStore store ≡ true
-    go (Checking.refused n part) f b = not-both (sym (let e : Query.refused n part ≡ answered w k S = rw (f, callOn) at g in e))
-    go (checked es q v) f (isTrue b) = b
-    go (checked es q v) f (isFalse b) = not-both (sym (let e : Query.refused badStore noPart ≡ answered w k S = rw (f, b, callOn) at g in e))
+    go : (d : Checked) → check (c .policy) (c .query) ≡ d → Case (soundness s .store) → Case (soundness s .links) → soundness s ≡ allSound
+    go (Checking.refused n part) f a b = not-both (sym (let e : Query.refused n part ≡ answered w k S = rw (f, callOn) at g in e))
+    go (checked es q v) f (isFalse a) b = not-both (sym (let e : Query.refused badStore noPart ≡ answered w k S = rw (f, a, callOn) at g in e))
+    go (checked es q v) f (isTrue a) (isFalse b) = not-both (sym (let e : Query.refused badLink noPart ≡ answered w k S = rw (f, a, b, callOn) at g in e))
+    go (checked es q v) f (isTrue a) (isTrue b) = all-sound (soundness s) a b
 
 pub roomy-answer : (c : Call) → roomy c ≡ true → setRoom ≤ length (c .answer)
 unfolding roomy
 roomy-answer c e = leb-true setRoom (length (c .answer)) (and-true (leb setRoom (length (c .answer))) _ e .0)
 
 -- refused, just where a refusal applies
-on-refused : (sound : Bool) (names : Evidence) (c : Call) (n part : ℕ) → (callOn sound names c ≡ Query.refused n part) ↔ Refusal sound names c n part
+on-refused : (sound : Soundness) (names : Evidence) (c : Call) (n part : ℕ) → (callOn sound names c ≡ Query.refused n part) ↔ Refusal sound names c n part
 unfolding callOn outcomeFrom
-on-refused sound names c n part = (λ h. to h (check (c .policy) (c .query)) refl (split sound) (split (roomy c)), from)
+on-refused sound names c n part = (λ h. to h (check (c .policy) (c .query)) refl (split (sound .store)) (split (sound .links)) (split (roomy c)), from)
   where
     as-refused : {m p : ℕ} → Refusal sound names c m p → Query.refused m p ≡ Query.refused n part → Refusal sound names c n part
     as-refused {m} {p} r e =
@@ -129,39 +150,36 @@ on-refused sound names c n part = (λ h. to h (check (c .policy) (c .query)) ref
         let y : p ≡ part = cc in
         subst (λ (l : ℕ). Refusal sound names c l part) x (subst (λ (l : ℕ). Refusal sound names c m l) y r)
 
-    to : callOn sound names c ≡ Query.refused n part → (d : Checked) → check (c .policy) (c .query) ≡ d → Case sound → Case (roomy c) → Refusal sound names c n part
-    to h (Checking.refused m p) f a b = as-refused (judged (judge-refused (c .policy) (c .query) m p .1 f)) (rw (f, callOn) at h)
-    to h (checked es q v) f (isFalse a) b = as-refused (unsound f a) (rw (f, a, callOn) at h)
-    to h (checked es q v) f (isTrue a) (isFalse b) = as-refused (short f a b) (rw (f, b, outcomeFrom) at (rw (f, a, callOn) at h))
-    to h (checked es q v) f (isTrue a) (isTrue b) = reading f a b (rw (f, b, outcomeFrom) at (rw (f, a, callOn) at h))
+    to : callOn sound names c ≡ Query.refused n part → (d : Checked) → check (c .policy) (c .query) ≡ d → Case (sound .store) → Case (sound .links) → Case (roomy c) →
+        Refusal sound names c n part
+    to h (Checking.refused m p) f a l b = as-refused (judged (judge-refused (c .policy) (c .query) m p .1 f)) (rw (f, callOn) at h)
+    to h (checked es q v) f (isFalse a) l b = as-refused (unsound f a) (rw (f, a, callOn) at h)
+    to h (checked es q v) f (isTrue a) (isFalse l) b = as-refused (unsoundLinks f a l) (rw (f, a, l, callOn) at h)
+    to h (checked es q v) f (isTrue a) (isTrue l) (isFalse b) = as-refused (short f (all-sound sound a l) b) (rw (f, b, outcomeFrom) at (rw (f, a, l, callOn) at h))
+    to h (checked es q v) f (isTrue a) (isTrue l) (isTrue b) = reading f (all-sound sound a l) b (rw (f, b, outcomeFrom) at (rw (f, a, l, callOn) at h))
 
     from : {m p : ℕ} → Refusal sound names c m p → callOn sound names c ≡ Query.refused m p
     from {m} {p} (judged e) = rw (judge-refused (c .policy) (c .query) m p .0 e, callOn)
     from (unsound f a) = rw (f, a, callOn)
+    from (unsoundLinks f a l) = rw (f, a, l, callOn)
     from (short f a b) = rw (f, a, callOn) (rw (f, b, outcomeFrom))
     from (reading f a b e) = rw (f, a, callOn) (rw (f, b, outcomeFrom) e)
 
-pub call-refused : (store : List ℕ) (c : Call) (n part : ℕ) →
-    (queryCall store c ≡ Query.refused n part) ↔ Refusal (soundStore store) (heldIn (c .minute) store) c n part
-call-refused store c n part = rw (call-on store c) (on-refused (soundStore store) (heldIn (c .minute) store) c n part)
+pub call-refused : (s : Stores) (c : Call) (n part : ℕ) → (queryCall s c ≡ Query.refused n part) ↔ Refusal (soundness s) (namesAt s c) c n part
+call-refused s c n part = rw (call-on s c) (on-refused (soundness s) (namesAt s c) c n part)
 
-pub outcome-refused : (names : Evidence) (c : Call) (n part : ℕ) → (outcomeFrom names c ≡ Query.refused n part) ↔ Refusal true names c n part
-unfolding callOn outcomeFrom
-outcome-refused names c n part = rw (← sound-call (check (c .policy) (c .query)) refl) (on-refused true names c n part)
-  where
-    sound-call : (d : Checked) → check (c .policy) (c .query) ≡ d → callOn true names c ≡ outcomeFrom names c
-    sound-call (Checking.refused m p) f = rw (f, callOn, outcomeFrom)
-    sound-call (checked es q v) f = rw (f, callOn)
+pub outcome-refused : (names : Evidence) (c : Call) (n part : ℕ) → (outcomeFrom names c ≡ Query.refused n part) ↔ Refusal allSound names c n part
+outcome-refused names c n part = rw (← sound-call names c) (on-refused allSound names c n part)
 
 -- answered, just where none does
 pub outcome-answered : (names : Evidence) (c : Call) → ((v : Verdict) × (k : ℕ) × (S : RowSet) × (outcomeFrom names c ≡ answered v k S)) ↔
-    (¬ ((n : ℕ) × (part : ℕ) × Refusal true names c n part))
+    (¬ ((n : ℕ) × (part : ℕ) × Refusal allSound names c n part))
 outcome-answered names c = (
   λ t r. not-both (sym (t .3) ∙ outcome-refused names c (r .0) (r .1) .1 (r .2)),
   λ f. go (outcomeFrom names c) refl f,
 )
   where
-    go : (o : Outcome) → outcomeFrom names c ≡ o → (¬ ((n : ℕ) × (part : ℕ) × Refusal true names c n part)) →
+    go : (o : Outcome) → outcomeFrom names c ≡ o → (¬ ((n : ℕ) × (part : ℕ) × Refusal allSound names c n part)) →
         (v : Verdict) × (k : ℕ) × (S : RowSet) × (outcomeFrom names c ≡ answered v k S)
     go (answered v k S) e f = (v, k, S, e)
     go (Query.refused n part) e f = absurd (f (n, part, outcome-refused names c n part .0 e))

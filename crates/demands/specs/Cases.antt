@@ -1,12 +1,12 @@
--- Document 01, "Portal cases" a to l, and certificates through their terms, from the words filed and the words of policy and query to the reply and the set. (P and Q are spelled out where they
--- are judged, in `policy/specs/Judged.antt`.)
+-- Document 01, "Portal cases" a to l, certificates through their terms, and links, from the words filed and the words of policy and query to the reply and the
+-- set. (P and Q are spelled out where they are judged, in `policy/specs/Judged.antt`.)
 use Prim.Native.Nat.{ℕ}
 use mathlib.Core.Path.{_≡_}
 use mathlib.Core.List.{List, [], _∷_}
 use lib.ListN.{replicate}
 use Rattle.rows.specs.Word.{All}
 use Rattle.rows.specs.Sets.{only, allBut}
-use Rattle.certificates.specs.Filing.{storeAt}
+use Rattle.certificates.specs.Stores.{AnyFiling, certificate, link, storesAt}
 use Rattle.policy.specs.Polarity.{exact, lower, upper}
 use Rattle.policy.specs.Judged.{k1, P, Q, noDefinitions as noDefinitions}
 use Rattle.demands.specs.Query.{Outcome, answered, refused, queryCall}
@@ -15,27 +15,32 @@ use Rattle.demands.specs.Query.{Outcome, answered, refused, queryCall}
 unfoldable pub emptyStore : List ℕ
 emptyStore = 0 ∷ replicate 16000 99
 
+unfoldable pub emptyLinks : List ℕ
+emptyLinks = 0 ∷ replicate 1280 98
+
 pub record Case : Type 0 where
-  pub filings : List (List ℕ)
+  pub filings : List AnyFiling
   pub minute : ℕ
   pub policy : List ℕ
   pub query : List ℕ
   pub outcome : Outcome
 
 unfoldable pub Holds : Case → Type 0
-unfolding emptyStore
+unfolding emptyStore emptyLinks
 Holds c =
-    queryCall (storeAt emptyStore (c .filings)) (record { policy = c .policy; query = c .query; minute = c .minute; answer = replicate 642 5; definitions = replicate 10272 6; scratch = replicate 16384 7 }) ≡ c .outcome
+    queryCall (storesAt (record { store = emptyStore; links = emptyLinks }) (c .filings))
+    (record { policy = c .policy; query = c .query; minute = c .minute; answer = replicate 642 5; definitions = replicate 10272 6; scratch = replicate 16384 7 })
+    ≡ c .outcome
 
 -- k1, 1, +, row 7; k1, 2, −, row 7; k1, 1, +, row 8; document 02, N4: "read at minute 0, their certificates holding from 0 to 1"
-abbrev b : List ℕ
-b = k1 ∷ 1 ∷ 0 ∷ 1 ∷ 7 ∷ 0 ∷ 0 ∷ 0 ∷ 0 ∷ 1 ∷ []
+abbrev b : AnyFiling
+b = certificate (k1 ∷ 1 ∷ 0 ∷ 1 ∷ 7 ∷ 0 ∷ 0 ∷ 0 ∷ 0 ∷ 1 ∷ [])
 
-abbrev c : List ℕ
-c = k1 ∷ 2 ∷ 1 ∷ 1 ∷ 7 ∷ 0 ∷ 0 ∷ 0 ∷ 0 ∷ 1 ∷ []
+abbrev c : AnyFiling
+c = certificate (k1 ∷ 2 ∷ 1 ∷ 1 ∷ 7 ∷ 0 ∷ 0 ∷ 0 ∷ 0 ∷ 1 ∷ [])
 
-abbrev d : List ℕ
-d = k1 ∷ 1 ∷ 0 ∷ 1 ∷ 8 ∷ 0 ∷ 0 ∷ 0 ∷ 0 ∷ 1 ∷ []
+abbrev d : AnyFiling
+d = certificate (k1 ∷ 1 ∷ 0 ∷ 1 ∷ 8 ∷ 0 ∷ 0 ∷ 0 ∷ 0 ∷ 1 ∷ [])
 
 unfoldable pub cases : List Case
 cases =
@@ -55,14 +60,14 @@ cases =
 
 -- Document 02, N4: "it holds from the first up to, but without, the end". Row 7 from minute 10 to 20, in k1's list 1 + and not in its list 2 −; and in list 1 +
 -- again from 15 to 25.
-abbrev released : List ℕ
-released = k1 ∷ 1 ∷ 0 ∷ 1 ∷ 7 ∷ 0 ∷ 0 ∷ 0 ∷ 10 ∷ 20 ∷ []
+abbrev released : AnyFiling
+released = certificate (k1 ∷ 1 ∷ 0 ∷ 1 ∷ 7 ∷ 0 ∷ 0 ∷ 0 ∷ 10 ∷ 20 ∷ [])
 
-abbrev notWithdrawn : List ℕ
-notWithdrawn = k1 ∷ 2 ∷ 1 ∷ 1 ∷ 7 ∷ 0 ∷ 0 ∷ 0 ∷ 10 ∷ 20 ∷ []
+abbrev notWithdrawn : AnyFiling
+notWithdrawn = certificate (k1 ∷ 2 ∷ 1 ∷ 1 ∷ 7 ∷ 0 ∷ 0 ∷ 0 ∷ 10 ∷ 20 ∷ [])
 
-abbrev releasedAgain : List ℕ
-releasedAgain = k1 ∷ 1 ∷ 0 ∷ 1 ∷ 7 ∷ 0 ∷ 0 ∷ 0 ∷ 15 ∷ 25 ∷ []
+abbrev releasedAgain : AnyFiling
+releasedAgain = certificate (k1 ∷ 1 ∷ 0 ∷ 1 ∷ 7 ∷ 0 ∷ 0 ∷ 0 ∷ 15 ∷ 25 ∷ [])
 
 unfoldable pub terms : List Case
 terms =
@@ -76,8 +81,93 @@ terms =
     ∷ record { filings = released ∷ releasedAgain ∷ []; minute = 24; policy = noDefinitions; query = 4 ∷ 0 ∷ k1 ∷ 1 ∷ 0 ∷ []; outcome = answered lower 0 (only ((7 ∷ []) ∷ [])) }
     ∷ []
 
+-- Document 02, N5: "The value read for a name joins the certified rows of every name that links reach from it, itself included."
+
+abbrev k2 : ℕ
+k2 = 2147483650
+
+abbrev k3 : ℕ
+k3 = 2147483651
+
+-- row x is in the key's list n +; it is not in the key's list n −
+abbrev isIn : ℕ → ℕ → ℕ → AnyFiling
+isIn key n x = certificate (key ∷ n ∷ 0 ∷ 1 ∷ x ∷ 0 ∷ 0 ∷ 0 ∷ 0 ∷ 1 ∷ [])
+
+abbrev isNotIn : ℕ → ℕ → ℕ → AnyFiling
+isNotIn key n x = certificate (key ∷ n ∷ 1 ∷ 1 ∷ x ∷ 0 ∷ 0 ∷ 0 ∷ 0 ∷ 1 ∷ [])
+
+-- "A + link says that the first list contains the second, a − link that it is contained in it."
+abbrev contains : ℕ → ℕ → ℕ → ℕ → AnyFiling
+contains key n other m = link (key ∷ n ∷ 0 ∷ other ∷ m ∷ [])
+
+abbrev containedIn : ℕ → ℕ → ℕ → ℕ → AnyFiling
+containedIn key n other m = link (key ∷ n ∷ 1 ∷ other ∷ m ∷ [])
+
+-- asked at minute 0, with no definitions: a query, here mostly a key's list n, + or −
+abbrev asked : List AnyFiling → List ℕ → Outcome → Case
+asked filings query outcome = record { filings = filings; minute = 0; policy = noDefinitions; query = query; outcome = outcome }
+
+abbrev plusList : ℕ → ℕ → List ℕ
+plusList key n = 4 ∷ 0 ∷ key ∷ n ∷ 0 ∷ []
+
+abbrev minusList : ℕ → ℕ → List ℕ
+minusList key n = 4 ∷ 0 ∷ key ∷ n ∷ 1 ∷ []
+
+-- k1's list 1 contains k2's, which contains k3's, each with a row of its own
+abbrev chain : List AnyFiling
+chain = contains k1 1 k2 1 ∷ contains k2 1 k3 1 ∷ isIn k1 1 7 ∷ isIn k2 1 8 ∷ isIn k3 1 9 ∷ []
+
+-- from k1's list 1 two ways lead to k3's
+abbrev twoWays : List AnyFiling
+twoWays = contains k1 1 k2 1 ∷ contains k1 1 k2 2 ∷ contains k2 1 k3 1 ∷ contains k2 2 k3 1 ∷ isIn k3 1 7 ∷ []
+
+-- k1's list 2 − is contained in k2's
+abbrev stillLess : List AnyFiling
+stillLess = containedIn k1 2 k2 2 ∷ isNotIn k2 2 7 ∷ isNotIn k1 2 8 ∷ []
+
+-- what P reads of k1, certified of k2's lists 5 + and 6 − alone: 7 and 8 released, 7 not withdrawn
+abbrev elsewhere : List AnyFiling
+elsewhere = contains k1 1 k2 5 ∷ isIn k2 5 7 ∷ isIn k2 5 8 ∷ isNotIn k2 6 7 ∷ []
+
+-- k1's list 1 contains k2's; filed with that: a link of four words, one of six, and one with a number as its other key
+abbrev malformed : List AnyFiling
+malformed = link (k1 ∷ 1 ∷ 0 ∷ k2 ∷ []) ∷ link (k1 ∷ 1 ∷ 0 ∷ k2 ∷ 2 ∷ 0 ∷ []) ∷ contains k1 1 5 1 ∷ contains k1 1 k2 1 ∷ isIn k2 0 7 ∷ isIn k2 1 8 ∷ isIn k2 2 9 ∷ []
+
+-- k1's list 1 + contains k2's, and row 7 is in that from minute 10 to 20
+abbrev forATerm : List AnyFiling
+forATerm = contains k1 1 k2 1 ∷ certificate (k2 ∷ 1 ∷ 0 ∷ 1 ∷ 7 ∷ 0 ∷ 0 ∷ 0 ∷ 10 ∷ 20 ∷ []) ∷ []
+
+unfoldable pub links : List Case
+links =
+    asked chain (plusList k1 1) (answered lower 0 (only ((7 ∷ []) ∷ (8 ∷ []) ∷ (9 ∷ []) ∷ [])))  -- along both links
+    ∷ asked chain (plusList k2 1) (answered lower 0 (only ((8 ∷ []) ∷ (9 ∷ []) ∷ [])))  -- never back
+    ∷ asked chain (plusList k3 1) (answered lower 0 (only ((9 ∷ []) ∷ [])))
+    ∷ asked (contains k3 1 k1 1 ∷ chain) (plusList k3 1) (answered lower 0 (only ((7 ∷ []) ∷ (8 ∷ []) ∷ (9 ∷ []) ∷ [])))  -- a circle of three
+    ∷ asked (contains k1 1 k1 1 ∷ isIn k1 1 7 ∷ []) (plusList k1 1) (answered lower 0 (only ((7 ∷ []) ∷ [])))  -- a link to itself
+    ∷ asked twoWays (7 ∷ 1 ∷ 1 ∷ 4 ∷ 0 ∷ k1 ∷ 1 ∷ 0 ∷ 1 ∷ 2 ∷ 0 ∷ 1 ∷ 1 ∷ 0 ∷ []) (answered lower 1 (only ((7 ∷ []) ∷ [])))  -- one row, one draw
+    ∷ asked stillLess (minusList k1 2) (answered upper 0 (allBut ((7 ∷ []) ∷ (8 ∷ []) ∷ [])))  -- what the other lacks, it lacks
+    ∷ asked stillLess (minusList k2 2) (answered upper 0 (allBut ((7 ∷ []) ∷ [])))
+    ∷ asked (contains k1 2 k2 2 ∷ isNotIn k2 2 7 ∷ []) (minusList k1 2) (answered upper 0 (allBut []))  -- "The same number under both polarities is two names."
+    ∷ asked (containedIn k1 1 k2 1 ∷ isIn k2 1 7 ∷ []) (plusList k1 1) (answered lower 0 (only []))
+    -- P draws 7 and 8 through the + link; through a − link it finds 7 absent
+    ∷ record { filings = elsewhere; minute = 0; policy = P; query = Q; outcome = answered lower 2 (only []) }
+    ∷ record { filings = containedIn k1 2 k2 6 ∷ elsewhere; minute = 0; policy = P; query = Q; outcome = answered lower 2 (only ((7 ∷ []) ∷ [])) }
+    ∷ asked (contains k1 1 k2 1 ∷ isIn k2 1 7 ∷ contains k1 1 k2 1 ∷ []) (plusList k1 1) (answered lower 0 (only ((7 ∷ []) ∷ [])))  -- filed twice
+    ∷ asked malformed (plusList k1 1) (answered lower 0 (only ((8 ∷ []) ∷ [])))  -- 18 changes nothing
+    ∷ asked (link (k1 ∷ 2 ∷ 2 ∷ k2 ∷ 2 ∷ []) ∷ isNotIn k2 2 7 ∷ []) (minusList k1 2) (answered upper 0 (allBut []))  -- polarity 2 is none
+    -- the certificate's term counts; "Links have no term of validity."
+    ∷ record { filings = forATerm; minute = 19; policy = noDefinitions; query = plusList k1 1; outcome = answered lower 0 (only ((7 ∷ []) ∷ [])) }
+    ∷ record { filings = forATerm; minute = 20; policy = noDefinitions; query = plusList k1 1; outcome = answered lower 0 (only []) }
+    -- l with k1 for 5: a variable issuer's list is read through links too
+    ∷ asked (contains k1 1 k2 1 ∷ isIn k2 1 7 ∷ []) (7 ∷ 2 ∷ 1 ∷ 1 ∷ 1 ∷ 1 ∷ 0 ∷ k1 ∷ 1 ∷ 2 ∷ 0 ∷ 1 ∷ 4 ∷ 1 ∷ 0 ∷ 1 ∷ 0 ∷ 1 ∷ 2 ∷ 1 ∷ 1 ∷ 1 ∷ 1 ∷ [])
+    (answered lower 2 (only ((7 ∷ []) ∷ [])))
+    ∷ []
+
 abbrev pub AllHold : Type 0
 AllHold = All Holds cases
 
 abbrev pub TermsHold : Type 0
 TermsHold = All Holds terms
+
+abbrev pub LinksHold : Type 0
+LinksHold = All Holds links

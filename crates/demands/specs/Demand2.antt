@@ -1,6 +1,7 @@
 -- Demand 2: "An answered query equals the QCM meaning of policy and query in the minimal model of the filed certificates, as rows, form, verdict and number
 -- of draws; refusals occur under the listed conditions and under no others." (The refusals: `query` of Demand 1.) Document 02, N4: the call "reads only the
--- certificates that hold then", so the minimal model is that of its minute.
+-- certificates that hold then", so the minimal model is that of its minute; N5: with links it is "the least + lists and the greatest − lists that satisfy every
+-- certificate and link".
 use Prim.Native.Nat.{ℕ, _+_, _*_}
 use mathlib.Core.Path.{_≡_}
 use mathlib.Core.Logic.{_↔_}
@@ -12,13 +13,14 @@ use Rattle.rows.specs.Word.{Words}
 use Rattle.rows.specs.Row.{Row, IsRow}
 use Rattle.rows.specs.Sets.{RowSet, has, listing}
 use Rattle.rows.specs.Layout.{setWords, soundSet, setIn}
-use Rattle.certificates.specs.Store.{certificatesAt}
+use Rattle.certificates.specs.Stores.{Stores, heldIn}
 use Rattle.policy.specs.Syntax.{Expr}
 use Rattle.policy.specs.Polarity.{Verdict}
 use Rattle.policy.specs.Checking.{checked, refused, check}
 use Rattle.policy.specs.Judgement.{verdict, judge}
-use Rattle.meaning.specs.Evidence.{Evidence, heldIn}
-use Rattle.meaning.specs.World.{World, Minimal}
+use Rattle.meaning.specs.Evidence.{Evidence, namesHeld}
+use Rattle.meaning.specs.World.{World}
+use Rattle.meaning.specs.Model.{Minimal}
 use Rattle.meaning.specs.Belonging.{BelongsTo}
 use Rattle.demands.specs.Query.{answered, readFrom, Call, queryCall, answerArea}
 
@@ -43,12 +45,13 @@ pub record LaidOut (area now : List ℕ) (S : RowSet) : Type 0 where
   pub sound : soundSet now ≡ true
   pub reads : setIn now ≡ S
 
--- and its rows are those that belong to the query in the minimal model, which there is
-pub record Demand2 (store : List ℕ) (c : Call) (v : Verdict) (k : ℕ) (S : RowSet) : Type 1 where
-  pub answer : Answer (heldIn (c .minute) store) c v k S
+-- and its rows are those that belong to the query in the minimal model of what the two stores hold at the call's minute; there is one
+pub record Demand2 (s : Stores) (c : Call) (v : Verdict) (k : ℕ) (S : RowSet) : Type 1 where
+  pub answer : Answer (namesHeld (heldIn (c .minute) s)) c v k S
   pub laidOut : LaidOut (c .answer) (answerArea (answered v k S) (c .answer)) S
-  pub rows : (W : World) → Minimal (certificatesAt (c .minute) store) W → (r : Row) → IsRow r → T (has S r) ↔ InQuery c W r
-  pub model : (W : World) × Minimal (certificatesAt (c .minute) store) W
+  pub rows : (W : World) → Minimal (heldIn (c .minute) s) W → (r : Row) → IsRow r → T (has S r) ↔ InQuery c W r
+  pub model : (W : World) × Minimal (heldIn (c .minute) s) W
 
+-- (The store's words are words; of the link store's none need be, since no row is made of them.)
 abbrev pub Theorem : Type 1
-Theorem = (store : List ℕ) → Words store → (c : Call) → CallWords c → (v : Verdict) (k : ℕ) (S : RowSet) → queryCall store c ≡ answered v k S → Demand2 store c v k S
+Theorem = (s : Stores) → Words (s .store) → (c : Call) → CallWords c → (v : Verdict) (k : ℕ) (S : RowSet) → queryCall s c ≡ answered v k S → Demand2 s c v k S

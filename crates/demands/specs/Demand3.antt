@@ -8,83 +8,83 @@
 -- in the earlier one, and exact answers are equal in form and rows."
 --
 -- Document 02, N4: "The worlds of a minute are those where all certificates accepted so far that hold then are true; demand 3 speaks of these, and two points
--- are compared at one minute."
-use Prim.Native.Nat.{ℕ, _+_, _*_}
+-- are compared at one minute." N5: "Demand 3's lists now hold filings of both kinds, into two empty stores, and 'held' counts those of the filing's own kind
+-- alone. In its worlds the links accepted so far are true as well."
+use Prim.Native.Nat.{ℕ}
 use mathlib.Core.Path.{_≡_}
 use mathlib.Core.Logic.{_↔_}
 use mathlib.Core.Bool.{true}
 use mathlib.Core.List.{List, [], _∷_, _++_}
 use lib.Dec.{T}
-use lib.ListN.{length, drop}
 use Rattle.rows.specs.Word.{All, Words}
-use Rattle.rows.specs.Ordered.{_∈_}
 use Rattle.rows.specs.Row.{Row, IsRow}
 use Rattle.rows.specs.Sets.{RowSet, has}
 use Rattle.rows.specs.Records.{countOf}
-use Rattle.certificates.specs.Certificate.{Certificate, recordWords, saidAt}
-use Rattle.certificates.specs.Store.{records, soundStore}
-use Rattle.certificates.specs.Filing.{replyGiven, fileReply, storeAfter, storeAt, accepted}
+use Rattle.certificates.specs.Filing.{Kind, soundIn, Keeps}
+use Rattle.certificates.specs.Store.{certificateKind}
+use Rattle.certificates.specs.Link.{linkKind}
+use Rattle.certificates.specs.Stores.{AnyFiling, certificate, link, Stores, replyAt, storesAfter, storesAt, acceptedCertificates, acceptedLinks, replyAfter, Held, heldAfter}
 use Rattle.policy.specs.Polarity.{Verdict, exact, lower, upper}
 use Rattle.meaning.specs.Evidence.{namesHeld}
 use Rattle.meaning.specs.World.{World, AllTrue}
 use Rattle.demands.specs.Query.{answered, refused, Call, queryCall, answerArea}
-use Rattle.demands.specs.Refusal.{Refusal}
+use Rattle.demands.specs.Refusal.{allSound, Refusal}
 use Rattle.demands.specs.Demand2.{CallWords, InQuery, Answer, LaidOut}
 
--- "An empty store is a sound one with the count 0, whatever words follow."
-pub record EmptyStore (store : List ℕ) : Type 0 where
-  pub sound : soundStore store ≡ true
+-- "An empty store is a sound one with the count 0, whatever words follow." Of either kind:
+pub record Empty (kind : Kind) (store : List ℕ) : Type 0 where
+  pub sound : soundIn kind store ≡ true
   pub none : countOf store ≡ 0
 
+-- "two empty stores"
+pub record EmptyStores (s : Stores) : Type 0 where
+  pub store : Empty certificateKind (s .store)
+  pub links : Empty linkKind (s .links)
+
 -- "A point lies before the first filing or after any of them."
-pub record Point (filings : List (List ℕ)) : Type 0 where
-  pub passed : List (List ℕ)
-  pub ahead : List (List ℕ)
+pub record Point (filings : List AnyFiling) : Type 0 where
+  pub passed : List AnyFiling
+  pub ahead : List AnyFiling
   pub whole : filings ≡ passed ++ ahead
 
-pub record Earlier {filings : List (List ℕ)} (p q : Point filings) : Type 0 where
-  pub between : List (List ℕ)
+pub record Earlier {filings : List AnyFiling} (p q : Point filings) : Type 0 where
+  pub between : List AnyFiling
   pub reached : q .passed ≡ p .passed ++ between
 
--- what a portal does with the store: it files words, or asks a query
+-- what a portal does with the stores: it files words of either kind, or asks a query
 pub data Event : Type 0 where
-  files : List ℕ → Event
+  files : AnyFiling → Event
   asks : Call → Event
 
--- the store that a call leaves, as the contracts of `file` and of `query` say
-unfoldable pub storeLeft : Event → List ℕ → List ℕ
-unfolding storeAfter
-storeLeft (files w) store = storeAfter store w
-storeLeft (asks c) store = store
+-- the stores that a call leaves, as the contracts of filing and of `query` say
+unfoldable pub storesLeft : Event → Stores → Stores
+unfolding storesAfter
+storesLeft (files f) s = storesAfter s f
+storesLeft (asks c) s = s
 
-unfoldable pub storeThrough : List ℕ → List Event → List ℕ
-unfolding storeLeft
-storeThrough store [] = store
-storeThrough store (e ∷ events) = storeThrough (storeLeft e store) events
+unfoldable pub storesThrough : Stores → List Event → Stores
+unfolding storesLeft
+storesThrough s [] = s
+storesThrough s (e ∷ events) = storesThrough (storesLeft e s) events
 
-unfoldable pub filingsIn : List Event → List (List ℕ)
+unfoldable pub filingsIn : List Event → List AnyFiling
 filingsIn [] = []
-filingsIn (files w ∷ events) = w ∷ filingsIn events
+filingsIn (files f ∷ events) = f ∷ filingsIn events
 filingsIn (asks c ∷ events) = filingsIn events
 
--- what the certificates accepted by these filings say that hold at the minute
-unfoldable pub heldAfter : ℕ → List (List ℕ) → List Certificate
-unfolding accepted saidAt
-heldAfter minute passed = saidAt minute (accepted passed)
+-- all that is filed is words
+unfoldable pub wordsFiled : AnyFiling → List ℕ
+wordsFiled (certificate w) = w
+wordsFiled (link w) = w
 
--- what the store holds at a point
-pub record StoreHolds (first now : List ℕ) (passed : List (List ℕ)) : Type 0 where
-  pub sound : soundStore now ≡ true
-  pub just : (w : List ℕ) → (w ∈ records now) ↔ (w ∈ accepted passed)
-  pub count : countOf now ≡ length (accepted passed)
-  pub size : length now ≡ length first
-  pub untouched : drop (1 + recordWords * countOf now) now ≡ drop (1 + recordWords * countOf now) first
+abbrev pub FiledWords : List AnyFiling → Type 0
+FiledWords filings = All (λ f. Words (wordsFiled f)) filings
 
--- what a verdict promises of the rows, where these certificates are held
-pub record Bounds (cs : List Certificate) (c : Call) (v : Verdict) (S : RowSet) : Type 1 where
-  pub lowerRows : v ≡ lower → (r : Row) → IsRow r → T (has S r) ↔ ((W : World) → AllTrue W cs → InQuery c W r)
-  pub upperRows : v ≡ upper → (r : Row) → IsRow r → (¬ T (has S r)) ↔ ((W : World) → AllTrue W cs → ¬ InQuery c W r)
-  pub exactRows : v ≡ exact → (W : World) → AllTrue W cs → (r : Row) → IsRow r → T (has S r) ↔ InQuery c W r
+-- what a verdict promises of the rows, where these certificates and links are held
+pub record Bounds (h : Held) (c : Call) (v : Verdict) (S : RowSet) : Type 1 where
+  pub lowerRows : v ≡ lower → (r : Row) → IsRow r → T (has S r) ↔ ((W : World) → AllTrue W h → InQuery c W r)
+  pub upperRows : v ≡ upper → (r : Row) → IsRow r → (¬ T (has S r)) ↔ ((W : World) → AllTrue W h → ¬ InQuery c W r)
+  pub exactRows : v ≡ exact → (W : World) → AllTrue W h → (r : Row) → IsRow r → T (has S r) ↔ InQuery c W r
 
 -- two answers to one query under one policy, the second at a later point
 pub record Grows (v v′ : Verdict) (S S′ : RowSet) : Type 0 where
@@ -93,35 +93,35 @@ pub record Grows (v v′ : Verdict) (S S′ : RowSet) : Type 0 where
   pub upperShrinks : v ≡ upper → (r : Row) → IsRow r → T (has S′ r) → T (has S r)
   pub exactStays : v ≡ exact → S ≡ S′
 
-pub record Demand3 (store : List ℕ) (filings : List (List ℕ)) : Type 1 where
-  -- each filing is answered by what was accepted before it
-  pub replies : (p : Point filings) (w : List ℕ) (rest : List (List ℕ)) → p .ahead ≡ w ∷ rest →
-      fileReply (storeAt store (p .passed)) w ≡ replyGiven (accepted (p .passed)) w
-  -- the store is sound and holds just what was accepted
-  pub holds : (p : Point filings) → StoreHolds store (storeAt store (p .passed)) (p .passed)
-  -- "A query call there reads the store as it then is, and changes nothing in it": whatever is asked between the filings, the store is as they alone leave it
-  pub asked : (p : Point filings) (events : List Event) → filingsIn events ≡ p .passed → storeThrough store events ≡ storeAt store (p .passed)
-  -- a call is refused with just the refusals that apply where the store is sound (8 never does) and says what was accepted and holds
+pub record Demand3 (s : Stores) (filings : List AnyFiling) : Type 1 where
+  -- each filing is answered by what was accepted before it, of its own kind
+  pub replies : (p : Point filings) (f : AnyFiling) (rest : List AnyFiling) → p .ahead ≡ f ∷ rest → replyAt (storesAt s (p .passed)) f ≡ replyAfter (p .passed) f
+  -- each store is sound and holds just what was accepted of its kind
+  pub holds : (p : Point filings) → Keeps certificateKind (s .store) (storesAt s (p .passed) .store) (acceptedCertificates (p .passed))
+  pub holdsLinks : (p : Point filings) → Keeps linkKind (s .links) (storesAt s (p .passed) .links) (acceptedLinks (p .passed))
+  -- "A query call there reads the store as it then is, and changes nothing in it": whatever is asked between the filings, the stores are as they alone leave them
+  pub asked : (p : Point filings) (events : List Event) → filingsIn events ≡ p .passed → storesThrough s events ≡ storesAt s (p .passed)
+  -- a call is refused with just the refusals that apply where both stores are sound (8 and 18 never do) and say what was accepted and holds
   pub refuses : (p : Point filings) (c : Call) (n part : ℕ) →
-      (queryCall (storeAt store (p .passed)) c ≡ refused n part) ↔ Refusal true (namesHeld (heldAfter (c .minute) (p .passed))) c n part
+      (queryCall (storesAt s (p .passed)) c ≡ refused n part) ↔ Refusal allSound (namesHeld (heldAfter (c .minute) (p .passed))) c n part
   -- and answered exactly when none does
   pub answers : (p : Point filings) (c : Call) →
-      ((v : Verdict) × (k : ℕ) × (S : RowSet) × (queryCall (storeAt store (p .passed)) c ≡ answered v k S)) ↔
-      (¬ ((n : ℕ) × (part : ℕ) × Refusal true (namesHeld (heldAfter (c .minute) (p .passed))) c n part))
+      ((v : Verdict) × (k : ℕ) × (S : RowSet) × (queryCall (storesAt s (p .passed)) c ≡ answered v k S)) ↔
+      (¬ ((n : ℕ) × (part : ℕ) × Refusal allSound (namesHeld (heldAfter (c .minute) (p .passed))) c n part))
   -- an answer has document 01's verdict, with the set and the draws that reading gives;
   pub answer : (p : Point filings) (c : Call) (v : Verdict) (k : ℕ) (S : RowSet) →
-      queryCall (storeAt store (p .passed)) c ≡ answered v k S → Answer (namesHeld (heldAfter (c .minute) (p .passed))) c v k S
+      queryCall (storesAt s (p .passed)) c ≡ answered v k S → Answer (namesHeld (heldAfter (c .minute) (p .passed))) c v k S
   -- all that was filed and asked being words, it has document 01's layout
-  pub laidOut : All Words filings → (p : Point filings) (c : Call) → CallWords c → (v : Verdict) (k : ℕ) (S : RowSet) →
-      queryCall (storeAt store (p .passed)) c ≡ answered v k S → LaidOut (c .answer) (answerArea (answered v k S) (c .answer)) S
+  pub laidOut : FiledWords filings → (p : Point filings) (c : Call) → CallWords c → (v : Verdict) (k : ℕ) (S : RowSet) →
+      queryCall (storesAt s (p .passed)) c ≡ answered v k S → LaidOut (c .answer) (answerArea (answered v k S) (c .answer)) S
   -- and the rows that its verdict promises;
-  pub bounds : All Words filings → (p : Point filings) (c : Call) → CallWords c → (v : Verdict) (k : ℕ) (S : RowSet) →
-      queryCall (storeAt store (p .passed)) c ≡ answered v k S → Bounds (heldAfter (c .minute) (p .passed)) c v S
+  pub bounds : FiledWords filings → (p : Point filings) (c : Call) → CallWords c → (v : Verdict) (k : ℕ) (S : RowSet) →
+      queryCall (storesAt s (p .passed)) c ≡ answered v k S → Bounds (heldAfter (c .minute) (p .passed)) c v S
   -- over two points, at one minute, lower answers grow, upper answers shrink, exact answers stay; the areas lent may differ
-  pub later : All Words filings → (p q : Point filings) → Earlier p q → (c d : Call) → CallWords c → c .policy ≡ d .policy → c .query ≡ d .query → c .minute ≡ d .minute →
+  pub later : FiledWords filings → (p q : Point filings) → Earlier p q → (c d : Call) → CallWords c → c .policy ≡ d .policy → c .query ≡ d .query → c .minute ≡ d .minute →
       (v v′ : Verdict) (k k′ : ℕ) (S S′ : RowSet) →
-      queryCall (storeAt store (p .passed)) c ≡ answered v k S → queryCall (storeAt store (q .passed)) d ≡ answered v′ k′ S′ → Grows v v′ S S′
+      queryCall (storesAt s (p .passed)) c ≡ answered v k S → queryCall (storesAt s (q .passed)) d ≡ answered v′ k′ S′ → Grows v v′ S S′
 
 -- the theorem
 abbrev pub Theorem : Type 1
-Theorem = (store : List ℕ) → EmptyStore store → (filings : List (List ℕ)) → Demand3 store filings
+Theorem = (s : Stores) → EmptyStores s → (filings : List AnyFiling) → Demand3 s filings

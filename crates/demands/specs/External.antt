@@ -10,7 +10,7 @@ use Rattle.rows.specs.Word.{All, Words}
 use Rattle.rows.specs.Row.{Row, IsRow}
 use Rattle.rows.specs.Name.{plus}
 use Rattle.rows.specs.Sets.{RowSet, has}
-use Rattle.certificates.specs.Filing.{storeAt}
+use Rattle.certificates.specs.Stores.{AnyFiling, Stores, storesAt, heldAfter}
 use Rattle.policy.specs.Leaf.{finite, listed}
 use Rattle.policy.specs.Syntax.{atom, Expr, leaf}
 use Rattle.policy.specs.Polarity.{Known, lower}
@@ -21,7 +21,7 @@ use Rattle.meaning.specs.World.{World, AllTrue}
 use Rattle.meaning.specs.Belonging.{Lists, InList, Meanings, BelongsBy, Belongs, meaningsBy, meanings}
 use Rattle.demands.specs.Query.{answered, Call, queryCall}
 use Rattle.demands.specs.Demand2.{CallWords}
-use Rattle.demands.specs.Demand3.{EmptyStore, Point, heldAfter}
+use Rattle.demands.specs.Demand3.{EmptyStores, Point, FiledWords}
 
 -- ---- the source's transformation
 
@@ -81,21 +81,21 @@ Unchanged = (policy out : List ℕ) (entries : List Entry) (source : List Expr) 
 
 -- ---- what a curator can rely on: "compromised keys are not relied on in determining the user's policies"
 
--- a lower answer to "definition d" (3 d) under the output of an external policy, at a point of a list of filings from an empty store, as in demand 3
+-- a lower answer to "definition d" (3 d) under the output of an external policy, at a point of a list of filings into two empty stores, as in demand 3
 pub record LowerAnswer (policy : List ℕ) (d : ℕ) (S : RowSet) : Type 0 where
   pub out : List ℕ
   pub rewrites : rewrite policy ≡ rewritten out
-  pub store : List ℕ
-  pub empty : EmptyStore store
-  pub filings : List (List ℕ)
-  pub filed : All Words filings
+  pub stores : Stores
+  pub empty : EmptyStores stores
+  pub filings : List AnyFiling
+  pub filed : FiledWords filings
   pub point : Point filings
   pub call : Call
   pub words : CallWords call
   pub policyIs : call .policy ≡ out
   pub queryIs : call .query ≡ 3 ∷ d ∷ []
   pub draws : ℕ
-  pub answer : queryCall (storeAt store (point .passed)) call ≡ answered lower draws S
+  pub answer : queryCall (storesAt stores (point .passed)) call ≡ answered lower draws S
 
 -- one key's lists left out
 unfoldable pub without : ℕ → Lists → Lists
@@ -107,9 +107,11 @@ unfolding without BelongsBy meaningsBy InList
 withoutKey key W [] = []
 withoutKey key W (e ∷ es) = meaningsBy (without key (InList W)) es (Belongs W [] e [] ∷ [])
 
--- A row that compromised keys alone would bring in is in no lower answer to the query 3 d.
+-- A row that compromised keys alone would bring in is in no lower answer to the query 3 d. (Where a link says that a list of another key contains one of a
+-- compromised key, that other key brings the row in.)
 pub record NoneByCompromised (policy : List ℕ) (entries : List Entry) (source : List Expr) (d : ℕ) (S : RowSet) (a : LowerAnswer policy d S) : Type 1 where
-  -- in every world where all certificates accepted so far that hold at the call's minute are true, each of its rows belongs to the source's transformation of the definition
+  -- in every world where all certificates accepted so far that hold at the call's minute, and all links accepted, are true, each of its rows belongs to the
+  -- source's transformation of the definition
   pub rows : (W : World) → AllTrue W (heldAfter (a .call .minute) (a .point .passed)) → (r : Row) → IsRow r → T (has S r) → getD (transformed W entries source) d (λ x. ⊥) r
   -- a key that is compromised in one such world brings none of them in: each belongs to the definition there without that key's lists
   pub notByKey : keysListed entries ≡ true → (W : World) → AllTrue W (heldAfter (a .call .minute) (a .point .passed)) → (key : ℕ) → getD (meanings W source []) 0 (λ x. ⊥) (key ∷ []) →

@@ -1,18 +1,21 @@
--- Document 01, "Reading" and the refusal table: the query call, in the order "1, 2; each definition, then the query; 8; 11; then reading, first met".
+-- Document 01, "Reading" and the refusal table: the query call, in the order "1, 2; each definition, then the query; 8; 11; then reading, first met", with
+-- document 02's 18 (N5) "in a query right after 8".
 use Prim.Native.Nat.{ℕ}
 use mathlib.Core.Bool.{Bool, true, false, _&&_}
 use mathlib.Core.List.{List, [], _∷_, _++_}
 use lib.Dec.{leb}
 use lib.ListN.{length}
-use Rattle.refusals.specs.RefusalTable.{badStore, shortArea, queryPart, noPart}
+use Rattle.refusals.specs.RefusalTable.{badStore, badLink, shortArea, queryPart, noPart}
 use Rattle.rows.specs.Sets.{RowSet}
 use Rattle.rows.specs.Layout.{setRoom, written}
-use Rattle.certificates.specs.Store.{soundStore, certificatesAt}
+use Rattle.certificates.specs.Store.{soundStore}
+use Rattle.certificates.specs.Link.{soundLinks}
+use Rattle.certificates.specs.Stores.{Stores, heldIn}
 use Rattle.policy.specs.Syntax.{Expr}
 use Rattle.policy.specs.Polarity.{Verdict}
 use Rattle.policy.specs.Checking.{checked, check}
 use Rattle.policy.specs.Checking as Checking
-use Rattle.meaning.specs.Evidence.{Evidence, namesHeld, heldIn}
+use Rattle.meaning.specs.Evidence.{Evidence, namesHeld}
 use Rattle.meaning.specs.Reading.{done, read}
 use Rattle.meaning.specs.Reading as Reads
 
@@ -38,7 +41,7 @@ definitionRoom = 10272
 abbrev pub scratchRoom : ℕ
 scratchRoom = 16384
 
--- what a query call is given besides the store; "A query call takes a minute" (document 02, N4), any word at all
+-- what a query call is given besides the stores; "A query call takes a minute" (document 02, N4), any word at all
 pub record Call : Type 0 where
   pub policy : List ℕ
   pub query : List ℕ
@@ -46,6 +49,10 @@ pub record Call : Type 0 where
   pub answer : List ℕ
   pub definitions : List ℕ
   pub scratch : List ℕ
+
+-- lent to a call: the policy, the query, the minute and the three areas
+abbrev pub lent : List ℕ → List ℕ → ℕ → List ℕ → List ℕ → List ℕ → Call
+lent policy query minute answer definitions scratch = record { policy = policy; query = query; minute = minute; answer = answer; definitions = definitions; scratch = scratch }
 
 -- the three areas are long enough
 unfoldable pub roomy : Call → Bool
@@ -62,12 +69,18 @@ outcomeFrom names c = elim (check (c .policy) (c .query)) [
   ]
 ]
 
--- the query call on a store
-unfoldable pub queryCall : List ℕ → Call → Outcome
-unfolding check soundStore outcomeFrom namesHeld certificatesAt
-queryCall store c = elim (check (c .policy) (c .query)) [
+-- the query call on the stores: 8, then 18, whether a name is read or not; what they hold at its minute is all that it reads names from
+unfoldable pub queryCall : Stores → Call → Outcome
+unfolding check soundStore soundLinks outcomeFrom namesHeld heldIn
+queryCall s c = elim (check (c .policy) (c .query)) [
   | Checking.refused n part ↦ refused n part
-  | checked es q v ↦ elim (soundStore store) [ false ↦ refused badStore noPart | true ↦ outcomeFrom (heldIn (c .minute) store) c ]
+  | checked es q v ↦ elim (soundStore (s .store)) [
+    | false ↦ refused badStore noPart
+    | true ↦ elim (soundLinks (s .links)) [
+      | false ↦ refused badLink noPart
+      | true ↦ outcomeFrom (namesHeld (heldIn (c .minute) s)) c
+    ]
+  ]
 ]
 
 -- "An answer fills 2 + 5 × count words; the rest of its area stays"; a refused query leaves the area as it was
