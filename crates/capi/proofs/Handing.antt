@@ -3,7 +3,7 @@ use Prim.Native.Nat.{ℕ}
 use mathlib.Core.Path.{_≡_, sym, _∙_, ap}
 use mathlib.Core.List.{List}
 use Rattle.refusals.specs.RefusalTable.{noPart}
-use Rattle.certificates.specs.Filing.{FilingReply}
+use Rattle.certificates.specs.Stores.{Stores}
 use Rattle.store.specs.Reply.{filingIs}
 use Rattle.store.specs.declared.Filing.{Filing}
 use Rattle.store.specs.declared.Filing.the-variants as filing
@@ -24,18 +24,18 @@ use Rattle.engine.specs.declared.Reply.the-variants as reply
 use Rattle.capi.specs.Replies.{filingWord, noRefusal, noVerdict, handJudgement, handRewriting, RewrittenInto, handOutcome, Asked}
 
 -- filing
-module _ (f : FilingReply) (r : Filing) (is : filingIs r ≡ f) where
-  pub filed-word : r ≡ filing.Filed → 0 ≡ filingWord f
+module _ (r : Filing) where
+  pub filed-word : r ≡ filing.Filed → 0 ≡ filingWord (filingIs r)
   unfolding filingIs filingWord
-  filed-word e = ap filingWord (ap filingIs (sym e) ∙ is)
+  filed-word e = ap (λ (f : Filing). filingWord (filingIs f)) (sym e)
 
-  pub held-word : r ≡ filing.Held → 1 ≡ filingWord f
+  pub held-word : r ≡ filing.Held → 1 ≡ filingWord (filingIs r)
   unfolding filingIs filingWord
-  held-word e = ap filingWord (ap filingIs (sym e) ∙ is)
+  held-word e = ap (λ (f : Filing). filingWord (filingIs f)) (sym e)
 
-  pub refused-word : (n : ℕ) → r ≡ filing.Refused n → n ≡ filingWord f
+  pub refused-word : (n : ℕ) → r ≡ filing.Refused n → n ≡ filingWord (filingIs r)
   unfolding filingIs filingWord
-  refused-word n e = ap filingWord (ap filingIs (sym e) ∙ is)
+  refused-word n e = ap (λ (f : Filing). filingWord (filingIs f)) (sym e)
 
 -- judging
 pub hands-verdict : (j : Judged.JudgementReply) (r : Judgement) → r ≡ judgementFor j → (v : ℕ) → r ≡ judgement.Verdict v →
@@ -81,9 +81,9 @@ unfolding replyFor handOutcome drawsOf
 refused-outcome (answered w j s) r is n part e = impossible cc
 refused-outcome (refused m p) r is n part e = cc
 
-module _ (store : List ℕ) (c : Call) (r : Reply) (answer left : List ℕ) (said : Replied store c r answer left) where
-  pub hands-answer : (v k : ℕ) → r ≡ reply.Answered v k → Asked store c (record { number = noRefusal; part = noPart; verdict = v; draws = k }) answer left
-  hands-answer v k e = record { reply = answered-outcome (queryCall store c) r (said .reply) v k e; area = said .area; unchanged = said .unchanged }
+module _ (s : Stores) (c : Call) (r : Reply) (answer : List ℕ) (left : Stores) (said : Replied s c r answer left) where
+  pub hands-answer : (v k : ℕ) → r ≡ reply.Answered v k → Asked s c (record { number = noRefusal; part = noPart; verdict = v; draws = k }) answer left
+  hands-answer v k e = record { reply = answered-outcome (queryCall s c) r (said .reply) v k e; area = said .area; unchanged = said .unchanged }
 
-  pub hands-refused-query : (n part : ℕ) → r ≡ reply.Refused n part → Asked store c (record { number = n; part = part; verdict = noVerdict; draws = 0 }) answer left
-  hands-refused-query n part e = record { reply = refused-outcome (queryCall store c) r (said .reply) n part e; area = said .area; unchanged = said .unchanged }
+  pub hands-refused-query : (n part : ℕ) → r ≡ reply.Refused n part → Asked s c (record { number = n; part = part; verdict = noVerdict; draws = 0 }) answer left
+  hands-refused-query n part e = record { reply = refused-outcome (queryCall s c) r (said .reply) n part e; area = said .area; unchanged = said .unchanged }

@@ -5,6 +5,7 @@ use mathlib.Core.List.{List}
 use lib.ListN.{length}
 use Rattle.refusals.specs.RefusalTable.{noPart}
 use Rattle.certificates.specs.Filing.{FilingReply, filed, held, refused}
+use Rattle.certificates.specs.Stores.{Stores}
 use Rattle.policy.specs.Polarity.{verdictWord}
 use Rattle.policy.specs.Judgement as Judgement
 use Rattle.policy.specs.External.{Rewriting, rewritten, rewriteInto, areaAfter}
@@ -12,7 +13,7 @@ use Rattle.policy.specs.External as External
 use Rattle.demands.specs.Query.{Outcome, answered, Call, queryCall, answerArea, drawsOf}
 use Rattle.demands.specs.Query as Query
 
--- "Filing answers Filed, Held or Refused with a number": 0, 1, and 8, 9, 17 or 10
+-- "Filing answers Filed, Held or Refused with a number": 0, 1, and 8, 9, 17 or 10 of a certificate, 18 or 19 of a link
 unfoldable pub filingWord : FilingReply → ℕ
 filingWord filed = 0
 filingWord held = 1
@@ -66,12 +67,8 @@ unfolding drawsOf
 handOutcome (answered v k s) = record { number = noRefusal; part = noPart; verdict = verdictWord v; draws = drawsOf (answered v k s) }
 handOutcome (Query.refused n p) = record { number = n; part = p; verdict = noVerdict; draws = drawsOf (Query.refused n p) }
 
--- what a query call is given besides the store
-abbrev pub lent : List ℕ → List ℕ → ℕ → List ℕ → List ℕ → List ℕ → Call
-lent policy query minute answer definitions scratch = record { policy = policy; query = query; minute = minute; answer = answer; definitions = definitions; scratch = scratch }
-
--- the query call on this store handed this out, left these words in the answer area, and these in the store
-pub record Asked (store : List ℕ) (c : Call) (handed : HandedOutcome) (answer left : List ℕ) : Type 0 where
-  pub reply : handOutcome (queryCall store c) ≡ handed
-  pub area : answer ≡ answerArea (queryCall store c) (c .answer)
-  pub unchanged : left ≡ store
+-- the query call on these stores handed this out, left these words in the answer area, and these in the stores
+pub record Asked (s : Stores) (c : Call) (handed : HandedOutcome) (answer : List ℕ) (left : Stores) : Type 0 where
+  pub reply : handOutcome (queryCall s c) ≡ handed
+  pub area : answer ≡ answerArea (queryCall s c) (c .answer)
+  pub unchanged : left ≡ s

@@ -1,5 +1,6 @@
 // Queries answered.
-ghost use Rattle.capi.specs.Replies.{lent, Asked};
+ghost use Rattle.demands.specs.Query.{lent};
+ghost use Rattle.capi.specs.Replies.{Asked};
 use crate::NO_REFUSAL;
 use crate::NO_VERDICT;
 use engine::Reply;
@@ -13,6 +14,7 @@ pub extern "C" fn txb_query<'a>(
     query: &'a [u32],
     minute: u32,
     store: &[u32],
+    links: &[u32],
     answer: &mut [u32],
     definitions: &mut [u32],
     scratch: &mut [u32],
@@ -20,12 +22,21 @@ pub extern "C" fn txb_query<'a>(
     verdict: &mut u32,
     draws: &mut u32,
 ) -> u32
-    ensures { λ r. ⌜ Asked (now (store .entry))
+    ensures { λ r. ⌜ Asked (record { store = now (store .entry); links = now (links .entry) })
         (lent (now (policy .entry)) (now (query .entry)) minute (now (answer .entry)) (now (definitions .entry)) (now (scratch .entry)))
         (record { number = r; part = now (part .exit); verdict = now (verdict .exit); draws = now (draws .exit) })
-        (now (answer .exit)) (now (store .exit)) ⌝ }
+        (now (answer .exit)) (record { store = now (store .exit); links = now (links .exit) }) ⌝ }
 {
-    match ask(policy, query, minute, store, answer, definitions, scratch) {
+    match ask(
+        policy,
+        query,
+        minute,
+        store,
+        links,
+        answer,
+        definitions,
+        scratch,
+    ) {
         Reply::Answered {
             verdict: word,
             draws: made,

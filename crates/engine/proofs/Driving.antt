@@ -8,6 +8,7 @@ use Rattle.refusals.specs.RefusalTable.{queryPart}
 use Rattle.rows.specs.Sets.{RowSet}
 use Rattle.rows.specs.Layout.{setIn, setWords, put, written}
 use Rattle.rows.proofs.Lists.{length-snoc}
+use Rattle.certificates.specs.Stores.{Stores}
 use Rattle.policy.specs.Syntax.{Expr}
 use Rattle.policy.specs.Parse.{parse, parsed}
 use Rattle.policy.specs.Polarity.{Known, Verdict}
@@ -141,10 +142,10 @@ done-filled {area = area} say e = subst (λ (x : Read). IfDone Filled x area) e 
 
 -- ---- the definitions
 
-pub ready-listed : {store policy query definitions scratch : List ℕ} {n : ℕ} → Ready store policy query definitions scratch → getD policy 1 0 ≡ n → Listed policy n
+pub ready-listed : {s : Stores} {policy query definitions scratch : List ℕ} {n : ℕ} → Ready s policy query definitions scratch → getD policy 1 0 ≡ n → Listed policy n
 ready-listed {policy = policy} {query = query} ready counted = table-listed policy query counted (ready .passes)
 
-module _ {store policy : List ℕ} {count : ℕ} {definitions scratch : List ℕ} (ready : ReadyPolicy store policy count definitions scratch) {d : ℕ} (more : d < count) where
+module _ {s : Stores} {policy : List ℕ} {count : ℕ} {definitions scratch : List ℕ} (ready : ReadyPolicy s policy count definitions scratch) {d : ℕ} (more : d < count) where
   listed : Listed policy count
   listed = ready-listed (ready .ready) (ready .counted)
 
@@ -169,18 +170,18 @@ pub record ReadSoFar (policy : List ℕ) (count : ℕ) (f : From) (draws : ℕ) 
   pub sound : SoundFrom f
   pub means : (query : List ℕ) (es : List Expr) (q : Expr) (v : Verdict) → check policy query ≡ checked es q v → Rest policy count f draws es q v
 
-pub none-read : {minute : ℕ} {store policy : List ℕ} {count : ℕ} {definitions scratch : List ℕ} → ReadyPolicy store policy count definitions scratch →
-    ReadSoFar policy count (record { minute = minute; store = store; defs = definitions; known = 0 }) 0
+pub none-read : {minute : ℕ} {s : Stores} {policy : List ℕ} {count : ℕ} {definitions scratch : List ℕ} → ReadyPolicy s policy count definitions scratch →
+    ReadSoFar policy count (record { minute = minute; stores = s; defs = definitions; known = 0 }) 0
 unfolding setsIn
 none-read {policy = policy} ready = record {
   few = omega arith;
-  sound = record { store = ready .ready .sound; defs = λ d h. absurd (omega arith) };
+  sound = record { store = ready .ready .sound; links = ready .ready .links; defs = λ d h. absurd (omega arith) };
   means = λ query es q v h. record { rest = es; left = all-left policy query (ready .counted) h; goes = refl };
 }
 
 module _ {policy : List ℕ} {count : ℕ} {f : From} {draws : ℕ} (before : ReadSoFar policy count f draws) where
   module _ (more : f .known < count) {words : List ℕ} (is : words ≡ entryWords policy (entryAt policy (entryPlace (f .known)))) where
-    pub next-asked : {definitions₀ scratch₀ scratch : List ℕ} → ReadyPolicy (f .store) policy count definitions₀ scratch₀ → length scratch ≡ length scratch₀ → AskWhole f words scratch
+    pub next-asked : {definitions₀ scratch₀ scratch : List ℕ} → ReadyPolicy (f .stores) policy count definitions₀ scratch₀ → length scratch ≡ length scratch₀ → AskWhole f words scratch
     next-asked ready size =
         let n = next more (before .means (ready .query) (ready .ready .es) (ready .ready .q) (ready .ready .v) (ready .ready .passes) .left) in
         let space = ready .ready .space in
@@ -201,9 +202,9 @@ module _ {policy : List ℕ} {count : ℕ} {f : From} {draws : ℕ} (before : Re
           (n .e, n .others, b .goes ∙ ap (λ (xs : List Expr). readFrom (names f) xs q v (sets f) draws) (n .is), said .means (n .e) (rw is (n .parses)), n .left)
 
       pub next-read : {total : ℕ} {definitions : List ℕ} → r ≡ read.Done total → 642 * f .known + 642 ≤ length (f .defs) → definitions ≡ put (642 * f .known) (setWords (setIn scratch)) (f .defs) →
-          ReadSoFar policy count (record { minute = f .minute; store = f .store; defs = definitions; known = f .known + 1 }) total
+          ReadSoFar policy count (record { minute = f .minute; stores = f .stores; defs = definitions; known = f .known + 1 }) total
       unfolding setReadIs
-      next-read {total} is-done room e = subst (λ (z : List ℕ). ReadSoFar policy count (record { minute = f .minute; store = f .store; defs = z; known = f .known + 1 }) total) (sym e) (record {
+      next-read {total} is-done room e = subst (λ (z : List ℕ). ReadSoFar policy count (record { minute = f .minute; stores = f .stores; defs = z; known = f .known + 1 }) total) (sym e) (record {
         few = omega arith;
         sound = sound-more (before .sound) (done-filled said is-done) room;
         means = λ query es q v h.
@@ -216,7 +217,7 @@ module _ {policy : List ℕ} {count : ℕ} {f : From} {draws : ℕ} (before : Re
             };
       })
 
-      pub next-refused : {number : ℕ} → r ≡ read.Refused number → ReadDefinitions (record { minute = f .minute; store = f .store; defs = f .defs; known = count }) policy (Refused number (f .known))
+      pub next-refused : {number : ℕ} → r ≡ read.Refused number → ReadDefinitions (record { minute = f .minute; stores = f .stores; defs = f .defs; known = count }) policy (Refused number (f .known))
       unfolding SoundIf leftToRead setReadIs
       next-refused {number} is-refused = record {
         sound = tt;
@@ -225,12 +226,12 @@ module _ {policy : List ℕ} {count : ℕ} {f : From} {draws : ℕ} (before : Re
             n .2 ∙ read-refused f (n .0) (n .1) q v draws (n .3 ∙ ap (λ (x : Read). setReadIs x scratch) is-refused) ∙ ap (Query.refused number) (sets-length (f .known) (f .defs));
       }
 
-  pub all-read : count ≤ f .known → ReadDefinitions (record { minute = f .minute; store = f .store; defs = f .defs; known = count }) policy (Done draws)
+  pub all-read : count ≤ f .known → ReadDefinitions (record { minute = f .minute; stores = f .stores; defs = f .defs; known = count }) policy (Done draws)
   unfolding SoundIf leftToRead
   all-read h =
       let few = before .few in
       let e : f .known ≡ count = omega arith in
-      subst (λ (n : ℕ). ReadDefinitions (record { minute = f .minute; store = f .store; defs = f .defs; known = n }) policy (Done draws)) e (record {
+      subst (λ (n : ℕ). ReadDefinitions (record { minute = f .minute; stores = f .stores; defs = f .defs; known = n }) policy (Done draws)) e (record {
         sound = before .sound;
         means = λ query es q v p.
             let b = before .means query es q v p in
@@ -249,7 +250,7 @@ module _ {f : From} {policy : List ℕ} {progress : Progress} (said : ReadDefini
   }
 
   module _ {before : ℕ} (is-done : progress ≡ Done before) (counted : getD policy 1 0 ≡ f .known) where
-    pub query-asked : {query definitions₀ scratch₀ scratch : List ℕ} → Ready (f .store) policy query definitions₀ scratch₀ → length scratch ≡ length scratch₀ → AskWhole f query scratch
+    pub query-asked : {query definitions₀ scratch₀ scratch : List ℕ} → Ready (f .stores) policy query definitions₀ scratch₀ → length scratch ≡ length scratch₀ → AskWhole f query scratch
     unfolding SoundIf
     query-asked {query} ready size =
         let space = ready .space in

@@ -66,7 +66,7 @@ sets-same (suc m) a b h =
 
 -- the set of one definition more is put in its place
 abbrev withSet : From → List ℕ → From
-withSet f set = record { minute = f .minute; store = f .store; defs = put (642 * f .known) (setWords (setIn set)) (f .defs); known = f .known + 1 }
+withSet f set = record { minute = f .minute; stores = f .stores; defs = put (642 * f .known) (setWords (setIn set)) (f .defs); known = f .known + 1 }
 
 module _ {f : From} (sound : SoundFrom f) {set : List ℕ} (filled : Filled set) (room : 642 * f .known + 642 ≤ length (f .defs)) where
   fits : 642 * f .known + length (setWords (setIn set)) ≤ length (f .defs)
@@ -92,7 +92,7 @@ module _ {f : From} (sound : SoundFrom f) {set : List ℕ} (filled : Filled set)
       (drop-at (take at (f .defs)) _ at (length-take-le at (f .defs) (omega arith)) ∙ ap (λ (z : List ℕ). ws ++ z) (sym (drop-drop (length ws) at (f .defs))))
 
   pub sound-more : SoundFrom (withSet f set)
-  sound-more = record { store = sound .store; defs = λ d h. lies-at d (eq-or-lt-of-le (omega arith)) }
+  sound-more = record { store = sound .store; links = sound .links; defs = λ d h. lies-at d (eq-or-lt-of-le (omega arith)) }
     where
       lies-at : (d : ℕ) → (d ≡ f .known) ⊎ (d < f .known) → Filled (drop (setRoom * d) (withSet f set .defs))
       lies-at d (inl e) = subst (λ (j : ℕ). Filled (drop (642 * j) (withSet f set .defs))) (sym e) (stands-filled stands)

@@ -5,6 +5,8 @@ use mathlib.Core.Bool.{true}
 use mathlib.Core.List.{List, []}
 use lib.ListN.{length, getD}
 use Rattle.certificates.specs.Store.{soundStore}
+use Rattle.certificates.specs.Link.{soundLinks}
+use Rattle.certificates.specs.Stores.{Stores}
 use Rattle.policy.specs.Syntax.{Expr}
 use Rattle.policy.specs.Polarity.{Verdict, verdictWord}
 use Rattle.policy.specs.Checking.{checked, check}
@@ -16,20 +18,21 @@ use Rattle.engine.specs.declared.Reply.{Reply}
 use Rattle.engine.specs.declared.answering.Progress.{Progress}
 use Rattle.engine.specs.declared.answering.Progress.the-variants.{Done, Refused}
 
--- a policy and a query that passed, a sound store, and areas that are long enough
-pub record Ready (store policy query definitions scratch : List ℕ) : Type 0 where
+-- a policy and a query that passed, sound stores, and areas that are long enough
+pub record Ready (s : Stores) (policy query definitions scratch : List ℕ) : Type 0 where
   pub es : List Expr
   pub q : Expr
   pub v : Verdict
   pub passes : check policy query ≡ checked es q v
-  pub sound : soundStore store ≡ true
+  pub sound : soundStore (s .store) ≡ true
+  pub links : soundLinks (s .links) ≡ true
   pub room : definitionRoom ≤ length definitions
   pub space : scratchRoom ≤ length scratch
 
 -- that with some query, and the policy has so many definitions
-pub record ReadyPolicy (store policy : List ℕ) (count : ℕ) (definitions scratch : List ℕ) : Type 0 where
+pub record ReadyPolicy (s : Stores) (policy : List ℕ) (count : ℕ) (definitions scratch : List ℕ) : Type 0 where
   pub query : List ℕ
-  pub ready : Ready store policy query definitions scratch
+  pub ready : Ready s policy query definitions scratch
   pub counted : getD policy 1 0 ≡ count
 
 -- what is left of the reading when the definitions are read, or a refusal was met

@@ -4,7 +4,8 @@ ghost use mathlib.Core.Path.{_≡_};
 ghost use mathlib.Core.Bool.{true};
 ghost use lib.ListN.{length};
 ghost use Rattle.rows.specs.Layout.{setRoom, setIn, setWords, soundSet, put};
-ghost use Rattle.meaning.specs.Evidence.{heldIn};
+ghost use Rattle.certificates.specs.Stores.{heldIn};
+ghost use Rattle.meaning.specs.Evidence.{namesHeld};
 ghost use Rattle.engine.specs.Steps.{Ready, ReadyPolicy, ReadDefinitions, ReadAll};
 use crate::Reply;
 use policy_table::definition_words;
@@ -37,18 +38,19 @@ fn read_definitions(
     count: usize,
     minute: u32,
     store: &[u32],
+    links: &[u32],
     definitions: &mut [u32],
     scratch: &mut [u32],
 ) -> Progress
-    requires { ⌜ ReadyPolicy (now store) (now policy) count (now definitions) (now scratch) ⌝ }
-    ensures { λ r. ⌜ ReadDefinitions (record { minute = minute; store = now (store .entry); defs = now (definitions .exit); known = count }) (now (policy .entry)) r ⌝ }
+    requires { ⌜ ReadyPolicy (record { store = now store; links = now links }) (now policy) count (now definitions) (now scratch) ⌝ }
+    ensures { λ r. ⌜ ReadDefinitions (record { minute = minute; stores = record { store = now (store .entry); links = now (links .entry) }; defs = now (definitions .exit); known = count }) (now (policy .entry)) r ⌝ }
 {
     let mut draws: u32 = 0;
     let mut d: usize = 0;
     while d < count {
         let words = definition_words(policy, d);
         let given = Given { minute, known: d };
-        match read_whole(words, draws, scratch, given, store, definitions) {
+        match read_whole(words, draws, scratch, given, store, definitions, links) {
             Read::Refused(number) => {
                 let part = d as u32;
                 return Progress::Refused { number, part };
@@ -69,16 +71,17 @@ pub fn read_all(
     query: &[u32],
     minute: u32,
     store: &[u32],
+    links: &[u32],
     verdict: u32,
     answer: &mut [u32],
     definitions: &mut [u32],
     scratch: &mut [u32],
 ) -> Reply
-    requires { ⌜ Ready (now store) (now policy) (now query) (now definitions) (now scratch) × (setRoom ≤ length (now answer)) ⌝ }
-    ensures { λ r. ⌜ ReadAll (heldIn minute (now (store .entry))) (now (policy .entry)) (now (query .entry)) verdict (now (answer .entry)) r (now (answer .exit)) ⌝ }
+    requires { ⌜ Ready (record { store = now store; links = now links }) (now policy) (now query) (now definitions) (now scratch) × (setRoom ≤ length (now answer)) ⌝ }
+    ensures { λ r. ⌜ ReadAll (namesHeld (heldIn minute (record { store = now (store .entry); links = now (links .entry) }))) (now (policy .entry)) (now (query .entry)) verdict (now (answer .entry)) r (now (answer .exit)) ⌝ }
 {
     let count = policy[1] as usize;
-    match read_definitions(policy, count, minute, store, definitions, scratch) {
+    match read_definitions(policy, count, minute, store, links, definitions, scratch) {
         Progress::Refused { number, part } => Reply::Refused { number, part },
         Progress::Done(before) => match read_whole(
             query,
@@ -90,6 +93,7 @@ pub fn read_all(
             },
             store,
             definitions,
+            links,
         ) {
             Read::Refused(number) => Reply::Refused {
                 number,

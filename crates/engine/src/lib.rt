@@ -1,19 +1,21 @@
-// The query call: a policy and a query judged, then read from the certificates that hold at a minute.
+// The query call: a policy and a query judged, then read from the certificates that hold at a minute, along links.
 mod answering;
 
 ghost use mathlib.Core.Path.{_≡_};
 ghost use mathlib.Core.Bool.{_&&_};
 ghost use lib.Dec.{leb};
 ghost use Rattle.rows.specs.Layout.{setRoom};
-ghost use Rattle.demands.specs.Query.{definitionRoom, scratchRoom};
+ghost use Rattle.demands.specs.Query.{definitionRoom, scratchRoom, lent};
 ghost use Rattle.engine.specs.Reply.{Replied};
 use crate::answering::read_all;
 use judging::Judgement;
 use judging::judge;
+use refusals::BAD_LINK;
 use refusals::BAD_STORE;
 use refusals::NO_PART;
 use refusals::SHORT_AREA;
 use rows::SET_ROOM;
+use store::sound_links;
 use store::sound_store;
 
 pub enum Reply {
@@ -38,17 +40,20 @@ fn roomy(answer: usize, definitions: usize, scratch: usize) -> bool
     SCRATCH_ROOM <= scratch
 }
 
-// Answers a query under a policy from the certificates in the store that hold at the minute: 1 to 7, 8, 11, then what is met while reading.
+// Answers a query under a policy from the certificates in the store that hold at the minute, and the links: 1 to 7, 8, 18, 11, then what is met while reading.
 pub fn query<'a>(
     policy: &'a [u32],
     query: &'a [u32],
     minute: u32,
     store: &[u32],
+    links: &[u32],
     answer: &mut [u32],
     definitions: &mut [u32],
     scratch: &mut [u32],
 ) -> Reply
-    ensures { λ r. ⌜ Replied (now (store .entry)) (record { policy = now (policy .entry); query = now (query .entry); minute = minute; answer = now (answer .entry); definitions = now (definitions .entry); scratch = now (scratch .entry) }) r (now (answer .exit)) (now (store .exit)) ⌝ }
+    ensures { λ r. ⌜ Replied (record { store = now (store .entry); links = now (links .entry) })
+        (lent (now (policy .entry)) (now (query .entry)) minute (now (answer .entry)) (now (definitions .entry)) (now (scratch .entry)))
+        r (now (answer .exit)) (record { store = now (store .exit); links = now (links .exit) }) ⌝ }
 {
     match judge(policy, query) {
         Judgement::Refused { number, part } => Reply::Refused { number, part },
@@ -56,6 +61,12 @@ pub fn query<'a>(
             if !sound_store(store) {
                 return Reply::Refused {
                     number: BAD_STORE,
+                    part: NO_PART,
+                };
+            }
+            if !sound_links(links) {
+                return Reply::Refused {
+                    number: BAD_LINK,
                     part: NO_PART,
                 };
             }
@@ -70,6 +81,7 @@ pub fn query<'a>(
                 query,
                 minute,
                 store,
+                links,
                 verdict,
                 answer,
                 definitions,

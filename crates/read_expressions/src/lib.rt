@@ -39,13 +39,25 @@ fn read_expr(
     given: Given,
     store: &[u32],
     defs: &[u32],
+    links: &[u32],
 ) -> Read
-    requires { ⌜ AskExpr (from given (now store) (now defs)) (now words) at (now values) count (now area) ⌝ }
-    ensures { λ r. ⌜ SayExpr (from given (now (store .entry)) (now (defs .entry))) (now (words .entry)) at (now (values .entry)) count draws r (now (values .exit)) (now (area .exit)) ⌝ }
+    requires { ⌜ AskExpr (from given (now store) (now defs) (now links)) (now words) at (now values) count (now area) ⌝ }
+    ensures { λ r. ⌜ SayExpr (from given (now (store .entry)) (now (defs .entry)) (now (links .entry))) (now (words .entry)) at (now (values .entry)) count draws r (now (values .exit)) (now (area .exit)) ⌝ }
 {
     let code = words[at];
     if !is_node(code) {
-        return read_leaf(words, at, values, count, draws, area, given, store, defs);
+        return read_leaf(
+            words,
+            at,
+            values,
+            count,
+            draws,
+            area,
+            given,
+            store,
+            defs,
+            links,
+        );
     }
     if code == CODE_COMPREHENSION {
         let left = words[at + 1];
@@ -60,6 +72,7 @@ fn read_expr(
             given,
             store,
             defs,
+            links,
             left,
             SET_ROOM,
         );
@@ -74,6 +87,7 @@ fn read_expr(
         given,
         store,
         defs,
+        links,
         code == CODE_DIFFERENCE,
     )
 }
@@ -89,12 +103,24 @@ fn read_two(
     given: Given,
     store: &[u32],
     defs: &[u32],
+    links: &[u32],
     minus: bool,
 ) -> Read
-    requires { ⌜ AskTwo (from given (now store) (now defs)) (now words) at (now values) count (now area) ⌝ }
-    ensures { λ r. ⌜ SayTwo (from given (now (store .entry)) (now (defs .entry))) (now (words .entry)) at minus (now (values .entry)) count draws r (now (values .exit)) (now (area .exit)) ⌝ }
+    requires { ⌜ AskTwo (from given (now store) (now defs) (now links)) (now words) at (now values) count (now area) ⌝ }
+    ensures { λ r. ⌜ SayTwo (from given (now (store .entry)) (now (defs .entry)) (now (links .entry))) (now (words .entry)) at minus (now (values .entry)) count draws r (now (values .exit)) (now (area .exit)) ⌝ }
 {
-    match read_expr(words, at, values, count, draws, area, given, store, defs) {
+    match read_expr(
+        words,
+        at,
+        values,
+        count,
+        draws,
+        area,
+        given,
+        store,
+        defs,
+        links,
+    ) {
         Read::Refused(n) => Read::Refused(n),
         Read::Done(used) => {
             let second = skip_expr(words, at);
@@ -108,6 +134,7 @@ fn read_two(
                 given,
                 store,
                 defs,
+                links,
             ) {
                 Read::Refused(n) => Read::Refused(n),
                 Read::Done(total) => combine_parts(minus, total, area),
@@ -127,11 +154,12 @@ fn read_guards(
     given: Given,
     store: &[u32],
     defs: &[u32],
+    links: &[u32],
     left: u32,
     free: usize,
 ) -> Read
-    requires { ⌜ AskBody (from given (now store) (now defs)) (now words) at left (now values) count (now area) free ⌝ }
-    ensures { λ r. ⌜ SayBody (from given (now (store .entry)) (now (defs .entry))) (now (words .entry)) at left (now (values .entry)) count draws free (now (area .entry)) r (now (values .exit)) (now (area .exit)) ⌝ }
+    requires { ⌜ AskBody (from given (now store) (now defs) (now links)) (now words) at left (now values) count (now area) free ⌝ }
+    ensures { λ r. ⌜ SayBody (from given (now (store .entry)) (now (defs .entry)) (now (links .entry))) (now (words .entry)) at left (now (values .entry)) count draws free (now (area .entry)) r (now (values .exit)) (now (area .exit)) ⌝ }
 {
     if left == 0 {
         // Named, so that the answer's two parts are not written apart where calls write theirs, and read back together: see `row_of`.
@@ -150,6 +178,7 @@ fn read_guards(
             given,
             store,
             defs,
+            links,
             left - 1,
             free,
         ),
@@ -165,6 +194,7 @@ fn read_guards(
                     given,
                     store,
                     defs,
+                    links,
                     left - 1,
                     free,
                 );
@@ -181,6 +211,7 @@ fn read_guards(
             given,
             store,
             defs,
+            links,
             left - 1,
             free,
         ),
@@ -198,11 +229,12 @@ fn read_draw(
     given: Given,
     store: &[u32],
     defs: &[u32],
+    links: &[u32],
     left: u32,
     free: usize,
 ) -> Read
-    requires { ⌜ AskDraw (from given (now store) (now defs)) (now words) at left (now values) count (now area) free ⌝ }
-    ensures { λ r. ⌜ SayDraw (from given (now (store .entry)) (now (defs .entry))) (now (words .entry)) at left (now (values .entry)) count draws free (now (area .entry)) r (now (values .exit)) (now (area .exit)) ⌝ }
+    requires { ⌜ AskDraw (from given (now store) (now defs) (now links)) (now words) at left (now values) count (now area) free ⌝ }
+    ensures { λ r. ⌜ SayDraw (from given (now (store .entry)) (now (defs .entry)) (now (links .entry))) (now (words .entry)) at left (now (values .entry)) count draws free (now (area .entry)) r (now (values .exit)) (now (area .exit)) ⌝ }
 {
     match read_expr(
         words,
@@ -214,6 +246,7 @@ fn read_draw(
         given,
         store,
         defs,
+        links,
     ) {
         Read::Refused(n) => Read::Refused(n),
         Read::Done(before) => {
@@ -233,6 +266,7 @@ fn read_draw(
                 given,
                 store,
                 defs,
+                links,
                 left,
                 free,
                 pattern,
@@ -252,12 +286,13 @@ fn draw_rows(
     given: Given,
     store: &[u32],
     defs: &[u32],
+    links: &[u32],
     left: u32,
     free: usize,
     pattern: usize,
 ) -> Read
-    requires { ⌜ AskEach (from given (now store) (now defs)) (now words) pattern at left (now values) count (now area) free ⌝ }
-    ensures { λ r. ⌜ SayEach (from given (now (store .entry)) (now (defs .entry))) (now (words .entry)) pattern at left (now (values .entry)) count draws free (now (area .entry)) r (now (values .exit)) (now (area .exit)) ⌝ }
+    requires { ⌜ AskEach (from given (now store) (now defs) (now links)) (now words) pattern at left (now values) count (now area) free ⌝ }
+    ensures { λ r. ⌜ SayEach (from given (now (store .entry)) (now (defs .entry)) (now (links .entry))) (now (words .entry)) pattern at left (now (values .entry)) count draws free (now (area .entry)) r (now (values .exit)) (now (area .exit)) ⌝ }
 {
     let listed = wide(area[free + 1]);
     let mut used = draws;
@@ -282,6 +317,7 @@ fn draw_rows(
                     given,
                     store,
                     defs,
+                    links,
                     left,
                     free + SET_ROOM,
                 ) {
@@ -309,11 +345,12 @@ fn read_absent(
     given: Given,
     store: &[u32],
     defs: &[u32],
+    links: &[u32],
     left: u32,
     free: usize,
 ) -> Read
-    requires { ⌜ AskAbsent (from given (now store) (now defs)) (now words) at left (now values) count (now area) free ⌝ }
-    ensures { λ r. ⌜ SayAbsent (from given (now (store .entry)) (now (defs .entry))) (now (words .entry)) at left (now (values .entry)) count draws free (now (area .entry)) r (now (values .exit)) (now (area .exit)) ⌝ }
+    requires { ⌜ AskAbsent (from given (now store) (now defs) (now links)) (now words) at left (now values) count (now area) free ⌝ }
+    ensures { λ r. ⌜ SayAbsent (from given (now (store .entry)) (now (defs .entry)) (now (links .entry))) (now (words .entry)) at left (now (values .entry)) count draws free (now (area .entry)) r (now (values .exit)) (now (area .exit)) ⌝ }
 {
     let operand = skip_row(words, at);
     match expr_has(
@@ -326,6 +363,7 @@ fn read_absent(
         given,
         store,
         defs,
+        links,
         at,
     ) {
         Tested::Refused(n) => Read::Refused(n),
@@ -342,6 +380,7 @@ fn read_absent(
                 given,
                 store,
                 defs,
+                links,
                 left,
                 free,
             )
@@ -360,10 +399,11 @@ fn expr_has(
     given: Given,
     store: &[u32],
     defs: &[u32],
+    links: &[u32],
     row: usize,
 ) -> Tested
-    requires { ⌜ AskHas (from given (now store) (now defs)) (now words) at row (now values) count (now area) ⌝ }
-    ensures { λ r. ⌜ SayExprHas (from given (now (store .entry)) (now (defs .entry))) (now (words .entry)) at row (now (values .entry)) count draws r (now (values .exit)) ⌝ }
+    requires { ⌜ AskHas (from given (now store) (now defs) (now links)) (now words) at row (now values) count (now area) ⌝ }
+    ensures { λ r. ⌜ SayExprHas (from given (now (store .entry)) (now (defs .entry)) (now (links .entry))) (now (words .entry)) at row (now (values .entry)) count draws r (now (values .exit)) ⌝ }
 {
     let code = words[at];
     if !is_node(code) {
@@ -377,16 +417,28 @@ fn expr_has(
             given,
             store,
             defs,
+            links,
             row,
         );
     }
-    match read_expr(words, at, values, count, draws, area, given, store, defs) {
+    match read_expr(
+        words,
+        at,
+        values,
+        count,
+        draws,
+        area,
+        given,
+        store,
+        defs,
+        links,
+    ) {
         Read::Refused(n) => Tested::Refused(n),
         Read::Done(used) => told(has_row(words, row, values, count, area), used),
     }
 }
 
-// A whole definition or query that was checked: a sound store, the sets of the definitions before it, and the draws made so far.
+// A whole definition or query that was checked: sound stores, the sets of the definitions before it, and the draws made so far.
 pub fn read_whole(
     words: &[u32],
     draws: u32,
@@ -394,10 +446,22 @@ pub fn read_whole(
     given: Given,
     store: &[u32],
     defs: &[u32],
+    links: &[u32],
 ) -> Read
-    requires { ⌜ AskWhole (from given (now store) (now defs)) (now words) (now area) ⌝ }
-    ensures { λ r. ⌜ SayWhole (from given (now (store .entry)) (now (defs .entry))) (now (words .entry)) draws r (now (area .exit)) ⌝ }
+    requires { ⌜ AskWhole (from given (now store) (now defs) (now links)) (now words) (now area) ⌝ }
+    ensures { λ r. ⌜ SayWhole (from given (now (store .entry)) (now (defs .entry)) (now (links .entry))) (now (words .entry)) draws r (now (area .exit)) ⌝ }
 {
     let mut values = [0u32; 16];
-    read_expr(words, 0, &mut values, 0, draws, area, given, store, defs)
+    read_expr(
+        words,
+        0,
+        &mut values,
+        0,
+        draws,
+        area,
+        given,
+        store,
+        defs,
+        links,
+    )
 }

@@ -97,16 +97,27 @@ fn read_vetted(
     given: Given,
     store: &[u32],
     defs: &[u32],
+    links: &[u32],
 ) -> Read
-    requires { ⌜ AskLeaf (from given (now store) (now defs)) (now words) at (now values) count × (setRoom ≤ length (now area)) × (getD (now words) at 0 ≡ 8) ⌝ }
-    ensures { λ r. ⌜ SayLeaf (from given (now (store .entry)) (now (defs .entry))) (now (words .entry)) at (take count (now (values .entry))) draws r (now (area .exit)) ⌝ }
+    requires { ⌜ AskLeaf (from given (now store) (now defs) (now links)) (now words) at (now values) count × (setRoom ≤ length (now area)) × (getD (now words) at 0 ≡ 8) ⌝ }
+    ensures { λ r. ⌜ SayLeaf (from given (now (store .entry)) (now (defs .entry)) (now (links .entry))) (now (words .entry)) at (take count (now (values .entry))) draws r (now (area .exit)) ⌝ }
 {
     if issuer_among(words, at, values, count, given, defs) {
         clear(area, 0);
         Read::Done(draws)
     } else {
         let minute = given.minute;
-        read_name(words, at + 1, values, count, draws, area, minute, store)
+        read_name(
+            words,
+            at + 1,
+            values,
+            count,
+            draws,
+            area,
+            minute,
+            store,
+            links,
+        )
     }
 }
 
@@ -117,19 +128,32 @@ fn vetted_has(
     values: &[u32; 16],
     count: usize,
     draws: u32,
+    area: &mut [u32],
     given: Given,
     store: &[u32],
     defs: &[u32],
+    links: &[u32],
     row: usize,
 ) -> Tested
-    requires { ⌜ AskLeaf (from given (now store) (now defs)) (now words) at (now values) count × SomeRow (now words) row × (getD (now words) at 0 ≡ 8) ⌝ }
-    ensures { λ r. ⌜ SayLeafHas (from given (now (store .entry)) (now (defs .entry))) (now (words .entry)) at row (take count (now (values .entry))) draws r ⌝ }
+    requires { ⌜ AskLeaf (from given (now store) (now defs) (now links)) (now words) at (now values) count × (setRoom ≤ length (now area)) × SomeRow (now words) row × (getD (now words) at 0 ≡ 8) ⌝ }
+    ensures { λ r. ⌜ SayLeafHas (from given (now (store .entry)) (now (defs .entry)) (now (links .entry))) (now (words .entry)) at row (take count (now (values .entry))) draws r ⌝ }
 {
     if issuer_among(words, at, values, count, given, defs) {
         return told(false, draws);
     }
     let minute = given.minute;
-    name_has(words, at + 1, values, count, draws, minute, store, row)
+    name_has(
+        words,
+        at + 1,
+        values,
+        count,
+        draws,
+        area,
+        minute,
+        store,
+        links,
+        row,
+    )
 }
 
 // A leaf, by its code.
@@ -143,28 +167,50 @@ pub fn read_leaf(
     given: Given,
     store: &[u32],
     defs: &[u32],
+    links: &[u32],
 ) -> Read
-    requires { ⌜ AskLeaf (from given (now store) (now defs)) (now words) at (now values) count × (setRoom ≤ length (now area)) ⌝ }
-    ensures { λ r. ⌜ SayLeaf (from given (now (store .entry)) (now (defs .entry))) (now (words .entry)) at (take count (now (values .entry))) draws r (now (area .exit)) ⌝ }
+    requires { ⌜ AskLeaf (from given (now store) (now defs) (now links)) (now words) at (now values) count × (setRoom ≤ length (now area)) ⌝ }
+    ensures { λ r. ⌜ SayLeaf (from given (now (store .entry)) (now (defs .entry)) (now (links .entry))) (now (words .entry)) at (take count (now (values .entry))) draws r (now (area .exit)) ⌝ }
 {
     let code = words[at];
     if code == CODE_NAME {
         let minute = given.minute;
-        return read_name(words, at + 1, values, count, draws, area, minute, store);
+        return read_name(
+            words,
+            at + 1,
+            values,
+            count,
+            draws,
+            area,
+            minute,
+            store,
+            links,
+        );
     }
     if code == CODE_DEFINITION {
         copy(definition_set(defs, words[at + 1], given), area);
         return Read::Done(draws);
     }
     if code == CODE_VETTED {
-        return read_vetted(words, at, values, count, draws, area, given, store, defs);
+        return read_vetted(
+            words,
+            at,
+            values,
+            count,
+            draws,
+            area,
+            given,
+            store,
+            defs,
+            links,
+        );
     }
     // a literal's code is one more than the form of its set
     read_rows(words, at + 1, values, count, area, code - 1);
     Read::Done(draws)
 }
 
-// Whether the row written at `row` belongs to the leaf. A name's rows and a definition's are not copied for it.
+// Whether the row written at `row` belongs to the leaf. A definition's rows are not copied for it, and a name's hardly ever.
 pub fn leaf_has(
     words: &[u32],
     at: usize,
@@ -175,24 +221,59 @@ pub fn leaf_has(
     given: Given,
     store: &[u32],
     defs: &[u32],
+    links: &[u32],
     row: usize,
 ) -> Tested
-    requires { ⌜ AskLeaf (from given (now store) (now defs)) (now words) at (now values) count × (setRoom ≤ length (now area)) × SomeRow (now words) row ⌝ }
-    ensures { λ r. ⌜ SayLeafHas (from given (now (store .entry)) (now (defs .entry))) (now (words .entry)) at row (take count (now (values .entry))) draws r ⌝ }
+    requires { ⌜ AskLeaf (from given (now store) (now defs) (now links)) (now words) at (now values) count × (setRoom ≤ length (now area)) × SomeRow (now words) row ⌝ }
+    ensures { λ r. ⌜ SayLeafHas (from given (now (store .entry)) (now (defs .entry)) (now (links .entry))) (now (words .entry)) at row (take count (now (values .entry))) draws r ⌝ }
 {
     let code = words[at];
     if code == CODE_NAME {
         let minute = given.minute;
-        return name_has(words, at + 1, values, count, draws, minute, store, row);
+        return name_has(
+            words,
+            at + 1,
+            values,
+            count,
+            draws,
+            area,
+            minute,
+            store,
+            links,
+            row,
+        );
     }
     if code == CODE_DEFINITION {
         let set = definition_set(defs, words[at + 1], given);
         return told(has_row(words, row, values, count, set), draws);
     }
     if code == CODE_VETTED {
-        return vetted_has(words, at, values, count, draws, given, store, defs, row);
+        return vetted_has(
+            words,
+            at,
+            values,
+            count,
+            draws,
+            area,
+            given,
+            store,
+            defs,
+            links,
+            row,
+        );
     }
-    match read_leaf(words, at, values, count, draws, area, given, store, defs) {
+    match read_leaf(
+        words,
+        at,
+        values,
+        count,
+        draws,
+        area,
+        given,
+        store,
+        defs,
+        links,
+    ) {
         Read::Refused(n) => Tested::Refused(n),
         Read::Done(used) => told(has_row(words, row, values, count, area), used),
     }

@@ -20,7 +20,7 @@ use Rattle.read_names.proofs.Holding.{rows-none, rows-from}
 use Rattle.read_names.proofs.Walking.{words-there, new-rows, listed-start, listed-more, listed-same, listed-most}
 
 module _ {rs : List ℕ} {count : ℕ} (records : Records rs count) where
-  wide : (i : ℕ) → i < count → Width (rowAt rs i)
+  pub wide : (i : ℕ) → i < count → Width (rowAt rs i)
   wide i h =
       let r = sound-record (recordIn rs i) (records .sound i h) in
       let s = sound-width (fiveAt (recordIn rs i) 3) (r .row) in

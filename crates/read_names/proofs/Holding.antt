@@ -79,6 +79,15 @@ module _ (minute : ℕ) (rs : List ℕ) where
     step-keeps x (isTrue e) m = subst (λ (l : List Row). x ∈ l) (sym (rows-hold i e)) (insert-∈ rowBefore row-order (rowAt rs i) (rowsHeld minute rs i) x .1 (inr m))
     step-keeps x (isFalse e) m = subst (λ (l : List Row). x ∈ l) (sym (rows-skip i e)) m
 
+  rows-stay : (n i : ℕ) (x : Row) → x ∈ rowsHeld minute rs i → x ∈ rowsHeld minute rs (i + n)
+  rows-stay zero i x m = let e : i ≡ i + 0 = omega arith in subst (λ (k : ℕ). x ∈ rowsHeld minute rs k) e m
+  rows-stay (suc n) i x m =
+      let e : suc (i + n) ≡ i + suc n = omega arith in
+      subst (λ (k : ℕ). x ∈ rowsHeld minute rs k) e (step-keeps (i + n) x (split (holdsAt minute (recordIn rs (i + n)))) (rows-stay n i x m))
+
+  pub rows-within : (i j : ℕ) → i ≤ j → (x : Row) → x ∈ rowsHeld minute rs i → x ∈ rowsHeld minute rs j
+  rows-within i j h x m = let e : i + (j - i) ≡ j = omega arith in subst (λ (k : ℕ). x ∈ rowsHeld minute rs k) e (rows-stay (j - i) i x m)
+
   rows-longer : (n i : ℕ) → length (rowsHeld minute rs i) ≤ length (rowsHeld minute rs (i + n))
   rows-longer zero i = let e : i ≡ i + 0 = omega arith in omega (arith, ap (λ (k : ℕ). length (rowsHeld minute rs k)) e)
   rows-longer (suc n) i =

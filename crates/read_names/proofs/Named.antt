@@ -1,130 +1,61 @@
--- Reading a name: the rows of its records that hold are those certified for it at the minute; they are copied, or one is looked up among them.
-use Prim.Native.Nat.{ℕ, zero, suc, _+_, _-_, _*_, _/_, _≤_, _<_}
+-- Reading a name where it stands in the words: a number issues nothing, and a key's rows are listed, or one is looked up among them.
+use Prim.Native.Nat.{ℕ, suc, _+_, _-_, _≤_, _<_}
 use mathlib.Core.Path.{_≡_, refl, sym, ap, subst, _∙_}
 use mathlib.Core.Bool.{Bool, true, false, not}
-use mathlib.Core.List.{List, [], _∷_, map}
+use mathlib.Core.List.{List, [], _∷_}
 use native.Mathlib.Omega.{arith}
-use lib.Dec.{ltb, eqb}
 use lib.ListN.{length, getD}
-use borrow.Author.Tests.{leb-true, lt-leb, le-leb, ltb-true, ltb-false, eqb-true, eqb-false, eq-eqb, ne-eqb}
-use Rattle.rows.specs.Word.{All}
-use Rattle.rows.specs.Ordered.{_∈_, lists, insert, join, keep}
+use borrow.Author.Tests.{lt-leb, le-leb}
+use Rattle.rows.specs.Ordered.{lists}
 use Rattle.rows.specs.Row.{Row, isKey, firstKey, rowBefore}
-use Rattle.rows.specs.Name.{Polarity, plus, minus, polarityOf, polarityWord, samePolarity}
+use Rattle.rows.specs.Name.{Polarity, plus, minus, polarityOf, polarityWord}
 use Rattle.rows.specs.Sets.{RowSet, listing, has}
-use Rattle.rows.specs.Layout.{pieces, rowsIn, formed, setIn, written}
+use Rattle.rows.specs.Layout.{rowsIn, formed, setIn}
 use Rattle.row_words.specs.Values.{rowIs}
 use Rattle.row_words.specs.declared.row.Row as Held-row
-use Rattle.rows.proofs.Case.{Case, isTrue, isFalse, split}
-use Rattle.rows.proofs.Lists.{all-in, all-of}
-use Rattle.rows.proofs.Ordered.{keep-∈, keep-turned}
 use Rattle.rows.proofs.LayoutLaws.{formed-listing}
-use Rattle.sets.proofs.Standing.{formed-fit, formed-few, written-stands}
-use Rattle.certificates.specs.Certificate.{Certificate, recordRow, soundRecord, certificateOf, holdsAt, saidAt}
-use Rattle.certificates.specs.Store.{records, soundStore, certificatesAt}
-use Rattle.certificates.specs.NamePart.{ofName, namePart}
-use Rattle.certificates.specs.Steps.{recordIn}
-use Rattle.certificates.proofs.Sound.{sound-record, sound-store}
-use Rattle.certificates.proofs.NameRows.{name-length, name-pieces, name-sound, name-climbs}
+use Rattle.certificates.specs.Store.{certificatesAt}
+use Rattle.certificates.specs.Link.{linksSaid}
+use Rattle.certificates.specs.Stores.{Stores, Held, heldIn}
 use Rattle.policy.specs.Syntax.{Term}
 use Rattle.policy.specs.Words.{termWords}
 use Rattle.policy.specs.Held.{termIs}
 use Rattle.meaning.specs.Values as values
 use Rattle.meaning.specs.Values.{Values, value}
-use Rattle.meaning.specs.Evidence.{isOf, certified, namesHeld, heldIn}
+use Rattle.meaning.specs.Evidence.{joined, namesHeld}
 use Rattle.meaning.specs.Reading.{Result, done, refused, after, small}
 use Rattle.policy_places.specs.Places.{At, nameWords, SomeName, IsTerm}
 use Rattle.read_values.specs.Rows.{SayRow}
 use Rattle.read_values.specs.Answers.{Empty, setReadIs, testedIs, IfDone}
-use Rattle.read_names.specs.Held.{Records, rowAt, rowsHeld, SayFound}
+use Rattle.read_names.specs.Reached.{nameRows, SayListed, LookedUp, SayLookup}
 use Rattle.read_names.specs.Names.{SayName, SayBelongs, SayNameHas}
 use Rattle.policy_places.proofs.Places.{at-word, at-next, at-skip, at-front, at-long, term-length}
-use Rattle.read_values.proofs.Answers.{stands-filled, small-few, small-many}
+use Rattle.read_values.proofs.Answers.{small-few, small-many}
 use Rattle.read_values.specs.declared.Read.the-variants.{Done, Refused}
 use Rattle.read_values.specs.declared.Tested as Tested
 use Rattle.policy.specs.declared.Term as Held-term
-use Rattle.read_names.proofs.Holding.{rows-ascend}
-use Rattle.read_names.proofs.Copying.{rows-wide}
+use Rattle.read_names.specs.declared.Lookup.{Lookup}
+use Rattle.read_names.specs.declared.Lookup.the-variants.{Listed, TooMany}
 
--- ---- the rows certified for a name are those of its records
-
-same-polarity : (p : Polarity) (w : ℕ) → w ≤ 1 → samePolarity p (polarityOf w) ≡ eqb w (polarityWord p)
-unfolding polarityOf polarityWord
-same-polarity plus zero h = refl
-same-polarity plus (suc zero) h = refl
-same-polarity plus (suc (suc w)) h = absurd (omega arith)
-same-polarity minus zero h = refl
-same-polarity minus (suc zero) h = refl
-same-polarity minus (suc (suc w)) h = absurd (omega arith)
-
-eqb-swap : (a b : ℕ) → eqb a b ≡ eqb b a
-eqb-swap a b = go (split (eqb b a))
-  where
-    go : Case (eqb b a) → eqb a b ≡ eqb b a
-    go (isTrue e) = eq-eqb a b (sym (eqb-true b a e)) ∙ sym e
-    go (isFalse e) = ne-eqb a b (λ h. eqb-false b a e (sym h)) ∙ sym e
-
--- a record is of a name exactly when what it says is
-is-of-name : (k n : ℕ) (p : Polarity) (w : List ℕ) → getD w 2 0 ≤ 1 → isOf (certificateOf w) k n p ≡ ofName k n (polarityWord p) w
-unfolding certificateOf
-is-of-name k n p w h = rw (eqb-swap k (getD w 0 0), eqb-swap n (getD w 1 0), same-polarity p (getD w 2 0) h)
-
-certified-records : (k n : ℕ) (p : Polarity) (ws : List (List ℕ)) → All (λ w. getD w 2 0 ≤ 1) ws →
-    certified (map certificateOf ws) k n p ≡ join rowBefore (map (λ w. recordRow w) (keep (ofName k n (polarityWord p)) ws)) []
-unfolding certified keep join All certificateOf
-certified-records k n p [] a = refl
-certified-records k n p (w ∷ ws) a = go (is-of-name k n p w (a .0)) (certified-records k n p ws (a .1)) (split (ofName k n (polarityWord p) w))
-  where
-    go : isOf (certificateOf w) k n p ≡ ofName k n (polarityWord p) w → certified (map certificateOf ws) k n p ≡ join rowBefore (map (λ w. recordRow w) (keep (ofName k n (polarityWord p)) ws)) [] →
-        Case (ofName k n (polarityWord p) w) → certified (map certificateOf (w ∷ ws)) k n p ≡ join rowBefore (map (λ w. recordRow w) (keep (ofName k n (polarityWord p)) (w ∷ ws))) []
-    go e ih (isTrue h) = rw (e ∙ h, certified, h, keep) (ap (insert rowBefore (recordRow w)) ih)
-    go e ih (isFalse h) = rw (e ∙ h, certified, h, keep) ih
-
-module _ (store : List ℕ) (sound : soundStore store ≡ true) (k n : ℕ) (p : Polarity) where
-  abbrev ofIt : List (List ℕ)
-  ofIt = keep (ofName k n (polarityWord p)) (records store)
-
-  module _ {part : List ℕ} (e : part ≡ namePart store k n (polarityWord p)) where
-    part-count : length part / 10 ≡ length ofIt
-    part-count = let l : length part ≡ 10 * length ofIt = ap length e ∙ name-length k n (polarityWord p) store sound in omega arith
-
-    part-pieces : pieces 10 (length part / 10) part ≡ ofIt
-    part-pieces = ap (λ (m : ℕ). pieces 10 m part) part-count ∙ ap (pieces 10 (length ofIt)) e ∙ name-pieces k n (polarityWord p) store sound
-
-    -- the rows certified at a minute are those of the name's records that hold then
-    part-rows : (minute : ℕ) → certified (certificatesAt minute store) k n p ≡ rowsHeld minute part (length part / 10)
-    unfolding certificatesAt saidAt rowsHeld
-    part-rows minute =
-        certified-records k n p (keep (holdsAt minute) (records store)) (all-of _ _ (λ w i. leb-true _ 1 (sound-record w (in-store w (keep-∈ (holdsAt minute) (records store) w .0 i .1)) .polarity)))
-        ∙ ap (λ (ws : List (List ℕ)). join rowBefore (map (λ w. recordRow w) ws) [])
-        (keep-turned (ofName k n (polarityWord p)) (holdsAt minute) (records store) ∙ ap (keep (holdsAt minute)) (sym part-pieces))
-      where
-        in-store : (w : List ℕ) → w ∈ records store → soundRecord w ≡ true
-        in-store w i = all-in (λ x. soundRecord x ≡ true) (records store) (sound-store store sound .each) w i
-
-    pub part-records : Records part (length part / 10)
-    part-records =
-        let c = part-count in
-        record {
-          whole = omega arith;
-          sound = λ i h. ap (λ (ws : List ℕ). soundRecord (recordIn ws i)) e ∙ name-sound k n (polarityWord p) store sound i (omega arith);
-          climb = λ i j h l. ap (λ (ws : List ℕ). rowBefore (rowAt ws j) (rowAt ws i)) e ∙ name-climbs k n (polarityWord p) store sound i j h (omega arith);
-        }
-
-names-key : (cs : List Certificate) (k n : ℕ) (p : Polarity) → isKey k ≡ true → namesHeld cs k n p ≡ formed (polarityWord p) (certified cs k n p)
+names-key : (h : Held) (k n : ℕ) (p : Polarity) → isKey k ≡ true → namesHeld h k n p ≡ formed (polarityWord p) (joined (h .links) (h .certificates) k n p)
 unfolding namesHeld formed polarityWord
-names-key cs k n plus h = rw (h, namesHeld)
-names-key cs k n minus h = rw (h, namesHeld)
+names-key h k n plus e = rw (e, namesHeld)
+names-key h k n minus e = rw (e, namesHeld)
 
-names-number : (cs : List Certificate) (k n : ℕ) (p : Polarity) → isKey k ≡ false → namesHeld cs k n p ≡ formed (polarityWord p) []
+names-number : (h : Held) (k n : ℕ) (p : Polarity) → isKey k ≡ false → namesHeld h k n p ≡ formed (polarityWord p) []
 unfolding namesHeld formed polarityWord
-names-number cs k n plus h = rw (h, namesHeld)
-names-number cs k n minus h = rw (h, namesHeld)
+names-number h k n plus e = rw (e, namesHeld)
+names-number h k n minus e = rw (e, namesHeld)
 
 polarity-small : (p : Polarity) → polarityWord p ≤ 1
 unfolding polarityWord
 polarity-small plus = omega arith
 polarity-small minus = omega arith
+
+polarity-back : (p : Polarity) → p ≡ polarityOf (polarityWord p)
+unfolding polarityWord polarityOf
+polarity-back plus = refl
+polarity-back minus = refl
 
 -- a row looked up in a set that is read: it is small, or it is not
 module _ (s : RowSet) {z : RowSet} (e : s ≡ z) (x : Row) (k : ℕ) where
@@ -182,93 +113,85 @@ module _ {ws : List ℕ} {at : ℕ} (vs : Values) {x : Held-term.Term} {key : �
   key-is {t} h = sym (ap (value vs) (issuer .is t (h .issuer))) ∙ sym is
 
   -- a number issues nothing
-  pub say-number : (minute : ℕ) (store : List ℕ) {k : ℕ} {area : List ℕ} → Empty (getD ws (at + 3) 0) area → key < 2147483648 → SayName (heldIn minute store) ws at vs k (Done k) area
+  pub say-number : (minute : ℕ) (s : Stores) {k : ℕ} {area : List ℕ} → Empty (getD ws (at + 3) 0) area → key < 2147483648 → SayName (namesHeld (heldIn minute s)) ws at vs k (Done k) area
   unfolding IfDone setReadIs setIn
-  say-number minute store {k} {area} m h = record {
+  say-number minute stores {k} {area} m h = record {
     filled = m .filled;
     means = λ t n p w.
         let v = name-here t n p w in
         let s : setIn area ≡ formed (polarityWord p) [] = ap (λ (f : ℕ). formed f (rowsIn area)) (m .is ∙ v .polarity) ∙ ap (formed (polarityWord p)) (m .none) in
         let number : isKey (value vs t) ≡ false = ap isKey (key-is v) ∙ lt-leb firstKey key h in
-        ap (λ (z : RowSet). small z k) (names-number (certificatesAt minute store) (value vs t) n p number ∙ sym s)
+        ap (λ (z : RowSet). small z k) (names-number (heldIn minute stores) (value vs t) n p number ∙ sym s)
         ∙ small-few (setIn area) k (omega (arith, ap (λ (z : RowSet). length (listing z)) s, ap length (formed-listing (polarityWord p) [])));
   }
 
-  pub number-has : (minute : ℕ) (store : List ℕ) {row k : ℕ} {b : Bool} {r : Tested.Tested} → key < 2147483648 → SayBelongs (getD ws (at + 3) 0) false b → testedIs r ≡ done b k → SayNameHas (heldIn minute store) ws at row vs k r
+  pub number-has : (minute : ℕ) (s : Stores) {row k : ℕ} {b : Bool} {r : Tested.Tested} → key < 2147483648 → SayBelongs (getD ws (at + 3) 0) false b → testedIs r ≡ done b k →
+      SayNameHas (namesHeld (heldIn minute s)) ws at row vs k r
   unfolding lists
-  number-has minute store {k} h g e = record {
+  number-has minute stores {k} h g e = record {
     means = λ t m p w n ts s.
         let v = name-here t m p w in
         let y : Row = values.rowOf vs ts in
         let number : isKey (value vs t) ≡ false = ap isKey (key-is v) ∙ lt-leb firstKey key h in
-        looked-up _ (names-number (certificatesAt minute store) (value vs t) m p number ∙ ap (λ (f : ℕ). formed f []) (sym (v .polarity))) y k
+        looked-up _ (names-number (heldIn minute stores) (value vs t) m p number ∙ ap (λ (f : ℕ). formed f []) (sym (v .polarity))) y k
         (omega (arith, ap length (formed-listing (getD ws (at + 3) 0) []))) (ap (λ (b : Bool). done b k) (g .means [] y refl) ∙ sym e);
   }
 
-  module _ (minute : ℕ) (store : List ℕ) (sound : soundStore store ≡ true) (some : SomeName ws at) (high : 2147483648 ≤ key) {part : List ℕ}
-      (part-is : part ≡ namePart store key (getD ws (at + 2) 0) (getD ws (at + 3) 0)) where
+  -- a key's rows
+  module _ (minute : ℕ) (store links : List ℕ) (high : 2147483648 ≤ key) where
     abbrev rows : List Row
-    rows = rowsHeld minute part (length part / 10)
+    rows = nameRows minute store links key (getD ws (at + 2) 0) (getD ws (at + 3) 0)
 
-    part-of : {t : Term} {n : ℕ} {p : Polarity} → NameHere ws at t n p → part ≡ namePart store key n (polarityWord p)
-    part-of {t} {n} {p} v = part-is ∙ ap (λ (m : ℕ). namePart store key m (getD ws (at + 3) 0)) (v .name) ∙ ap (namePart store key n) (v .polarity)
+    abbrev evidence : Held
+    evidence = heldIn minute (record { store = store; links = links })
 
-    held : (t : Term) (n : ℕ) (p : Polarity) → NameHere ws at t n p → heldIn minute store (value vs t) n p ≡ formed (polarityWord p) rows
-    held t n p v =
-        ap (λ (k : ℕ). heldIn minute store k n p) (key-is v) ∙ names-key (certificatesAt minute store) key n p (le-leb firstKey key high)
-        ∙ ap (formed (polarityWord p)) (part-rows store sound key n p (part-of v) minute)
+    held : {t : Term} {n : ℕ} {p : Polarity} → NameHere ws at t n p → namesHeld evidence (value vs t) n p ≡ formed (getD ws (at + 3) 0) rows
+    unfolding heldIn
+    held {t} {n} {p} v =
+        let polar : p ≡ polarityOf (getD ws (at + 3) 0) = polarity-back p ∙ ap polarityOf (sym (v .polarity)) in
+        ap (λ (k : ℕ). namesHeld evidence k n p) (key-is v) ∙ names-key evidence key n p (le-leb firstKey key high)
+        ∙ ap (λ (f : ℕ). formed f (joined (evidence .links) (evidence .certificates) key n p)) (sym (v .polarity))
+        ∙ ap (λ (m : ℕ). formed (getD ws (at + 3) 0) (joined (evidence .links) (evidence .certificates) key m p)) (sym (v .name))
+        ∙ ap (λ (q : Polarity). formed (getD ws (at + 3) 0) (joined (evidence .links) (evidence .certificates) key (getD ws (at + 2) 0) q)) polar
 
-    some-here : NameHere ws at (some .t) (some .m) (some .p)
-    some-here = name-here (some .t) (some .m) (some .p) (some .words)
+    many-listed : 128 < length rows → 128 < length (listing (formed (getD ws (at + 3) 0) rows))
+    many-listed h = omega (arith, ap length (formed-listing (getD ws (at + 3) 0) rows))
 
-    pub ask-records : Records part (length part / 10)
-    ask-records = part-records store sound key (some .m) (some .p) (part-of some-here)
+    few-listed : length rows ≤ 128 → length (listing (formed (getD ws (at + 3) 0) rows)) ≤ 128
+    few-listed h = omega (arith, ap length (formed-listing (getD ws (at + 3) 0) rows))
 
-    -- too many rows hold, or a set lists them
-    module _ {b : Bool} (told : b ≡ ltb 128 (length rows)) where
-      many : b ≡ true → 128 < length rows
-      many e = ltb-true 128 (length rows) (sym told ∙ e)
-
-      pub few : b ≡ false → length rows ≤ 128
-      few e = ltb-false 128 (length rows) (sym told ∙ e)
-
-      pub say-too-many : {k : ℕ} {area : List ℕ} → b ≡ true → SayName (heldIn minute store) ws at vs k (Refused 13) area
+    module _ {k : ℕ} {area : List ℕ} {b : Bool} (says : SayListed (getD ws (at + 3) 0) rows b area) where
+      pub say-rows : b ≡ true → SayName (namesHeld evidence) ws at vs k (Done k) area
       unfolding IfDone setReadIs
-      say-too-many {k} h = record {
-        filled = tt;
+      say-rows e = record {
+        filled = says .filled e;
         means = λ t n p w.
-            let v = name-here t n p w in
-            ap (λ (z : RowSet). small z k) (held t n p v) ∙ small-many (formed (polarityWord p) rows) k (omega (arith, ap length (formed-listing (polarityWord p) rows), many h));
+            ap (λ (z : RowSet). small z k) (held (name-here t n p w)) ∙ small-few (formed (getD ws (at + 3) 0) rows) k (few-listed (says .few e))
+            ∙ ap (λ (z : RowSet). done z k) (sym (says .set e));
       }
 
-      pub say-records : {k : ℕ} (empty : List ℕ) {area : List ℕ} → Empty (getD ws (at + 3) 0) empty → b ≡ false → area ≡ written (formed (getD empty 0 0) rows) empty → SayName (heldIn minute store) ws at vs k (Done k) area
+      pub say-too-many : b ≡ false → SayName (namesHeld evidence) ws at vs k (Refused 13) area
       unfolding IfDone setReadIs
-      say-records {k} empty {area} m h e =
-          let fit = formed-fit (getD ws (at + 3) 0) rows (rows-ascend minute part (length part / 10)) (rows-wide ask-records minute (length part / 10) (omega arith)) in
-          let few′ = formed-few (getD ws (at + 3) 0) rows (few h) in
-          let s = written-stands fit few′ empty (m .filled .long) (e ∙ ap (λ (f : ℕ). written (formed f rows) empty) (m .is)) in
+      say-too-many e = record {
+        filled = tt;
+        means = λ t n p w. ap (λ (z : RowSet). small z k) (held (name-here t n p w)) ∙ small-many (formed (getD ws (at + 3) 0) rows) k (many-listed (says .many e));
+      }
+
+    module _ {row k : ℕ} {z : Held-row.Row} (sought : SayRow ws row vs z) where
+      pub many-refused : {l : Lookup} → SayLookup rows (rowIs z) l → l ≡ TooMany → SayNameHas (namesHeld evidence) ws at row vs k (Tested.the-variants.Refused 13)
+      unfolding testedIs LookedUp
+      many-refused says e = record {
+        means = λ t m p w n ts s. not-looked-up _ (held (name-here t m p w)) (values.rowOf vs ts) k (many-listed (subst (LookedUp rows (rowIs z)) e (says .means)));
+      }
+
+      pub key-has : {l : Lookup} {found c : Bool} {r : Tested.Tested} → SayLookup rows (rowIs z) l → l ≡ Listed found → SayBelongs (getD ws (at + 3) 0) found c → testedIs r ≡ done c k →
+          SayNameHas (namesHeld evidence) ws at row vs k r
+      unfolding LookedUp
+      key-has {found} says f g e =
+          let means : LookedUp rows (rowIs z) (Listed found) = subst (LookedUp rows (rowIs z)) f (says .means) in
           record {
-            filled = stands-filled s;
-            means = λ t n p q.
-                let v = name-here t n p q in
-                ap (λ (z : RowSet). small z k) (held t n p v ∙ ap (λ (f : ℕ). formed f rows) (sym (v .polarity)))
-                ∙ small-few (formed (getD ws (at + 3) 0) rows) k few′ ∙ ap (λ (z : RowSet). done z k) (sym (s .set));
+            means = λ t m p w n ts s.
+                let y : Row = values.rowOf vs ts in
+                looked-up _ (held (name-here t m p w)) y k (few-listed (means .0))
+                (ap (λ (d : Bool). done d k) (g .means rows y (ap (lists rowBefore rows) (sym (sought .means n ts s)) ∙ means .1)) ∙ sym e);
           }
-
-      pub many-refused : {row k : ℕ} → b ≡ true → SayNameHas (heldIn minute store) ws at row vs k (Tested.the-variants.Refused 13)
-      unfolding testedIs
-      many-refused {k} h = record {
-        means = λ t m p w n ts s.
-            let v = name-here t m p w in
-            not-looked-up _ (held t m p v) (values.rowOf vs ts) k (omega (arith, ap length (formed-listing (polarityWord p) rows), many h));
-      }
-
-      pub key-has : {row k : ℕ} {x : Held-row.Row} {found c : Bool} {r : Tested.Tested} → b ≡ false → SayRow ws row vs x → SayFound part (length part / 10) minute (rowIs x) found → SayBelongs (getD ws (at + 3) 0) found c →
-          testedIs r ≡ done c k → SayNameHas (heldIn minute store) ws at row vs k r
-      key-has {k} h says l g e = record {
-        means = λ t m p w n ts s.
-            let v = name-here t m p w in
-            let y : Row = values.rowOf vs ts in
-            looked-up _ (held t m p v ∙ ap (λ (f : ℕ). formed f rows) (sym (v .polarity))) y k (omega (arith, ap length (formed-listing (getD ws (at + 3) 0) rows), few h))
-            (ap (λ (d : Bool). done d k) (g .means rows y (ap (lists rowBefore rows) (sym (says .means n ts s)) ∙ l .means)) ∙ sym e);
-      }

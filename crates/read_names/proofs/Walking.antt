@@ -35,7 +35,7 @@ module _ (rs : List ℕ) (i : ℕ) where
   word-in : (k : ℕ) → k < 10 → getD (recordIn rs i) k 0 ≡ getD rs (10 * i + k) 0
   word-in k h = getD-take 10 (drop (10 * i) rs) k 0 h ∙ getD-drop (10 * i) rs k 0
 
-  five-in : fiveAt (recordIn rs i) 3 ≡ fiveAt rs (10 * i + 3)
+  pub five-in : fiveAt (recordIn rs i) 3 ≡ fiveAt rs (10 * i + 3)
   five-in = ap (take 5) (drop-take 3 7 (drop (10 * i) rs)) ∙ take-take 5 7 (drop 3 (drop (10 * i) rs)) (omega arith) ∙ ap (take 5) (drop-drop 3 (10 * i) rs)
 
   pub row-in : rowAt rs i ≡ rowIn (fiveAt rs (10 * i + 3))

@@ -20,7 +20,7 @@ use row_words::write;
 use rows::MOST_ROWS;
 
 // Does record `i` hold at the minute, "from the first up to, but without, the end"?
-fn holds(records: &[u32], i: usize, minute: u32) -> bool
+pub fn holds(records: &[u32], i: usize, minute: u32) -> bool
     requires { ⌜ recordWords * i + recordWords ≤ length (now records) ⌝ }
     ensures { λ r. ⌜ r ≡ holdsAt minute (recordIn (now (records .entry)) i) ⌝ }
 {

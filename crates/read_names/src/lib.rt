@@ -1,30 +1,96 @@
-// Reading a name: the rows that are certified for it at a minute, copied or looked up.
+// Reading a name: the rows that are certified at a minute for it and for the names that links reach from it, copied or looked up.
 mod held;
+mod reached;
 
 ghost use mathlib.Core.Path.{_≡_};
 ghost use mathlib.Core.Bool.{true};
 ghost use Prim.Native.Nat.{_≤_};
 ghost use lib.ListN.{length, take};
 ghost use Rattle.rows.specs.Layout.{setRoom};
+ghost use Rattle.row_words.specs.Values.{rowIs};
 ghost use Rattle.certificates.specs.Store.{soundStore};
-ghost use Rattle.meaning.specs.Evidence.{heldIn};
+ghost use Rattle.certificates.specs.Link.{soundLinks};
+ghost use Rattle.certificates.specs.Stores.{heldIn};
+ghost use Rattle.meaning.specs.Evidence.{namesHeld};
+ghost use Rattle.read_values.specs.Answers.{Empty};
 ghost use Rattle.read_values.specs.Values.{Bound};
 ghost use Rattle.policy_places.specs.Places.{SomeName, SomeRow};
+ghost use Rattle.read_names.specs.Reached.{nameRows, SayListed, SayLookup};
 ghost use Rattle.read_names.specs.Names.{SayName, SayBelongs, SayNameHas};
 use crate::held::copy_rows;
 use crate::held::is_held;
 use crate::held::too_many;
+use crate::reached::list_reached;
+use crate::reached::look_reached;
 use certificates::RECORD_WORDS;
 use policy_places::term_at;
+use read_links::is_linked;
 use read_values::Read;
 use read_values::Tested;
 use read_values::row_of;
 use read_values::told;
 use read_values::value_of;
 use refusals::TOO_MANY_ROWS;
+use row_words::row::Row;
 use rows::FIRST_KEY;
 use sets::clear;
 use store::certificates_in;
+
+// Whether a row is among those of a name, unless they are more than a set lists.
+pub enum Lookup {
+    Listed(bool),
+    TooMany,
+}
+
+// Has an empty set list the rows of a name: no if they are too many. Most names have no links, and their rows lie in order.
+fn list_rows(
+    key: u32,
+    name: u32,
+    polarity: u32,
+    area: &mut [u32],
+    minute: u32,
+    store: &[u32],
+    links: &[u32],
+) -> bool
+    requires { ⌜ (soundStore (now store) ≡ true) × (soundLinks (now links) ≡ true) × (polarity ≤ 1) × Empty polarity (now area) ⌝ }
+    ensures { λ r. ⌜ SayListed polarity (nameRows minute (now (store .entry)) (now (links .entry)) key name polarity) r (now (area .exit)) ⌝ }
+{
+    if is_linked(links, key, name, polarity) {
+        return list_reached(key, name, polarity, area, minute, store, links);
+    }
+    let records = certificates_in(store, key, name, polarity);
+    let filed = records.len() / RECORD_WORDS;
+    if too_many(records, filed, minute) {
+        return false;
+    }
+    copy_rows(records, filed, minute, area);
+    true
+}
+
+// Looks for a row among those of a name. They are copied to the area only where links join more of them than a set may list.
+fn look_up(
+    key: u32,
+    name: u32,
+    polarity: u32,
+    row: Row,
+    area: &mut [u32],
+    minute: u32,
+    store: &[u32],
+    links: &[u32],
+) -> Lookup
+    requires { ⌜ (soundStore (now store) ≡ true) × (soundLinks (now links) ≡ true) × (polarity ≤ 1) × (row .width ≤ 4) × (setRoom ≤ length (now area)) ⌝ }
+    ensures { λ r. ⌜ SayLookup (nameRows minute (now (store .entry)) (now (links .entry)) key name polarity) (rowIs row) r ⌝ }
+{
+    if is_linked(links, key, name, polarity) {
+        return look_reached(key, name, polarity, row, area, minute, store, links);
+    }
+    let records = certificates_in(store, key, name, polarity);
+    let filed = records.len() / RECORD_WORDS;
+    if too_many(records, filed, minute) {
+        return Lookup::TooMany;
+    }
+    Lookup::Listed(is_held(records, filed, minute, row))
+}
 
 // The rows of a name that are certified at the minute: + lists those that it has, − those that it has not. A number issues nothing.
 pub fn read_name(
@@ -36,9 +102,10 @@ pub fn read_name(
     area: &mut [u32],
     minute: u32,
     store: &[u32],
+    links: &[u32],
 ) -> Read
-    requires { ⌜ Bound (now values) count × SomeName (now words) at × (soundStore (now store) ≡ true) × (setRoom ≤ length (now area)) ⌝ }
-    ensures { λ r. ⌜ SayName (heldIn minute (now (store .entry))) (now (words .entry)) at (take count (now (values .entry))) draws r (now (area .exit)) ⌝ }
+    requires { ⌜ Bound (now values) count × SomeName (now words) at × (soundStore (now store) ≡ true) × (soundLinks (now links) ≡ true) × (setRoom ≤ length (now area)) ⌝ }
+    ensures { λ r. ⌜ SayName (namesHeld (heldIn minute (record { store = now (store .entry); links = now (links .entry) }))) (now (words .entry)) at (take count (now (values .entry))) draws r (now (area .exit)) ⌝ }
 {
     let issuer = term_at(words, at);
     let key = value_of(values, count, issuer);
@@ -48,13 +115,10 @@ pub fn read_name(
     if key < FIRST_KEY {
         return Read::Done(draws);
     }
-    let records = certificates_in(store, key, name, polarity);
-    let filed = records.len() / RECORD_WORDS;
-    if too_many(records, filed, minute) {
-        return Read::Refused(TOO_MANY_ROWS);
+    if list_rows(key, name, polarity, area, minute, store, links) {
+        return Read::Done(draws);
     }
-    copy_rows(records, filed, minute, area);
-    Read::Done(draws)
+    Read::Refused(TOO_MANY_ROWS)
 }
 
 // Whether a row belongs to a set of this form that lists it or does not.
@@ -64,19 +128,21 @@ fn belongs(form: u32, listed: bool) -> bool
     if form == 0 { listed } else { !listed }
 }
 
-// Whether the row written at `row` belongs to the name's set: what `read_name` and a look into its set would find, without a copy of its rows.
+// Whether the row written at `row` belongs to the name's set: what `read_name` and a look into its set would find.
 pub fn name_has(
     words: &[u32],
     at: usize,
     values: &[u32; 16],
     count: usize,
     draws: u32,
+    area: &mut [u32],
     minute: u32,
     store: &[u32],
+    links: &[u32],
     row: usize,
 ) -> Tested
-    requires { ⌜ Bound (now values) count × SomeName (now words) at × SomeRow (now words) row × (soundStore (now store) ≡ true) ⌝ }
-    ensures { λ r. ⌜ SayNameHas (heldIn minute (now (store .entry))) (now (words .entry)) at row (take count (now (values .entry))) draws r ⌝ }
+    requires { ⌜ Bound (now values) count × SomeName (now words) at × SomeRow (now words) row × (soundStore (now store) ≡ true) × (soundLinks (now links) ≡ true) × (setRoom ≤ length (now area)) ⌝ }
+    ensures { λ r. ⌜ SayNameHas (namesHeld (heldIn minute (record { store = now (store .entry); links = now (links .entry) }))) (now (words .entry)) at row (take count (now (values .entry))) draws r ⌝ }
 {
     let issuer = term_at(words, at);
     let key = value_of(values, count, issuer);
@@ -85,11 +151,9 @@ pub fn name_has(
     if key < FIRST_KEY {
         return told(belongs(polarity, false), draws);
     }
-    let records = certificates_in(store, key, name, polarity);
-    let filed = records.len() / RECORD_WORDS;
-    if too_many(records, filed, minute) {
-        return Tested::Refused(TOO_MANY_ROWS);
+    let sought = row_of(words, row, values, count);
+    match look_up(key, name, polarity, sought, area, minute, store, links) {
+        Lookup::TooMany => Tested::Refused(TOO_MANY_ROWS),
+        Lookup::Listed(found) => told(belongs(polarity, found), draws),
     }
-    let found = is_held(records, filed, minute, row_of(words, row, values, count));
-    told(belongs(polarity, found), draws)
 }

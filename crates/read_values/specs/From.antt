@@ -1,4 +1,4 @@
--- What is read from besides the words: the store at a minute, and the sets of the definitions read before.
+-- What is read from besides the words: the store and the link store at a minute, and the sets of the definitions read before.
 use Prim.Native.Nat.{ℕ, zero, suc, _*_, _<_}
 use mathlib.Core.Path.{_≡_}
 use mathlib.Core.Bool.{true}
@@ -7,19 +7,21 @@ use lib.ListN.{drop}
 use Rattle.rows.specs.Sets.{RowSet}
 use Rattle.rows.specs.Layout.{setRoom, rowsIn, formed, setIn}
 use Rattle.certificates.specs.Store.{soundStore}
-use Rattle.meaning.specs.Evidence.{Evidence, heldIn}
+use Rattle.certificates.specs.Link.{soundLinks}
+use Rattle.certificates.specs.Stores.{Stores, heldIn}
+use Rattle.meaning.specs.Evidence.{Evidence, namesHeld}
 use Rattle.read_values.specs.Answers.{Filled}
 use Rattle.read_values.specs.declared.Given.{Given}
 
 pub record From : Type 0 where
   pub minute : ℕ
-  pub store : List ℕ
+  pub stores : Stores
   pub defs : List ℕ
   pub known : ℕ
 
 -- as the readers carry it
-abbrev pub from : Given → List ℕ → List ℕ → From
-from given store defs = record { minute = given .minute; store = store; defs = defs; known = given .known }
+abbrev pub from : Given → List ℕ → List ℕ → List ℕ → From
+from given store defs links = record { minute = given .minute; stores = record { store = store; links = links }; defs = defs; known = given .known }
 
 -- the sets of the definitions read so far, in the definition area
 unfoldable pub setsIn : ℕ → List ℕ → List RowSet
@@ -28,11 +30,12 @@ setsIn zero ws = []
 setsIn (suc m) ws = setIn ws ∷ setsIn m (drop setRoom ws)
 
 abbrev pub names : From → Evidence
-names f = heldIn (f .minute) (f .store)
+names f = namesHeld (heldIn (f .minute) (f .stores))
 
 abbrev pub sets : From → List RowSet
 sets f = setsIn (f .known) (f .defs)
 
 pub record SoundFrom (f : From) : Type 0 where
-  pub store : soundStore (f .store) ≡ true
+  pub store : soundStore (f .stores .store) ≡ true
+  pub links : soundLinks (f .stores .links) ≡ true
   pub defs : (d : ℕ) → d < f .known → Filled (drop (setRoom * d) (f .defs))

@@ -6,59 +6,63 @@ use borrow.Author.Needs.{needs}
 use Rattle.read_leaves.proofs.leaf_has.Statement.{statement}
 use Rattle.read_leaves.proofs.leaf_has.Tie as tie
 
+-- where all that is lent is known
+abbrev entry : tie.After-shared-slice-known4 → tie.Start
+entry k = k .before .before .before .before .before
+
 mul-code : tie.Need-mul-code
 mul-code c =
-    let start = c .before .before .before .before in
+    let start = entry c in
     let i = inside-leaf (start .pre .0 .here) in
     let fits = start .good in
     omega arith
 
 shared-slice-read-code : tie.Need-shared-slice-read-code
 shared-slice-read-code c =
-    let start = c .before .before .before .before .before in
+    let start = entry (c .before) in
     let i = inside-leaf (start .pre .0 .here) in
     let fits = start .good in
     omega arith
 
 add-name-has : tie.Need-add-name-has
 add-name-has c =
-    let start = c .before .before .before .before .before .before in
+    let start = entry (c .before .before) in
     let i = inside-leaf (start .pre .0 .here) in
     let fits = start .good in
     omega arith
 
 name-has-requires : tie.Need-name-has-requires
 name-has-requires c κs =
-    let start = c .before .before .before .before .before .before in
-    (start .pre .0 .bound, some-name (some-here (start .pre .0)) (c .if1 .taken), start .pre .2, start .pre .0 .sound .store)
+    let start = entry (c .before .before .before) in
+    (start .pre .0 .bound, some-name (some-here (start .pre .0)) (c .before .if1 .taken), start .pre .2, start .pre .0 .sound .store, start .pre .0 .sound .links, start .pre .1)
 
 returns : tie.Need-returns
-returns c = leaf-name-has _ (c .before .if1 .taken) (c .name-has .ensures)
+returns c = leaf-name-has _ (c .before .before .before .before .if1 .taken) (c .before .before .name-has .ensures)
 
 add-definition-set : tie.Need-add-definition-set
 add-definition-set c =
-    let start = c .before .before .before .before .before .before .before in
+    let start = entry (c .before .before .before) in
     let i = definition-inside (some-here (start .pre .0)) (c .if2 .taken) in
     let fits = start .good in
     omega arith
 
 mul-definition-set : tie.Need-mul-definition-set
 mul-definition-set c =
-    let start = c .before .before .before .before .before .before .before in
+    let start = entry (c .before .before .before) in
     let i = definition-inside (some-here (start .pre .0)) (c .if2 .taken) in
     let fits = start .good in
     omega arith
 
 shared-slice-read-definition-set : tie.Need-shared-slice-read-definition-set
 shared-slice-read-definition-set c =
-    let start = c .before .before .before .before .before .before .before .before in
+    let start = entry (c .before .before .before .before) in
     let i = definition-inside (some-here (start .pre .0)) (c .before .if2 .taken) in
     let fits = start .good in
     omega arith
 
 definition-set-requires : tie.Need-definition-set-requires
 definition-set-requires c κs =
-    let start = c .before .before .before .before .before .before .before .before in
+    let start = entry (c .before .before .before .before) in
     (known-here (start .pre .0) (c .before .if2 .taken), start .pre .0 .sound .defs)
 
 returns-2 : tie.Need-returns-2
@@ -66,7 +70,7 @@ returns-2 c = leaf-definition-has _ (c .before .before .before .before .if2 .tak
 
 has-row-requires-2 : tie.Need-has-row-requires-2
 has-row-requires-2 c κs =
-    let start = c .before .before .before .before .before .before .before .before .before .before .before .before .before .before .before .before in
+    let start = entry (c .before .before .before .before .before .before .before .before .before .before .before .before) in
     (start .pre .0 .bound, leaf-filled _ (c .before .before .before .before .before .before .read-leaf .ensures) (c .before .before .used .given .1), start .pre .2)
 
 returns-4 : tie.Need-returns-4
@@ -83,6 +87,7 @@ leaf-has-spec =
     shared-slice-read-code
     add-name-has
     name-has-requires
+    (λ c. search needs)
     returns
     add-definition-set
     mul-definition-set
@@ -93,6 +98,7 @@ leaf-has-spec =
     returns-2
     (λ c κs. search needs)
     (λ c. search needs)
+    (λ c. c .before .before .vetted-has .ensures)
     (λ c κs. search needs)
     (λ c. search needs)
     (λ c. search needs)

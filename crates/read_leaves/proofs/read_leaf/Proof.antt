@@ -6,64 +6,68 @@ use borrow.Author.Needs.{needs}
 use Rattle.read_leaves.proofs.read_leaf.Statement.{statement}
 use Rattle.read_leaves.proofs.read_leaf.Tie as tie
 
+-- where all that is lent is known
+abbrev entry : tie.After-shared-slice-known4 → tie.Start
+entry k = k .before .before .before .before .before
+
 mul-code : tie.Need-mul-code
 mul-code c =
-    let start = c .before .before .before .before in
+    let start = entry c in
     let i = inside-leaf (start .pre .0 .here) in
     let fits = start .good in
     omega arith
 
 shared-slice-read-code : tie.Need-shared-slice-read-code
 shared-slice-read-code c =
-    let start = c .before .before .before .before .before in
+    let start = entry (c .before) in
     let i = inside-leaf (start .pre .0 .here) in
     let fits = start .good in
     omega arith
 
 add-read-name : tie.Need-add-read-name
 add-read-name c =
-    let start = c .before .before .before .before .before .before in
+    let start = entry (c .before .before) in
     let i = inside-leaf (start .pre .0 .here) in
     let fits = start .good in
     omega arith
 
 read-name-requires : tie.Need-read-name-requires
 read-name-requires c κs =
-    let start = c .before .before .before .before .before .before .before in
-    (start .pre .0 .bound, some-name (some-here (start .pre .0)) (c .before .if1 .taken), start .pre .0 .sound .store, start .pre .1)
+    let start = entry (c .before .before .before) in
+    (start .pre .0 .bound, some-name (some-here (start .pre .0)) (c .before .if1 .taken), start .pre .0 .sound .store, start .pre .0 .sound .links, start .pre .1)
 
 returns : tie.Need-returns
 returns c = leaf-name _ (c .before .before .before .before .if1 .taken) (c .before .before .read-name .ensures)
 
 add-definition-set : tie.Need-add-definition-set
 add-definition-set c =
-    let start = c .before .before .before .before .before .before .before in
+    let start = entry (c .before .before .before) in
     let i = definition-inside (some-here (start .pre .0)) (c .if2 .taken) in
     let fits = start .good in
     omega arith
 
 mul-definition-set : tie.Need-mul-definition-set
 mul-definition-set c =
-    let start = c .before .before .before .before .before .before .before in
+    let start = entry (c .before .before .before) in
     let i = definition-inside (some-here (start .pre .0)) (c .if2 .taken) in
     let fits = start .good in
     omega arith
 
 shared-slice-read-definition-set : tie.Need-shared-slice-read-definition-set
 shared-slice-read-definition-set c =
-    let start = c .before .before .before .before .before .before .before .before in
+    let start = entry (c .before .before .before .before) in
     let i = definition-inside (some-here (start .pre .0)) (c .before .if2 .taken) in
     let fits = start .good in
     omega arith
 
 definition-set-requires : tie.Need-definition-set-requires
 definition-set-requires c κs =
-    let start = c .before .before .before .before .before .before .before .before in
+    let start = entry (c .before .before .before .before) in
     (known-here (start .pre .0) (c .before .if2 .taken), start .pre .0 .sound .defs)
 
 returns-2 : tie.Need-returns-2
 returns-2 c =
-    let start = c .before .before .before .before .before .before .before .before .before .before .before .before .before in
+    let start = entry (c .before .before .before .before .before .before .before .before .before) in
     leaf-definition _ (c .before .before .before .before .before .before .if2 .taken) (c .before .before .before .before .definition-set .ensures) (start .args .area .now) (start .pre .1) (c .before .before .copy .ensures)
 
 returns-3 : tie.Need-returns-3
@@ -71,19 +75,19 @@ returns-3 c = c .before .before .read-vetted .ensures
 
 add-read-rows : tie.Need-add-read-rows
 add-read-rows c =
-    let start = c .before .before .before .before .before .before .before .before in
+    let start = entry (c .before .before .before .before) in
     let i = inside-leaf (start .pre .0 .here) in
     let fits = start .good in
     omega arith
 
 sub-read-rows : tie.Need-sub-read-rows
 sub-read-rows c =
-    let l = literal-code (c .before .before .if2 .left) (c .before .before .before .if1 .left) (c .before .if3 .left) (some-here (c .before .before .before .before .before .before .before .before .before .pre .0)) in
+    let l = literal-code (c .before .before .if2 .left) (c .before .before .before .if1 .left) (c .before .if3 .left) (some-here (entry (c .before .before .before .before .before) .pre .0)) in
     omega arith
 
 read-rows-requires : tie.Need-read-rows-requires
 read-rows-requires c κs =
-    let start = c .before .before .before .before .before .before .before .before .before in
+    let start = entry (c .before .before .before .before .before) in
     let l = literal-code (c .before .before .if2 .left) (c .before .before .before .if1 .left) (c .before .if3 .left) (some-here (start .pre .0)) in
     (start .pre .0 .bound, omega arith, start .pre .1, some-rows (c .before .before .if2 .left) (c .before .before .before .if1 .left) (c .before .if3 .left) (some-here (start .pre .0)))
 

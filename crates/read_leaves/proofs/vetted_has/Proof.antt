@@ -7,32 +7,39 @@ use borrow.Author.Needs.{needs}
 use Rattle.read_leaves.proofs.vetted_has.Statement.{statement}
 use Rattle.read_leaves.proofs.vetted_has.Tie as tie
 
+-- where all that is lent is known
+abbrev entry : tie.After-shared-slice-known4 → tie.Start
+entry k = k .before .before .before .before .before
+
 issuer-among-requires : tie.Need-issuer-among-requires
 issuer-among-requires c κs =
-    let start = c .before .before .before in
+    let start = entry c in
     let ask = start .pre .0 in
-    (ask .bound, vetted-inside (some-here ask) (start .pre .2), vetted-known ask (start .pre .2), ask .sound .defs)
+    (ask .bound, vetted-inside (some-here ask) (start .pre .3), vetted-known ask (start .pre .3), ask .sound .defs)
 
 returns : tie.Need-returns
-returns c = vetted-lacks _ _ (c .before .before .before .before .before .before .pre .2) (c .before .before .issuer-among .ensures) (c .before .if1 .taken) (c .told .ensures)
+returns c = vetted-lacks _ _ (entry (c .before .before .before) .pre .3) (c .before .before .issuer-among .ensures) (c .before .if1 .taken) (c .told .ensures)
 
 add-name-has : tie.Need-add-name-has
 add-name-has c =
-    let start = c .before .before .before .before .before in
-    let long = vetted-inside (some-here (start .pre .0)) (start .pre .2) in
+    let start = entry (c .before .before) in
+    let long = vetted-inside (some-here (start .pre .0)) (start .pre .3) in
     let fits = start .good in
     omega arith
 
 name-has-requires : tie.Need-name-has-requires
 name-has-requires c κs =
-    let start = c .before .before .before .before .before in
+    let start = entry (c .before .before .before) in
     let ask = start .pre .0 in
-    (ask .bound, vetted-name ask (start .pre .2), start .pre .1, ask .sound .store)
+    (ask .bound, vetted-name ask (start .pre .3), start .pre .2, ask .sound .store, ask .sound .links, start .pre .1)
 
 returns-2 : tie.Need-returns-2
-returns-2 c = vetted-looked _ _ (c .before .before .before .before .before .before .pre .2) (c .before .before .issuer-among .ensures) (c .before .if1 .left) (c .name-has .ensures)
+returns-2 c =
+    let h = c .before .before in
+    let among = h .before .before .before in
+    vetted-looked _ _ (entry (among .before) .pre .3) (among .issuer-among .ensures) (h .before .before .if1 .left) (h .name-has .ensures)
 
 pub vetted-has-spec : {M : Type 1} → statement M
 vetted-has-spec =
     tie.close
-    (tie.spec issuer-among-requires (λ c κs. search needs) returns add-name-has name-has-requires returns-2)
+    (tie.spec issuer-among-requires (λ c κs. search needs) returns add-name-has name-has-requires (λ c. search needs) returns-2)

@@ -7,7 +7,7 @@ use Rattle.engine.proofs.answering.read_all.Tie as tie
 
 -- where the call starts, from where the definitions are read
 abbrev start : tie.After-read-definitions → tie.Start
-start c = c .before .before .before .before .before .before .before .before .before .before
+start c = c .before .before .before .before .before .before .before .before .before .before .before
 
 -- where the definitions are read, from where their draws are known
 abbrev defined : tie.After-known-told2 → tie.After-read-definitions
@@ -18,16 +18,16 @@ abbrev counted : tie.After-read-whole → tie.After-known-told2
 counted c = c .before .before .before
 
 shared-slice-read-count : tie.Need-shared-slice-read-count
-shared-slice-read-count c = omega (arith, ready-listed (c .before .before .before .before .before .before .before .pre .0) refl .fits)
+shared-slice-read-count c = omega (arith, ready-listed (c .before .before .before .before .before .before .before .before .pre .0) refl .fits)
 
 cast-count : tie.Need-cast-count
-cast-count c = record { fits = omega (arith, ready-listed (c .before .before .before .before .before .before .before .pre .0) refl .few) }
+cast-count c = record { fits = omega (arith, ready-listed (c .before .before .before .before .before .before .before .before .pre .0) refl .few) }
 
 read-whole-requires : tie.Need-read-whole-requires
 read-whole-requires c κs =
     let told = c .before .before in
     let defs = defined told in
-    query-asked (defs .read-definitions .ensures) (told .before .before2 .given .1) refl (start defs .pre .0) (defs .read-definitions .kept .1 .1 .1 .1 .1 .0)
+    query-asked (defs .read-definitions .ensures) (told .before .before2 .given .1) refl (start defs .pre .0) (defs .read-definitions .kept .1 .1 .1 .1 .1 .1 .0)
 
 copy-requires : tie.Need-copy-requires
 copy-requires c κs =

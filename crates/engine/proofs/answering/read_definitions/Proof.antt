@@ -8,22 +8,22 @@ use Rattle.engine.proofs.answering.read_definitions.Statement.{statemen
 use Rattle.engine.proofs.answering.read_definitions.Tie as tie
 
 abbrev Inv-loop : tie.InvT-loop
-Inv-loop policy count minute store definitions₀ scratch₀ draws₀ d₀ definitions scratch draws d =
-    ReadSoFar policy count (record { minute = minute; store = store; defs = definitions; known = d }) draws × (length definitions ≡ length definitions₀) × (length scratch ≡ length scratch₀)
+Inv-loop policy count minute store links definitions₀ scratch₀ draws₀ d₀ definitions scratch draws d =
+    ReadSoFar policy count (record { minute = minute; stores = record { store = store; links = links }; defs = definitions; known = d }) draws × (length definitions ≡ length definitions₀) × (length scratch ≡ length scratch₀)
 
 abbrev μ-loop : tie.MeasureT-loop
-μ-loop policy count minute store definitions₀ scratch₀ draws₀ d₀ definitions scratch draws d = count - d
+μ-loop policy count minute store links definitions₀ scratch₀ draws₀ d₀ definitions scratch draws d = count - d
 
 -- where the reader starts, from the loop
 abbrev start : tie.At-loop Inv-loop μ-loop → tie.Start Inv-loop μ-loop
-start c = c .before .before .before .before .before
+start c = c .before .before .before .before .before .before
 
 -- where a definition's words are known, from where they are read
 abbrev found : tie.After-read-whole Inv-loop μ-loop → tie.After-definition-words Inv-loop μ-loop
 found c = c .before .before .before
 
 loop-holds : tie.Need-loop-holds Inv-loop μ-loop
-loop-holds c = (none-read (c .before .before .before .before .pre), refl, refl)
+loop-holds c = (none-read (c .before .before .before .before .before .pre), refl, refl)
 
 definition-words-requires : tie.Need-definition-words-requires Inv-loop μ-loop
 definition-words-requires c κs = words-inside (start (c .before) .pre) (omega arith)

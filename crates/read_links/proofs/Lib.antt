@@ -1,0 +1,4 @@
+pub mod Starting
+pub mod Searching
+pub mod Names
+pub mod Finding

@@ -1,0 +1,11 @@
+-- If any link starts at the name, the first of them does.
+use borrow.Author.Needs.{needs}
+use Rattle.read_links.proofs.Starting.{linked}
+use Rattle.read_links.proofs.is_linked.Statement.{statement}
+use Rattle.read_links.proofs.is_linked.Tie as tie
+
+returns : tie.Need-returns
+returns c = let s = c .before .before .before in linked (s .args .links .now) (s .pre .0) _ _ _ (s .pre .1) (c .before .first-from .ensures) (c .is-from .ensures)
+
+pub is-linked-spec : {M : Type 1} → statement M
+is-linked-spec = tie.close (tie.spec (λ c κs. search needs) (λ c κs. search needs) returns)
