@@ -1,5 +1,5 @@
 /*
- * A portal in C: certificates arrive, a curator's policy stands, an astronomer searches; semesters pass; then keys are vetted.
+ * A portal in C: certificates arrive, a curator's policy stands, an astronomer searches; semesters pass; a partner's lists are linked; then keys are vetted.
  *
  *     rt staticlib capi
  *     cc -Iinclude examples/portal.c target/staticlib/libcapi.a -o portal && ./portal
@@ -9,6 +9,7 @@
 
 #define ARCHIVE TXB_KEY(0)
 #define OBSERVATORY TXB_KEY(1)
+#define PARTNER TXB_KEY(2)
 enum { COMPROMISED = 0, RELEASED = 1, WITHDRAWN = 2 };
 #define WORDS(area) (sizeof(area) / sizeof((area)[0]))
 
@@ -32,7 +33,7 @@ static const uint32_t *policy = not_withdrawn;
 static size_t policy_words = WORDS(not_withdrawn);
 static uint32_t everything_public[] = {3, 0};
 
-static uint32_t store[TXB_STORE_WORDS]; /* starts empty: its count is 0 */
+static uint32_t store[TXB_STORE_WORDS], links[TXB_LINKS_WORDS]; /* both start empty: their counts are 0 */
 static uint32_t answer[TXB_ANSWER_WORDS], definitions[TXB_DEFINITIONS_WORDS], scratch[TXB_SCRATCH_WORDS];
 
 /* The clock, and the semester that the certificates arriving are for: it begins at the first minute and is over at the end. */
@@ -55,6 +56,14 @@ static void arrives(uint32_t key, uint32_t name, uint32_t polarity, uint32_t ato
         printf("the certificate was refused with %u\n", (unsigned)reply);
 }
 
+/* The observatory says what its list has to do with its partner's: with + it contains it, with - it is contained in it. */
+static void is_linked(uint32_t name, uint32_t polarity) {
+    const uint32_t link[TXB_LINK_WORDS] = {OBSERVATORY, name, polarity, PARTNER, name};
+    uint32_t reply = txb_file_link(links, WORDS(links), link, WORDS(link));
+    if (reply > TXB_HELD)
+        printf("the link was refused with %u\n", (unsigned)reply);
+}
+
 /* The external policy now stands, rewritten so that each key is vetted. */
 static void rewrite(void) {
     uint32_t part;
@@ -73,8 +82,8 @@ static void search(void) {
     uint32_t year, month, day_of_month, hour, minute, part, verdict, draws;
     if (txb_date(now, &year, &month, &day_of_month, &hour, &minute) == 0)
         printf("%u-%02u-%02u %02u:%02u, ", (unsigned)year, (unsigned)month, (unsigned)day_of_month, (unsigned)hour, (unsigned)minute);
-    uint32_t number = txb_query(policy, policy_words, everything_public, WORDS(everything_public), now, store, WORDS(store), answer, WORDS(answer),
-                                definitions, WORDS(definitions), scratch, WORDS(scratch), &part, &verdict, &draws);
+    uint32_t number = txb_query(policy, policy_words, everything_public, WORDS(everything_public), now, store, WORDS(store), links, WORDS(links), answer,
+                                WORDS(answer), definitions, WORDS(definitions), scratch, WORDS(scratch), &part, &verdict, &draws);
     if (number != 0) {
         printf("the search was refused with %u in part %u\n", (unsigned)number, (unsigned)part);
         return;
@@ -114,9 +123,17 @@ int main(void) {
     search();                       /* 2027-07-01 00:00, lower, 1 draws, rows: */
     arrives(OBSERVATORY, WITHDRAWN, TXB_MINUS, 7);
     search();                       /* 2027-07-01 00:00, lower, 1 draws, rows: 7 */
+    arrives(PARTNER, RELEASED, TXB_PLUS, 9);
+    search();                       /* 2027-07-01 00:00, lower, 1 draws, rows: 7 */
+    is_linked(RELEASED, TXB_PLUS);
+    search();                       /* 2027-07-01 00:00, lower, 2 draws, rows: 7 */
+    arrives(PARTNER, WITHDRAWN, TXB_MINUS, 9);
+    search();                       /* 2027-07-01 00:00, lower, 2 draws, rows: 7 */
+    is_linked(WITHDRAWN, TXB_MINUS);
+    search();                       /* 2027-07-01 00:00, lower, 2 draws, rows: 7 9 */
     rewrite();
     search();                       /* 2027-07-01 00:00, lower, 0 draws, rows: */
     arrives(ARCHIVE, COMPROMISED, TXB_MINUS, OBSERVATORY);
-    search();                       /* 2027-07-01 00:00, lower, 0 draws, rows: 7 */
+    search();                       /* 2027-07-01 00:00, lower, 0 draws, rows: 7 9 */
     return 0;
 }

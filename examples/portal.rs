@@ -1,17 +1,18 @@
-//! A portal in Rust: a curator's policies are judged or rewritten, certificates arrive for a semester, and the tables that an astronomer gets follow them and
-//! the clock.
+//! A portal in Rust: a curator's policies are judged or rewritten, certificates arrive for a semester, links between lists for good, and the tables that an
+//! astronomer gets follow them and the clock.
 //!
 //!     bash run
 //!
 //! What it prints is in `portal.expected`, which was worked out from the documents by hand.
 
 use txindurbe::{
-    key, Certificate, Date, Definition, Engine, Expression, Filing, Guard, Minute, Part, Polarity, Policy, Query, Refusal, Row, Rows, Slot, Store,
-    Table, Term, Validity, Verdict,
+    key, Certificate, Date, Definition, Engine, Expression, Filing, Guard, Link, Links, Minute, Part, Polarity, Policy, Query, Refusal, Row, Rows,
+    Slot, Store, Table, Term, Validity, Verdict,
 };
 
 const ARCHIVE: u32 = key(0);
 const OBSERVATORY: u32 = key(1);
+const PARTNER: u32 = key(2);
 const COMPROMISED: u16 = 0;
 const RELEASED: u16 = 1;
 const WITHDRAWN: u16 = 2;
@@ -61,12 +62,13 @@ struct Portal {
     not_under_embargo: Query,
     now: Minute,
     store: Store,
+    links: Links,
     engine: Engine,
 }
 
 impl Portal {
     /// The policy's last definition says what is public.
-    fn new(policy: Policy, last: u32, now: Minute, store: Store) -> Portal {
+    fn new(policy: Policy, last: u32, now: Minute, store: Store, links: Links) -> Portal {
         let (public, catalogue, embargo) = (Expression::definition(last), observations([7, 8, 9]), observations([9]));
         Portal {
             policy,
@@ -75,6 +77,7 @@ impl Portal {
             not_under_embargo: Query::new(&catalogue.minus(embargo)),
             now,
             store,
+            links,
             engine: Engine::new(),
         }
     }
@@ -91,14 +94,22 @@ impl Portal {
 
     /// The certificate's signature has been checked before.
     fn arrives(&mut self, certificate: Certificate) -> Result<(), Refusal> {
-        let list = match certificate.name {
-            COMPROMISED => "compromised",
-            RELEASED => "released",
-            _ => "withdrawn",
-        };
-        let is = if certificate.polarity == Polarity::Plus { "is" } else { "is not" };
+        let (is, list) = (if certificate.polarity == Polarity::Plus { "is" } else { "is not" }, list(certificate.name));
         print!("{} certifies that {} {is} {list}, {}: ", atom(certificate.key), row(&certificate.row), term(certificate.validity)?);
-        match self.store.file(&certificate) {
+        let filing = self.store.file(&certificate);
+        self.show_filing(filing)
+    }
+
+    /// The link's signature has been checked before too.
+    fn is_linked(&mut self, link: Link) -> Result<(), Refusal> {
+        let is = if link.polarity == Polarity::Plus { "contains" } else { "is contained in" };
+        print!("{} says that its {} list {is} the {} list of {}: ", atom(link.key), list(link.name), list(link.other_name), atom(link.other_key));
+        let filing = self.links.file(&link);
+        self.show_filing(filing)
+    }
+
+    fn show_filing(&mut self, filing: Result<Filing, Refusal>) -> Result<(), Refusal> {
+        match filing {
             Ok(Filing::Filed) => {
                 println!("filed");
                 self.show_tables()?;
@@ -118,7 +129,7 @@ impl Portal {
 
     fn show_tables(&mut self) -> Result<(), Refusal> {
         for (about, query) in [("public", &self.public), ("not public", &self.not_public), ("not under embargo", &self.not_under_embargo)] {
-            let answer = self.engine.query(&self.policy, query, self.now, &self.store)?;
+            let answer = self.engine.query(&self.policy, query, self.now, &self.store, &self.links)?;
             println!("  {about}, {}", table(&answer.table));
         }
         Ok(())
@@ -147,6 +158,14 @@ fn row(row: &Row) -> String {
     row.atoms().iter().map(|&word| atom(word)).collect::<Vec<_>>().join("/")
 }
 
+fn list(name: u16) -> &'static str {
+    match name {
+        COMPROMISED => "compromised",
+        RELEASED => "released",
+        _ => "withdrawn",
+    }
+}
+
 fn time(minute: Minute) -> Result<String, Refusal> {
     let Date { year, month, day, hour, minute } = minute.date()?;
     Ok(format!("{year}-{month:02}-{day:02} {hour:02}:{minute:02}"))
@@ -171,7 +190,7 @@ fn atom(word: u32) -> String {
 fn main() -> Result<(), Refusal> {
     let semester = Validity::from_dates(Date::day(2027, 1, 1), Date::day(2027, 7, 1))?;
     let next = Validity::from_dates(Date::day(2027, 7, 1), Date::day(2028, 1, 1))?;
-    let mut portal = Portal::new(policy(), 0, Minute::from_date(Date::day(2027, 3, 20))?, Store::new());
+    let mut portal = Portal::new(policy(), 0, Minute::from_date(Date::day(2027, 3, 20))?, Store::new(), Links::new());
     println!("The policy: an observation is public if observatory k1 released it and did not withdraw it.");
     portal.judge("is public", &portal.public)?;
     portal.judge("of 7, 8 and 9 is not public", &portal.not_public)?;
@@ -196,7 +215,7 @@ fn main() -> Result<(), Refusal> {
     portal.arrives(Certificate::not_listed(OBSERVATORY, WITHDRAWN, [8], semester))?;
     portal.arrives(Certificate::listed(OBSERVATORY, RELEASED, [7, 1], semester))?;
     for (name, list) in [("released", released()), ("withdrawn", withdrawn())] {
-        let answer = portal.engine.query(&portal.policy, &Query::new(&list), portal.now, &portal.store)?;
+        let answer = portal.engine.query(&portal.policy, &Query::new(&list), portal.now, &portal.store, &portal.links)?;
         println!("Now k1's {name} list has, {}", table(&answer.table));
     }
 
@@ -208,6 +227,13 @@ fn main() -> Result<(), Refusal> {
     portal.arrives(Certificate::listed(OBSERVATORY, RELEASED, [7], Validity { end: next.first, ..next }))?;
     portal.arrives(Certificate::listed(OBSERVATORY, RELEASED, [7], next))?;
     portal.arrives(Certificate::not_listed(OBSERVATORY, WITHDRAWN, [7], next))?;
+    println!("Observatory k2 works for k1. What it certifies counts for k1's lists once k1 says how they are linked:");
+    portal.arrives(Certificate::listed(PARTNER, RELEASED, [8], next))?;
+    portal.is_linked(Link::containing(OBSERVATORY, RELEASED, PARTNER, RELEASED))?;
+    portal.arrives(Certificate::not_listed(PARTNER, WITHDRAWN, [8], next))?;
+    portal.is_linked(Link::contained(OBSERVATORY, WITHDRAWN, PARTNER, WITHDRAWN))?;
+    portal.is_linked(Link::contained(OBSERVATORY, WITHDRAWN, PARTNER, WITHDRAWN))?;
+    portal.is_linked(Link::containing(OBSERVATORY, RELEASED, 5, RELEASED))?;
     println!("Certificates of k1's released list, whenever they hold:");
     for (certified, validity) in portal.store.certificates_of(OBSERVATORY, RELEASED, Polarity::Plus) {
         println!("  {}, {}", row(&certified), term(validity)?);
@@ -221,7 +247,7 @@ fn main() -> Result<(), Refusal> {
     let rewritten = external.rewrite()?;
     println!("  what is public: {}", words(external.part(&portal.public, Part::Definition(1))));
     println!("  rewritten: {}", words(rewritten.part(&portal.public, Part::Definition(1))));
-    let mut portal = Portal::new(rewritten, 1, portal.now, portal.store);
+    let mut portal = Portal::new(rewritten, 1, portal.now, portal.store, portal.links);
     portal.show_tables()?;
     portal.arrives(Certificate::not_listed(ARCHIVE, COMPROMISED, [OBSERVATORY], next))
 }

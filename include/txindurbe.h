@@ -1,7 +1,8 @@
 /*
  * Txindurbe: a policy engine for an archive of visibilities.
  *
- * File certificates into a store, then ask queries under a policy, at a minute; the answer is a table of rows marked exact, lower or upper.
+ * File certificates into a store and links into a link store, then ask queries under a policy, at a minute; the answer is a table of rows marked exact, lower
+ * or upper.
  *
  * Everything is in 32-bit words, lengths are counted in words. Every call ends, whatever the words: what is malformed is refused with a number, and whatever
  * a call returns, it has written all of its out-parameters. No pointer may be null, not even one with the length 0 (nothing is then looked at there). What a
@@ -22,7 +23,7 @@ extern "C" {
 
 /* The version of this interface, and the same as one number that grows with it. */
 #define TXINDURBE_VERSION_MAJOR 0
-#define TXINDURBE_VERSION_MINOR 5
+#define TXINDURBE_VERSION_MINOR 6
 #define TXINDURBE_VERSION_PATCH 0
 #define TXINDURBE_VERSION (TXINDURBE_VERSION_MAJOR * 1000000 + TXINDURBE_VERSION_MINOR * 1000 + TXINDURBE_VERSION_PATCH)
 
@@ -46,11 +47,17 @@ enum {
  * row may be certified with several terms. A store from before version 0.5 has certificates without a term and is not to be used as it is: every eight words
  * behind its count are to be filed again into an empty store, with a first and an end minute behind them. */
 
-/* Lengths. A longer store or area is fine. A store starts empty if its first word is 0, whatever the others are. */
+/* A link is about two lists of one polarity. With + it says that the first list contains the other, with - that the first is contained in the other. Either
+ * way, what is certified of the other list is so of the first one; and so on along any number of links, circles too. A link has no term: it holds at every
+ * minute. The links of a link store ascend strictly, word by word. */
+
+/* Lengths. A longer store or area is fine. A store of either kind starts empty if its first word is 0, whatever the others are. */
 enum {
     TXB_POLICY_WORDS = 8192,         /* the most words of a policy: an area of so many takes every rewritten one */
     TXB_STORE_WORDS = 16001,         /* a count, then up to 1,600 certificates */
     TXB_CERTIFICATE_WORDS = 10,      /* key, name, polarity, width (1 to 4), four atoms, unused ones 0, first minute, end minute */
+    TXB_LINKS_WORDS = 1281,          /* a link store: a count, then up to 256 links */
+    TXB_LINK_WORDS = 5,              /* key, name, polarity of both lists, other key, other name */
     TXB_ANSWER_WORDS = 642,          /* form (0 these rows, 1 all rows but these), count, then width and four atoms a row; 128 rows at most */
     TXB_DEFINITIONS_WORDS = 10272,
     TXB_SCRATCH_WORDS = 16384
@@ -58,7 +65,8 @@ enum {
 
 /* Verdicts: how the table is to be read. */
 enum {
-    TXB_EXACT = 0,                   /* the rows that belong to the query, whatever the lists have beside what is certified at the minute asked for */
+    TXB_EXACT = 0,                   /* the rows that belong to the query, whatever the lists have beside what links and certificates that hold at the minute
+                                        asked for say of them */
     TXB_LOWER = 1,                   /* exactly the rows that belong to it under all such lists */
     TXB_UPPER = 2,                   /* a row that is missing here belongs to it under no such lists */
     TXB_NO_VERDICT = 3               /* refused: there is no table */
@@ -66,12 +74,12 @@ enum {
 
 /* Replies to filing that are no refusals. */
 enum {
-    TXB_FILED = 0,                   /* the certificate is new and now in the store */
-    TXB_HELD = 1                     /* it was there already, with the same term */
+    TXB_FILED = 0,                   /* the certificate or link is new and now in its store */
+    TXB_HELD = 1                     /* it was there already, a certificate with the same term */
 };
 
-/* Refusal numbers. txb_file gives 8, 9, 10 and 17, txb_judge 1 to 7, txb_query 1 to 8 and 11 to 14, txb_rewrite 1 to 7, 11 and 15, txb_minutes and txb_date
- * 16. */
+/* Refusal numbers. txb_file gives 8, 9, 10 and 17, txb_file_link 18 and 19, txb_judge 1 to 7, txb_query 1 to 8, 11 to 14 and 18, txb_rewrite 1 to 7, 11 and
+ * 15, txb_minutes and txb_date 16. */
 enum {
     TXB_BAD_HEADER = 1,              /* policy: under 2 or over 8,192 words, another format, over 16 definitions, or the table is cut short */
     TXB_BAD_TABLE = 2,               /* policy: a table entry breaks a rule, or the parts do not end with the policy */
@@ -86,11 +94,15 @@ enum {
     TXB_STORE_FULL = 10,             /* 1,600 certificates are held and this one is new */
     TXB_SHORT_AREA = 11,             /* the answer, definition or scratch area is too short, or the area for a rewritten policy */
     TXB_COMPLEMENT_DRAWN = 12,       /* a complement is drawn from while reading */
-    TXB_TOO_MANY_ROWS = 13,          /* a value lists over 128 rows: that of the query, of a definition, or of anything read on the way, as one name's list */
+    TXB_TOO_MANY_ROWS = 13,          /* a value lists over 128 rows: that of the query, of a definition, or of anything read on the way, as one name's list
+                                        with what links join to it */
     TXB_TOO_MANY_DRAWS = 14,         /* a draw is due and 1,000,000 were made */
     TXB_NOT_EXTERNAL = 15,           /* policy: an external rule is broken, or the output would pass 8,192 words */
     TXB_BAD_DATE = 16,               /* a date that does not exist or lies outside 2000 to 2099, or a minute that has none */
-    TXB_BAD_TERM = 17                /* the certificate's end is not after its first minute */
+    TXB_BAD_TERM = 17,               /* the certificate's end is not after its first minute */
+    TXB_BAD_LINK = 18,               /* the link is not five words, or one of its keys is a number, one of its names over 65,535, or its polarity over 1; or
+                                        the link store is too short or unsound */
+    TXB_LINKS_FULL = 19              /* 256 links are held and this one is new */
 };
 
 /* The part that a refusal is about: 0 to 15 a definition, or one of these. */
@@ -103,24 +115,30 @@ enum {
  * TXB_STORE_FULL. Only TXB_FILED changes the store, and never a word past its last record. */
 uint32_t txb_file(uint32_t *store, size_t store_words, const uint32_t *certificate, size_t certificate_words);
 
+/* Files one link. Returns TXB_FILED, TXB_HELD or a refusal number: TXB_BAD_LINK, then, if it is not held, TXB_LINKS_FULL. Only TXB_FILED changes the link
+ * store, and never a word past its last link. */
+uint32_t txb_file_link(uint32_t *links, size_t links_words, const uint32_t *link, size_t link_words);
+
 /* Judges a policy and a query without a store. Returns 0 and the verdict that an answer would have, with the part TXB_NO_PART; or a refusal number from 1 to
  * 7 and its part, with the verdict TXB_NO_VERDICT. */
 uint32_t txb_judge(const uint32_t *policy, size_t policy_words, const uint32_t *query, size_t query_words, uint32_t *part, uint32_t *verdict);
 
-/* Answers a query from those certificates of the store that hold at the minute. A row counts once, however many of its certificates hold then. Returns 0, the
- * verdict and the number of draws, with the part TXB_NO_PART: the table then fills 2 + 5 * count words of the answer area, and the rest of it is unchanged.
- * Or returns a refusal number and its part, with the verdict TXB_NO_VERDICT and 0 draws: the answer area is then unchanged, and what it holds from an earlier
- * query is no answer to this one. The definition and scratch areas hold arbitrary words afterwards; what was in them makes no difference. */
+/* Answers a query from those certificates of the store that hold at the minute, and from the links. A name is read with the certified rows of every name that
+ * links of its polarity reach from it. A row counts once, however many of its certificates hold then. Returns 0, the verdict and the number of draws, with the
+ * part TXB_NO_PART: the table then fills 2 + 5 * count words of the answer area, and the rest of it is unchanged. Or returns a refusal number and its part,
+ * with the verdict TXB_NO_VERDICT and 0 draws: the answer area is then unchanged, and what it holds from an earlier query is no answer to this one.
+ * TXB_BAD_LINK comes right after TXB_BAD_STORE, also where no name is read. The definition and scratch areas hold arbitrary words afterwards; what was in them
+ * makes no difference. */
 uint32_t txb_query(const uint32_t *policy, size_t policy_words, const uint32_t *query, size_t query_words, uint32_t minute, const uint32_t *store,
-                   size_t store_words, uint32_t *answer, size_t answer_words, uint32_t *definitions, size_t definitions_words, uint32_t *scratch,
-                   size_t scratch_words, uint32_t *part, uint32_t *verdict, uint32_t *draws);
+                   size_t store_words, const uint32_t *links, size_t links_words, uint32_t *answer, size_t answer_words, uint32_t *definitions,
+                   size_t definitions_words, uint32_t *scratch, size_t scratch_words, uint32_t *part, uint32_t *verdict, uint32_t *draws);
 
 /* Rewrites an external policy, so that it relies on no list of a compromised key. In an external policy definition 0 may be the name 0, -, which lists the
  * compromised keys; every other definition is +, and none has a difference, an absent guard or code 8. Each key's list (code 4) in a later definition becomes
- * vetted (code 8, the same words, then definition 0): that list if the key's row is absent from definition 0, no rows otherwise. Without a definition of name
- * 0, -, the output equals the input. Queries are not rewritten. Returns 0 and the output's length, with the part TXB_NO_PART: the output fills so many words of
- * the area, and the rest of it is unchanged. Or returns a refusal number and its part, with the length 0: the area is then unchanged. TXB_NOT_EXTERNAL comes
- * after 1 to 7, TXB_SHORT_AREA after that, if the area has fewer words than the output. */
+ * vetted (code 8, the same words, then definition 0): that list if the key's row is absent from definition 0, no rows otherwise. The keys of lists that links
+ * reach from it are not vetted. Without a definition of name 0, -, the output equals the input. Queries are not rewritten. Returns 0 and the output's length,
+ * with the part TXB_NO_PART: the output fills so many words of the area, and the rest of it is unchanged. Or returns a refusal number and its part, with the
+ * length 0: the area is then unchanged. TXB_NOT_EXTERNAL comes after 1 to 7, TXB_SHORT_AREA after that, if the area has fewer words than the output. */
 uint32_t txb_rewrite(const uint32_t *policy, size_t policy_words, uint32_t *area, size_t area_words, uint32_t *part, size_t *length);
 
 /* Where the words of a part stand (0 to 15 a definition, 16 the query), to show what a refusal is about. Returns how many they are. They start at the word

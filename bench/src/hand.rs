@@ -1,14 +1,14 @@
 //! Programs written by hand for one task each, from the same words to the same words.
 //!
-//! Behind a test of the store they make each draw, as document 01 asks of the engine. The free ones are the quickest way to the same rows: the store is
+//! Behind a test of both stores they make each draw, as document 01 asks of the engine. The free ones are the quickest way to the same rows: the stores are
 //! trusted, and no draw is made that is not needed. Where both are the same program, it stands here once.
 
-use crate::tasks::{Asked, Record, ARCHIVE, COMPROMISED, LEFT, OBSERVATORIES, OBSERVATORY, RELEASED, RIGHT, SMALL, TRUSTED, WITHDRAWN};
+use crate::tasks::{Asked, LinkWords, Record, ARCHIVE, COMPROMISED, LEFT, OBSERVATORIES, OBSERVATORY, RELEASED, RIGHT, SMALL, TRUSTED, WITHDRAWN};
 use differential::evaluator::Date;
 use std::cmp::Ordering;
 use std::hint::black_box;
 use std::iter::from_fn;
-use txindurbe::sizes::{CERTIFICATE_WORDS, MOST_CERTIFICATES, MOST_ROWS, ROW_WORDS, STORE_WORDS};
+use txindurbe::sizes::{CERTIFICATE_WORDS, LINKS_WORDS, LINK_WORDS, MOST_CERTIFICATES, MOST_LINKS, MOST_ROWS, ROW_WORDS, STORE_WORDS};
 
 type RowWords = [u32; ROW_WORDS];
 
@@ -77,9 +77,36 @@ pub fn sound(store: &[u32]) -> bool {
     true
 }
 
-/// The program behind a test of the store.
+/// A link as three numbers, which compare as links do.
+fn packed_link([key, name, polarity, other_key, other_name]: LinkWords) -> [u64; 3] {
+    [pair(key, name), pair(polarity, other_key), other_name.into()]
+}
+
+fn links(store: &[u32]) -> &[LinkWords] {
+    store[1..1 + LINK_WORDS * store[0] as usize].as_chunks().0
+}
+
+fn sound_link([key, name, polarity, other_key, other_name]: LinkWords) -> bool {
+    (key & other_key) >> 31 == 1 && (name | other_name) >> 16 == 0 && polarity < 2
+}
+
+pub fn sound_links(store: &[u32]) -> bool {
+    if store.len() < LINKS_WORDS || store[0] as usize > MOST_LINKS {
+        return false;
+    }
+    // Nothing sound is below zeros.
+    let mut last = [0; 3];
+    links(store).iter().all(|link| {
+        let this = packed_link(*link);
+        let follows = last < this;
+        last = this;
+        follows && sound_link(*link)
+    })
+}
+
+/// The program behind a test of both stores.
 pub fn tested(program: Program) -> impl Fn(&Asked, &mut [u32]) -> Option<u32> {
-    move |asked, answer| sound(&asked.store).then(|| program(asked, answer)).flatten()
+    move |asked, answer| (sound(&asked.store) && sound_links(&asked.links)).then(|| program(asked, answer)).flatten()
 }
 
 /// One name's part of the store, to be read at the minute.
@@ -371,19 +398,88 @@ pub fn draws_last_free(asked: &Asked, answer: &mut [u32]) -> Option<u32> {
     Some(count_draws(literals))
 }
 
-/// Puts the record in its place; false if it was there.
+/// The keys and names whose rows are joined for this one, itself first. Two names without links may be the same.
+fn joined_names(asked: &Asked, issuer: u32, name: u32, polarity: u32) -> Vec<[u32; 2]> {
+    let links = links(&asked.links);
+    let mut joined = Vec::with_capacity(MOST_LINKS + 1);
+    let mut to_follow = Vec::with_capacity(MOST_LINKS);
+    // By the place of a name's first link.
+    let mut followed = [false; MOST_LINKS];
+    let mut next = Some([issuer, name]);
+    while let Some([key, name]) = next {
+        let wanted = (pair(key, name), polarity);
+        let of_name = |link: &LinkWords| (pair(link[0], link[1]), link[2]);
+        let start = links.partition_point(|link| of_name(link) < wanted);
+        if links.get(start).is_none_or(|link| of_name(link) != wanted) {
+            joined.push([key, name]);
+        } else if !followed[start] {
+            followed[start] = true;
+            joined.push([key, name]);
+            to_follow.extend(links[start..].iter().take_while(|link| of_name(link) == wanted).map(|link| [link[3], link[4]]));
+        }
+        next = to_follow.pop();
+    }
+    joined
+}
+
+/// A record of each row joined for a name, in order.
+fn joined_rows(asked: &Asked, issuer: u32, name: u32, polarity: u32) -> Option<Vec<&Record>> {
+    let mut rows: Vec<&Record> = Vec::with_capacity(MOST_ROWS);
+    for [key, name] in joined_names(asked, issuer, name, polarity) {
+        for record in rows_of_name(asked, key, name, polarity)?.iter() {
+            let Err(place) = rows.binary_search_by(|other| row_order(other, record)) else { continue };
+            if rows.len() == MOST_ROWS {
+                return None;
+            }
+            rows.insert(place, record);
+        }
+    }
+    Some(rows)
+}
+
+pub fn joined(asked: &Asked, answer: &mut [u32]) -> Option<u32> {
+    lay_out(joined_rows(asked, OBSERVATORY, RELEASED, 0)?.into_iter().map(row), answer);
+    Some(0)
+}
+
+/// The released list has no links.
+pub fn public_joined(asked: &Asked, answer: &mut [u32]) -> Option<u32> {
+    let released = rows_of_name(asked, OBSERVATORY, RELEASED, 0)?;
+    let not_withdrawn = joined_rows(asked, OBSERVATORY, WITHDRAWN, 1)?;
+    let atoms = not_withdrawn.into_iter().filter(|record| record[3] == 1).map(|record| record[4]);
+    lay_out(compared(&released, atoms, true).map(row_of_atom), answer);
+    Some(released.count() as u32)
+}
+
+/// Puts the record in its place.
+fn put_in<const WIDTH: usize>(store: &mut [u32], place: usize, record: &[u32; WIDTH]) {
+    let (start, end) = (1 + WIDTH * place, 1 + WIDTH * store[0] as usize);
+    store.copy_within(start..end, start + WIDTH);
+    store[start..start + WIDTH].copy_from_slice(record);
+    store[0] += 1;
+}
+
+/// False if it was there.
 pub fn file_free(store: &mut [u32], record: &Record) -> bool {
     let wanted = packed(record);
     let Err(place) = records(store).binary_search_by(|other| packed(other).cmp(&wanted)) else { return false };
-    let (start, end) = (1 + CERTIFICATE_WORDS * place, 1 + CERTIFICATE_WORDS * store[0] as usize);
-    store.copy_within(start..end, start + CERTIFICATE_WORDS);
-    store[start..start + CERTIFICATE_WORDS].copy_from_slice(record);
-    store[0] += 1;
+    put_in(store, place, record);
     true
 }
 
 pub fn file(store: &mut [u32], record: &Record) -> bool {
     sound(store) && sound_record(record) && (store[0] as usize) < MOST_CERTIFICATES && file_free(store, record)
+}
+
+/// False if it was there.
+pub fn file_link_free(store: &mut [u32], link: &LinkWords) -> bool {
+    let Err(place) = links(store).binary_search(link) else { return false };
+    put_in(store, place, link);
+    true
+}
+
+pub fn file_link(store: &mut [u32], link: &LinkWords) -> bool {
+    sound_links(store) && sound_link(*link) && (store[0] as usize) < MOST_LINKS && file_link_free(store, link)
 }
 
 /// Rewrites a policy whose definition 0 lists compromised keys. Gives the count of the output's words; nothing where an external rule is broken.

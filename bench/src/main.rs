@@ -1,4 +1,4 @@
-//! The library beside a straightforward evaluator, hand-tuned programs and SQLite, on fourteen tasks.
+//! The library beside a straightforward evaluator, hand-tuned programs and SQLite, on nineteen tasks.
 //!
 //!     cargo run --release --offline [-- ROUNDS]
 //!     cargo run --release --offline -- --check
@@ -13,7 +13,7 @@ mod picture;
 mod sqlite;
 mod tasks;
 
-use differential::engine::{Engine, Lent};
+use differential::engine::Engine;
 use differential::evaluator::{Date, Evaluator};
 use hand::Program;
 use measure::{measure, Measured};
@@ -21,8 +21,9 @@ use measure::{measure, Measured};
 use sqlite::{Database, Statement};
 use std::process::ExitCode;
 use std::rc::Rc;
-use tasks::{Asked, Certificates, Record};
-use txindurbe::sizes::{ANSWER_WORDS, DEFINITIONS_WORDS, POLICY_WORDS, ROW_WORDS, SCRATCH_WORDS, STORE_WORDS};
+use tasks::{Asked, Certificates, LinkWords, Links, Record};
+use txindurbe::calls::Lent;
+use txindurbe::sizes::{ANSWER_WORDS, DEFINITIONS_WORDS, LINKS_WORDS, POLICY_WORDS, ROW_WORDS, SCRATCH_WORDS, STORE_WORDS};
 
 /// What a run found: how many rows, and the sum of their atoms, each row's times its place, so that another order is noticed.
 #[derive(Clone, Copy, PartialEq, Eq, Debug, Default)]
@@ -97,11 +98,11 @@ const COLUMNS: [Column; 5] = [
     Column { name: LIBRARY, colour: "#1b6ca8", leaves_out: "nothing" },
     Column { name: STRAIGHTFORWARD, colour: "#9aa5b1", leaves_out: "nothing" },
     Column { name: HAND, colour: "#2f9e44", leaves_out: "judging, limits but for a name's 128 rows" },
-    Column { name: FREE, colour: "#a9d8b0", leaves_out: "the same, testing store and certificates, draws that are not needed" },
+    Column { name: FREE, colour: "#a9d8b0", leaves_out: "the same, testing stores and what is filed, draws that are not needed" },
     Column {
         name: SQLITE,
         colour: "#e8890c",
-        leaves_out: "judging, limits, testing store and certificates, counting draws, draws that an index spares",
+        leaves_out: "judging, limits, testing stores and what is filed, counting draws, draws that an index spares",
     },
 ];
 
@@ -124,7 +125,7 @@ impl Lendable {
 
     fn ask(&mut self, engine: &dyn Engine, asked: &Asked) -> Option<Outcome> {
         let lent = Lent { answer: &mut self.answer, definitions: &mut self.definitions, scratch: &mut self.scratch };
-        let reply = engine.query(&asked.policy, &asked.query, asked.minute, &asked.store, lent);
+        let reply = engine.query(&asked.policy, &asked.query, asked.minute, &asked.store, &asked.links, lent);
         (reply.number == 0).then(|| Outcome::of(&self.answer, reply.draws))
     }
 }
@@ -135,7 +136,7 @@ fn by_hand(asked: &Rc<Asked>, program: impl Fn(&Asked, &mut [u32]) -> Option<u32
     move || program(&asked, &mut answer).map(|draws| Outcome::of(&answer, draws))
 }
 
-/// A query task for the engines and two programs by hand, the first of which stands behind a test of the store.
+/// A query task for the engines and two programs by hand, the first of which stands behind a test of the stores.
 fn query_task(name: &'static str, asked: Asked, draws: u32, hand: Program, free: Program) -> Task {
     let asked = Rc::new(asked);
     let mut contestants = Vec::new();
@@ -148,9 +149,13 @@ fn query_task(name: &'static str, asked: Asked, draws: u32, hand: Program, free:
     Task { name, draws, contestants }
 }
 
-/// Files them all into an empty store.
-fn filing(records: &[Record], mut file: impl FnMut(&mut [u32], &Record) -> bool) -> impl FnMut() -> Option<Outcome> {
-    let (records, mut store) = (records.to_vec(), vec![0; STORE_WORDS]);
+/// Files them all into an empty store of so many words.
+fn filing<const WIDTH: usize>(
+    records: &[[u32; WIDTH]],
+    length: usize,
+    mut file: impl FnMut(&mut [u32], &[u32; WIDTH]) -> bool,
+) -> impl FnMut() -> Option<Outcome> {
+    let (records, mut store) = (records.to_vec(), vec![0; length]);
     move || {
         store[0] = 0;
         let filed = records.iter().filter(|record| file(&mut store, record)).count();
@@ -158,14 +163,24 @@ fn filing(records: &[Record], mut file: impl FnMut(&mut [u32], &Record) -> bool)
     }
 }
 
-fn filing_task(records: &[Record]) -> Task {
+/// A program by hand that files a record, false if it was there.
+type File<const WIDTH: usize> = fn(&mut [u32], &[u32; WIDTH]) -> bool;
+
+/// A filing task for the engines, each by the same call, and two programs by hand.
+fn filing_task<const WIDTH: usize>(
+    name: &'static str,
+    records: &[[u32; WIDTH]],
+    length: usize,
+    call: fn(&dyn Engine, &mut [u32], &[u32]) -> u32,
+    [hand, free]: [File<WIDTH>; 2],
+) -> Task {
     let mut contestants = Vec::new();
     for (name, engine) in engines() {
-        contestants.push(contestant(name, filing(records, move |store, record| engine.file(store, record) == 0)));
+        contestants.push(contestant(name, filing(records, length, move |store, record| call(engine.as_ref(), store, record) == 0)));
     }
-    contestants.push(contestant(HAND, filing(records, hand::file)));
-    contestants.push(contestant(FREE, filing(records, hand::file_free)));
-    Task { name: "d: 1,600 certificates filed in random order", draws: 0, contestants }
+    contestants.push(contestant(HAND, filing(records, length, hand)));
+    contestants.push(contestant(FREE, filing(records, length, free)));
+    Task { name, draws: 0, contestants }
 }
 
 /// Rewrites the policy into an area: the rows are the output's words.
@@ -219,17 +234,30 @@ fn converting_task(dates: &[Date]) -> Task {
     Task { name: "n: 1,000 dates converted to minutes and back", draws: 0, contestants }
 }
 
+/// Without links.
+fn of_store(certificates: &Certificates, policy: &[u32], query: Vec<u32>) -> Asked {
+    let (store, links) = (tasks::store_of(certificates), tasks::link_store_of(&Links::new()));
+    Asked { policy: policy.to_vec(), query, minute: tasks::NOW, store, links }
+}
+
+/// A list that links join with 256 others, or 255.
+fn joined_task(name: &'static str, joined: &Certificates, links: &Links) -> Task {
+    let asked = of_store(joined, tasks::EMPTY_POLICY, tasks::released(tasks::OBSERVATORY));
+    query_task(name, Asked { links: tasks::link_store_of(links), ..asked }, 0, hand::joined, hand::joined)
+}
+
 fn unions_task(unions: &Certificates) -> Task {
-    let asked = Asked { policy: tasks::unions_policy(), query: tasks::unions_query(), minute: tasks::NOW, store: tasks::store_of(unions) };
+    let asked = of_store(unions, &tasks::unions_policy(), tasks::unions_query());
     query_task("l: union of two names and a definition of 40 rows each, nested three deep", asked, 0, hand::unions, hand::unions)
 }
 
 fn tasks() -> Vec<Task> {
     let (certificates, delegations, observations) = (tasks::certificates(), tasks::delegations(), tasks::observations());
     let (vetted_delegations, unions, half_expired) = (tasks::vetted_delegations(), tasks::unions(), tasks::half_expired());
-    let filed = tasks::in_random_order(&certificates);
-    let of_store =
-        |certificates, policy: &[u32], query| Asked { policy: policy.to_vec(), query, minute: tasks::NOW, store: tasks::store_of(certificates) };
+    let (joined, joined_withdrawn) = (tasks::joined(), tasks::joined_withdrawn());
+    let [chain, circle, star, withdrawn] = [tasks::chain(tasks::RELEASED, 0), tasks::circle(), tasks::star(), tasks::chain(tasks::WITHDRAWN, 1)];
+    let filed = tasks::in_random_order(tasks::words_of(&certificates));
+    let links_filed = tasks::in_random_order(tasks::words_of_links(&chain));
     let asked = |policy: &[u32], query: Vec<u32>| of_store(&certificates, policy, query);
     let alone = |query: Vec<u32>| asked(tasks::EMPTY_POLICY, query);
     let mut tasks = vec![
@@ -242,7 +270,13 @@ fn tasks() -> Vec<Task> {
         ),
         query_task("b: join of two names of 100 rows", alone(tasks::join_query()), 10_100, hand::join, hand::join_free),
         query_task("c: 990,100 draws", alone(tasks::draws_query(tasks::CONSTANT)), 990_100, hand::draws_constant, hand::draws_constant_free),
-        filing_task(&filed),
+        filing_task(
+            "d: 1,600 certificates filed in random order",
+            &filed,
+            STORE_WORDS,
+            |engine, store, certificate| engine.file(store, certificate),
+            [hand::file, hand::file_free],
+        ),
         query_task("e: a small query on a full store", alone(tasks::small_query()), 0, hand::small, hand::small),
         query_task(
             "f: 990,100 draws, another head row at each",
@@ -289,9 +323,27 @@ fn tasks() -> Vec<Task> {
             hand::public,
         ),
         converting_task(&tasks::dates()),
+        joined_task("o: a name that 256 links in a chain join with others, 120 rows", &joined, &chain),
+        joined_task("p: a name that 256 links in a circle join with others, 120 rows", &joined, &circle),
+        joined_task("q: a name that 256 links in a star join with others, 120 rows", &joined, &star),
+        query_task(
+            "r: released and not withdrawn, the withdrawn list through 256 links in a chain",
+            Asked { links: tasks::link_store_of(&withdrawn), ..of_store(&joined_withdrawn, &tasks::policy_p(), tasks::QUERY_Q.to_vec()) },
+            128,
+            hand::public_joined,
+            hand::public_joined,
+        ),
+        filing_task(
+            "s: 256 links filed in random order",
+            &links_filed,
+            LINKS_WORDS,
+            |engine, links, link| engine.file_link(links, link),
+            [hand::file_link, hand::file_link_free],
+        ),
     ];
     let stores = [&certificates, &delegations, &observations, &vetted_delegations, &unions, &half_expired];
-    for (task, run) in tasks.iter_mut().zip(sqlite_runs(stores, filed)) {
+    let linked = [(&joined, &chain), (&joined, &circle), (&joined, &star), (&joined_withdrawn, &withdrawn)];
+    for (task, run) in tasks.iter_mut().zip(sqlite_runs(stores, linked, filed, links_filed)) {
         task.contestants.extend(run.map(|run| Contestant { name: SQLITE, run }));
     }
     tasks
@@ -299,16 +351,24 @@ fn tasks() -> Vec<Task> {
 
 /// In the order of the tasks, none for rewriting and converting. The databases live as long as the program.
 #[cfg(sqlite)]
-fn sqlite_runs(stores: [&Certificates; 6], filed: Vec<Record>) -> [Option<Run>; 14] {
+fn sqlite_runs(
+    stores: [&Certificates; 6],
+    linked: [(&Certificates, &Links); 4],
+    filed: Vec<Record>,
+    links_filed: Vec<LinkWords>,
+) -> [Option<Run>; 19] {
     let kept = |database: Database| -> &'static Database { Box::leak(Box::new(database)) };
     let stores = stores.map(|certificates| kept(Database::holding(tasks::words_of(certificates))));
     let [held, delegations, observations, vetted_delegations, unions, half_expired] = stores;
-    let (empty, literals) = (kept(Database::holding([])), kept(Database::of_literals()));
+    let linked = linked.map(|(certificates, links)| kept(Database::linked(tasks::words_of(certificates), tasks::words_of_links(links))));
+    let [chain, circle, star, withdrawn] = linked;
+    let (empty, literals) = (kept(Database::linked([], [])), kept(Database::of_literals()));
     held.hold("embargoed", tasks::embargoed());
     let answered =
         |mut statement: Statement<'static>, columns| -> Option<Run> { Some(Box::new(move || Some(statement.run(&[tasks::NOW], columns)))) };
     let drawn = |mut statement: Statement<'static>| -> Option<Run> { Some(Box::new(move || Some(statement.run(&[], 1)))) };
-    let (mut insert, mut transaction) = (empty.insert(), empty.transaction());
+    let (mut insert, mut transaction) = (empty.insert(), empty.transaction("certificate"));
+    let (mut insert_link, mut link_transaction) = (empty.insert_link(), empty.transaction("link"));
     [
         answered(held.public(), 1),
         answered(held.join(), 2),
@@ -324,11 +384,16 @@ fn sqlite_runs(stores: [&Certificates; 6], filed: Vec<Record>) -> [Option<Run>; 
         answered(unions.unions(), 1),
         answered(half_expired.public(), 1),
         None,
+        answered(chain.joined(), 1),
+        answered(circle.joined(), 1),
+        answered(star.joined(), 1),
+        answered(withdrawn.public_joined(), 1),
+        Some(Box::new(move || Some(empty.file_all(&mut insert_link, &mut link_transaction, &links_filed)))),
     ]
 }
 
 #[cfg(not(sqlite))]
-fn sqlite_runs(_: [&Certificates; 6], _: Vec<Record>) -> [Option<Run>; 0] {
+fn sqlite_runs(_: [&Certificates; 6], _: [(&Certificates, &Links); 4], _: Vec<Record>, _: Vec<LinkWords>) -> [Option<Run>; 0] {
     []
 }
 
@@ -452,6 +517,16 @@ mod tests {
         let found = Outcome { rows: 120, sum: (0..120).map(|n| (n + 1) * n).sum(), draws: Some(0) };
         for contestant in &mut task.contestants {
             assert_eq!((contestant.run)(), Some(found), "{}", contestant.name);
+        }
+    }
+
+    #[test]
+    fn the_joined_lists_have_the_rows_that_their_tasks_say() {
+        let found = Outcome { rows: 120, sum: (0..120).map(|n| (n + 1) * n).sum(), draws: Some(0) };
+        for links in [tasks::chain(tasks::RELEASED, 0), tasks::circle(), tasks::star()] {
+            for contestant in &mut joined_task("a task", &tasks::joined(), &links).contestants {
+                assert_eq!((contestant.run)(), Some(found), "{}", contestant.name);
+            }
         }
     }
 

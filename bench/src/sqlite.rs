@@ -1,6 +1,6 @@
 //! As much of SQLite's C interface as the tasks need, and the tasks as SQL: in memory, indexed by the primary key, prepared once.
 
-use crate::tasks::{Record, ARCHIVE, COMPROMISED, LEFT, OBSERVATORIES, OBSERVATORY, RELEASED, RIGHT, SIZES, SMALL, TRUSTED, WITHDRAWN};
+use crate::tasks::{LinkWords, Record, ARCHIVE, COMPROMISED, LEFT, OBSERVATORIES, OBSERVATORY, RELEASED, RIGHT, SIZES, SMALL, TRUSTED, WITHDRAWN};
 use crate::Outcome;
 use std::ffi::{c_char, c_int, c_void, CStr, CString};
 use std::fmt::Display;
@@ -31,15 +31,24 @@ pub fn version() -> String {
 }
 
 /// That a certificate is of this name and holds at the minute, which is bound when the statement runs.
-fn of_name(certificate: &str, key: impl Display, name: u32, polarity: u32) -> String {
+fn of_name(certificate: &str, key: impl Display, name: impl Display, polarity: u32) -> String {
     let conditions =
         [format!("key = {key}"), format!("name = {name}"), format!("polarity = {polarity}"), "first_minute <= ?1".into(), "end_minute > ?1".into()];
     conditions.map(|condition| format!("{certificate}.{condition}")).join(" AND ")
 }
 
 /// The same of this width.
-fn of_width(certificate: &str, key: impl Display, name: u32, polarity: u32, width: u32) -> String {
+fn of_width(certificate: &str, key: impl Display, name: impl Display, polarity: u32, width: u32) -> String {
     format!("{} AND {certificate}.width = {width}", of_name(certificate, key, name, polarity))
+}
+
+/// The keys and names that links reach from the observatory's list, as a table `reached`.
+fn reached(name: u32, polarity: u32) -> String {
+    let step = format!("link.key = reached.key AND link.name = reached.name AND link.polarity = {polarity}");
+    format!(
+        "WITH RECURSIVE reached(key, name) AS (VALUES ({OBSERVATORY}, {name}) \
+         UNION SELECT link.other_key, link.other_name FROM reached, link WHERE {step})"
+    )
 }
 
 /// That a certificate `r` says that a row is released, and another of the same key that it is not withdrawn.
@@ -94,6 +103,22 @@ impl Database {
         database
     }
 
+    /// The same with links, under the order that the link store has.
+    pub fn linked(certificates: impl IntoIterator<Item = Record>, links: impl IntoIterator<Item = LinkWords>) -> Database {
+        let database = Database::holding(certificates);
+        database.run(
+            "CREATE TABLE link (key INTEGER, name INTEGER, polarity INTEGER, other_key INTEGER, other_name INTEGER,
+             PRIMARY KEY (key, name, polarity, other_key, other_name)) WITHOUT ROWID",
+        );
+        let mut insert = database.insert_link();
+        for link in links {
+            insert.file(&link);
+        }
+        drop(insert);
+        database.run("ANALYZE");
+        database
+    }
+
     /// The literals of the draws, as tables.
     pub fn of_literals() -> Database {
         let database = Database::open();
@@ -116,17 +141,26 @@ impl Database {
         self.prepare("INSERT OR IGNORE INTO certificate VALUES (?1, ?2, ?3, ?4, ?5, ?6, ?7, ?8, ?9, ?10)")
     }
 
-    /// Empties the table of certificates and files these.
-    pub fn file_all(&self, insert: &mut Statement, [begin, empty, commit]: &mut [Statement; 3], records: &[Record]) -> Outcome {
+    pub fn insert_link(&self) -> Statement<'_> {
+        self.prepare("INSERT OR IGNORE INTO link VALUES (?1, ?2, ?3, ?4, ?5)")
+    }
+
+    /// Empties a table and files these.
+    pub fn file_all<const WIDTH: usize>(
+        &self,
+        insert: &mut Statement,
+        [begin, empty, commit]: &mut [Statement; 3],
+        records: &[[u32; WIDTH]],
+    ) -> Outcome {
         begin.run(&[], 0);
         empty.run(&[], 0);
-        let filed = records.iter().filter(|record| insert.file(record)).count();
+        let filed = records.iter().filter(|record| insert.file(*record)).count();
         commit.run(&[], 0);
         Outcome { rows: filed as u64, ..Outcome::default() }
     }
 
-    pub fn transaction(&self) -> [Statement<'_>; 3] {
-        ["BEGIN", "DELETE FROM certificate", "COMMIT"].map(|sql| self.prepare(sql))
+    pub fn transaction(&self, table: &str) -> [Statement<'_>; 3] {
+        ["BEGIN", &format!("DELETE FROM {table}"), "COMMIT"].map(|sql| self.prepare(sql))
     }
 
     pub fn public(&self) -> Statement<'_> {
@@ -163,6 +197,23 @@ impl Database {
     pub fn unions(&self) -> Statement<'_> {
         let released = OBSERVATORIES.map(|observatory| format!("SELECT r.a FROM certificate r WHERE {}", of_width("r", observatory, RELEASED, 0, 1)));
         self.prepare(&format!("{} ORDER BY 1", released.join(" UNION ")))
+    }
+
+    /// The list has rows of one atom alone.
+    pub fn joined(&self) -> Statement<'_> {
+        let released = of_width("c", "reached.key", "reached.name", 0, 1);
+        self.prepare(&format!("{} SELECT DISTINCT c.a FROM reached, certificate c WHERE {released} ORDER BY c.a", reached(RELEASED, 0)))
+    }
+
+    /// The released list has no links.
+    pub fn public_joined(&self) -> Statement<'_> {
+        let released = of_width("r", OBSERVATORY, RELEASED, 0, 1);
+        let not_withdrawn = of_width("c", "reached.key", "reached.name", 1, 1);
+        self.prepare(&format!(
+            "{} SELECT DISTINCT r.a FROM certificate r WHERE {released} AND r.a IN (SELECT c.a FROM reached, certificate c WHERE {not_withdrawn}) \
+             ORDER BY r.a",
+            reached(WITHDRAWN, 1)
+        ))
     }
 
     pub fn join(&self) -> Statement<'_> {
@@ -223,7 +274,7 @@ impl Statement<'_> {
     }
 
     /// False if it was there.
-    fn file(&mut self, record: &Record) -> bool {
+    fn file(&mut self, record: &[u32]) -> bool {
         self.run(record, 0);
         // SAFETY: the connection is open.
         unsafe { sqlite3_changes(self.database.0) == 1 }

@@ -5,7 +5,7 @@ use differential::generate::{assemble, rewritten, united};
 use differential::random::Random;
 use std::collections::BTreeSet;
 use txindurbe::key;
-use txindurbe::sizes::{CERTIFICATE_WORDS, MOST_CERTIFICATES, STORE_WORDS};
+use txindurbe::sizes::{CERTIFICATE_WORDS, LINKS_WORDS, LINK_WORDS, MOST_CERTIFICATES, MOST_LINKS, STORE_WORDS};
 
 pub const ARCHIVE: u32 = key(0);
 pub const OBSERVATORY: u32 = key(1);
@@ -36,12 +36,18 @@ pub type Record = [u32; CERTIFICATE_WORDS];
 /// Certificates in the order of a store.
 pub type Certificates = BTreeSet<evaluator::Record>;
 
+/// A link's words.
+pub type LinkWords = [u32; LINK_WORDS];
+/// Links in the order of a link store.
+pub type Links = BTreeSet<evaluator::Link>;
+
 /// What a query is asked of.
 pub struct Asked {
     pub policy: Vec<u32>,
     pub query: Vec<u32>,
     pub minute: u32,
     pub store: Vec<u32>,
+    pub links: Vec<u32>,
 }
 
 pub const EMPTY_POLICY: &[u32] = &[1, 0];
@@ -122,7 +128,7 @@ pub fn vetted_policy() -> Vec<u32> {
 
 pub const VETTED_QUERY: &[u32] = &[3, 1];
 
-fn released(key: u32) -> Vec<u32> {
+pub fn released(key: u32) -> Vec<u32> {
     vec![4, 0, key, RELEASED, 0]
 }
 
@@ -228,15 +234,62 @@ pub fn observations() -> Certificates {
     all
 }
 
-pub fn store_of(certificates: &Certificates) -> Vec<u32> {
-    let mut store = vec![certificates.len() as u32];
-    store.extend(words_of(certificates).flatten());
-    store.resize(STORE_WORDS, 0);
+/// How many observatories links join.
+const JOINED: u32 = MOST_LINKS as u32 + 1;
+
+/// 1,542 certificates: 257 observatories, each with six of 120 observations released.
+pub fn joined() -> Certificates {
+    let released = |n: u32| (0..6).map(move |place| certificate(key(n), RELEASED, 0, &[(37 * n + 3 * place) % 120]));
+    (1..=JOINED).flat_map(released).collect()
+}
+
+/// 1,413 certificates: 128 rows that the first observatory released, and 100 of them that 257 observatories say are not withdrawn, each of five.
+pub fn joined_withdrawn() -> Certificates {
+    let not_withdrawn = |n: u32| (0..5).map(move |place| certificate(key(n), WITHDRAWN, 1, &[7 * (14 + (37 * n + 3 * place) % 100)]));
+    let released = (0..128).map(|n| certificate(OBSERVATORY, RELEASED, 0, &[7 * n]));
+    released.chain((1..=JOINED).flat_map(not_withdrawn)).collect()
+}
+
+fn link(key: u32, name: u32, polarity: u32, other_key: u32) -> evaluator::Link {
+    evaluator::Link { key, name, polarity, other_key, other_name: name }
+}
+
+/// 256 links: from each observatory's list to the next one's.
+pub fn chain(name: u32, polarity: u32) -> Links {
+    (1..JOINED).map(|n| link(key(n), name, polarity, key(n + 1))).collect()
+}
+
+/// 256 links: from each of as many released lists to the next one's, and from the last to the first.
+pub fn circle() -> Links {
+    (1..JOINED).map(|n| link(key(n), RELEASED, 0, key(n % (JOINED - 1) + 1))).collect()
+}
+
+/// 256 links: from the first observatory's released list to each of the others.
+pub fn star() -> Links {
+    (2..=JOINED).map(|n| link(OBSERVATORY, RELEASED, 0, key(n))).collect()
+}
+
+fn laid_out<const WIDTH: usize>(records: impl ExactSizeIterator<Item = [u32; WIDTH]>, length: usize) -> Vec<u32> {
+    let mut store = vec![records.len() as u32];
+    store.extend(records.flatten());
+    store.resize(length, 0);
     store
 }
 
-pub fn words_of(certificates: &Certificates) -> impl Iterator<Item = Record> + '_ {
+pub fn store_of(certificates: &Certificates) -> Vec<u32> {
+    laid_out(words_of(certificates), STORE_WORDS)
+}
+
+pub fn words_of(certificates: &Certificates) -> impl ExactSizeIterator<Item = Record> + '_ {
     certificates.iter().map(evaluator::Record::words)
+}
+
+pub fn link_store_of(links: &Links) -> Vec<u32> {
+    laid_out(words_of_links(links), LINKS_WORDS)
+}
+
+pub fn words_of_links(links: &Links) -> impl ExactSizeIterator<Item = LinkWords> + '_ {
+    links.iter().map(evaluator::Link::words)
 }
 
 /// 1,000 dates of 2000 to 2099.
@@ -246,8 +299,8 @@ pub fn dates() -> Vec<Date> {
     (0..1_000).map(|_| date(random.below(52_596_000) as u32)).collect()
 }
 
-pub fn in_random_order(certificates: &Certificates) -> Vec<Record> {
-    let mut filed: Vec<Record> = words_of(certificates).collect();
+pub fn in_random_order<T>(records: impl Iterator<Item = T>) -> Vec<T> {
+    let mut filed: Vec<T> = records.collect();
     Random::new(1).shuffle(&mut filed);
     filed
 }
@@ -260,6 +313,8 @@ mod tests {
     fn stores_hold_what_their_comments_say() {
         let counts = [certificates(), half_expired(), observations(), delegations(), vetted_delegations(), unions()].map(|all| all.len());
         assert_eq!(counts, [1_600, 1_600, 1_600, 1_560, 1_591, 130]);
+        assert_eq!([joined(), joined_withdrawn()].map(|all| all.len()), [1_542, 1_413]);
+        assert_eq!([chain(RELEASED, 0), chain(WITHDRAWN, 1), circle(), star()].map(|all| all.len()), [256; 4]);
         assert_eq!(half_expired().iter().filter(|record| record.validity.end <= NOW).count(), 800);
     }
 

@@ -1,13 +1,14 @@
-//! The eight calls of `include/txindurbe.h` over slices of words. All of this crate's unsafe code is here.
+//! The nine calls of `include/txindurbe.h` over slices of words. All of this crate's unsafe code is here.
 //!
-//! Every call takes any words at all and ends: what is malformed gets its refusal number. Most portals use [`Store`](crate::Store) and
-//! [`Engine`](crate::Engine) instead.
+//! Every call takes any words at all and ends: what is malformed gets its refusal number. Most portals use [`Store`](crate::Store),
+//! [`Links`](crate::Links) and [`Engine`](crate::Engine) instead.
 
 use std::ops::Range;
 
 mod c {
     extern "C" {
         pub fn txb_file(store: *mut u32, store_words: usize, certificate: *const u32, certificate_words: usize) -> u32;
+        pub fn txb_file_link(links: *mut u32, links_words: usize, link: *const u32, link_words: usize) -> u32;
         pub fn txb_query(
             policy: *const u32,
             policy_words: usize,
@@ -16,6 +17,8 @@ mod c {
             minute: u32,
             store: *const u32,
             store_words: usize,
+            links: *const u32,
+            links_words: usize,
             answer: *mut u32,
             answer_words: usize,
             definitions: *mut u32,
@@ -41,6 +44,13 @@ mod c {
         pub fn txb_minutes(year: u32, month: u32, day: u32, hour: u32, minute: u32, minutes: *mut u32) -> u32;
         pub fn txb_date(minutes: u32, year: *mut u32, month: *mut u32, day: *mut u32, hour: *mut u32, minute: *mut u32) -> u32;
     }
+}
+
+/// The areas lent to a query.
+pub struct Lent<'a> {
+    pub answer: &'a mut [u32],
+    pub definitions: &'a mut [u32],
+    pub scratch: &'a mut [u32],
 }
 
 /// What a query hands out beside the answer's words: number 0 and part 17 with an answer; with a refusal its number and part, verdict 3 and 0 draws.
@@ -94,8 +104,14 @@ pub fn file(store: &mut [u32], certificate: &[u32]) -> u32 {
     unsafe { c::txb_file(store.as_mut_ptr(), store.len(), certificate.as_ptr(), certificate.len()) }
 }
 
+/// The same of a link.
+pub fn file_link(links: &mut [u32], link: &[u32]) -> u32 {
+    unsafe { c::txb_file_link(links.as_mut_ptr(), links.len(), link.as_ptr(), link.len()) }
+}
+
 /// The answer's set is written to the front of its area.
-pub fn query(policy: &[u32], query: &[u32], minute: u32, store: &[u32], answer: &mut [u32], definitions: &mut [u32], scratch: &mut [u32]) -> Reply {
+pub fn query(policy: &[u32], query: &[u32], minute: u32, store: &[u32], links: &[u32], lent: Lent) -> Reply {
+    let Lent { answer, definitions, scratch } = lent;
     let [mut part, mut verdict, mut draws] = [UNWRITTEN; 3];
     let number = unsafe {
         c::txb_query(
@@ -106,6 +122,8 @@ pub fn query(policy: &[u32], query: &[u32], minute: u32, store: &[u32], answer: 
             minute,
             store.as_ptr(),
             store.len(),
+            links.as_ptr(),
+            links.len(),
             answer.as_mut_ptr(),
             answer.len(),
             definitions.as_mut_ptr(),

@@ -1,5 +1,6 @@
+use crate::calls::{self, Lent};
 use crate::sizes::{ANSWER_WORDS, DEFINITIONS_WORDS, SCRATCH_WORDS};
-use crate::{calls, Minute, Part, Policy, Query, Refusal, Rows, Store};
+use crate::{Links, Minute, Part, Policy, Query, Refusal, Rows, Store};
 
 /// How a table is to be read: see [`Table`]. Policy and query alone decide it.
 #[derive(Clone, Copy, PartialEq, Eq, Hash, Debug)]
@@ -25,16 +26,17 @@ impl Verdict {
 /// An answer's set of rows with its verdict.
 ///
 /// The archive rarely holds every certificate there is: a + list has the rows certified and perhaps others, a − list lacks the rows certified and perhaps
-/// others. Whether a row belongs to a query can hang on those others, and the verdict says what the table promises about them. The promises are proved, and
-/// are kept as long as the certificates that hold at the minute asked for are true. They compare answers, and at one minute: with more certificates a query
-/// may also come to be refused, as with too many rows, and at another minute other certificates hold, so that a table may gain rows and lose others.
+/// others. Rows are certified of a list also where [`Link`](crate::Link)s bring them from others. Whether a row belongs to a query can hang on the rows that are
+/// not certified, and the verdict says what the table promises about them. The promises are proved, and are kept as long as the links, and the certificates that
+/// hold at the minute asked for, are true. They compare answers, and at one minute: with more certificates and links a query may also come to be refused, as with
+/// too many rows, and at another minute other certificates hold, so that a table may gain rows and lose others.
 #[derive(Clone, PartialEq, Eq, Debug)]
 pub enum Table {
-    /// Exactly the rows that belong to the query whatever the lists have beside what is certified. Other rows may belong too. When more certificates are
-    /// filed, the same query under the same policy and at the same minute gains rows or keeps them.
+    /// Exactly the rows that belong to the query whatever the lists have beside what is certified. Other rows may belong too. When more certificates and
+    /// links are filed, the same query under the same policy and at the same minute gains rows or keeps them.
     Lower(Rows),
     /// The rows that are missing here are exactly those that do not belong to the query whatever the lists have beside what is certified. Those here need
-    /// not all belong. When more certificates are filed, the same query under the same policy and at the same minute loses rows or keeps them.
+    /// not all belong. When more certificates and links are filed, the same query under the same policy and at the same minute loses rows or keeps them.
     Upper(Rows),
     /// The rows that belong to the query, and no others, whatever the lists have. The same query under the same policy always gives the same ones.
     Exact(Rows),
@@ -67,10 +69,10 @@ impl Engine {
         Engine { answer: vec![0; ANSWER_WORDS], definitions: vec![0; DEFINITIONS_WORDS], scratch: vec![0; SCRATCH_WORDS] }
     }
 
-    /// From the certificates that hold at the minute. A row counts once, however many of its certificates hold then.
-    pub fn query(&mut self, policy: &Policy, query: &Query, minute: Minute, store: &Store) -> Result<Answer, Refusal> {
+    /// From the certificates that hold at the minute, and from the links. A row counts once, however many of its certificates hold then.
+    pub fn query(&mut self, policy: &Policy, query: &Query, minute: Minute, store: &Store, links: &Links) -> Result<Answer, Refusal> {
         let Engine { answer, definitions, scratch } = self;
-        let reply = calls::query(policy.words(), query.words(), minute.number(), store.words(), answer, definitions, scratch);
+        let reply = calls::query(policy.words(), query.words(), minute.number(), store.words(), links.words(), Lent { answer, definitions, scratch });
         let verdict = Verdict::from_numbers(reply.number, reply.part, reply.verdict)?;
         let rows = Rows::from_words(answer);
         let table = match verdict {

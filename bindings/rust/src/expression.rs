@@ -52,7 +52,8 @@ impl Expression {
         Expression(vec![3, number])
     }
 
-    /// A key's list. With certificates for some of its rows alone, + reads as those rows, − as all rows but those.
+    /// A key's list. With certificates for some of its rows alone, its own or those that [`Link`](crate::Link)s bring, + reads as those rows, − as all rows but
+    /// those.
     pub fn list(key: u32, name: u16, polarity: Polarity) -> Expression {
         Expression::list_of(Term::Atom(key), name, polarity)
     }

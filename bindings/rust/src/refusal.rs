@@ -75,6 +75,8 @@ refusal_table! {
     NotExternal = 15, "an external rule is broken, or the output would pass 8,192 words";
     BadDate = 16, "a date does not exist or lies outside 2000 to 2099";
     BadTerm = 17, "the certificate's end is not after its first minute";
+    BadLink = 18, "the link is malformed, or the link store too short or unsound";
+    LinksFull = 19, "the link store holds 256 links and this one is new";
 }
 
 impl RefusalKind {
@@ -84,7 +86,7 @@ impl RefusalKind {
     }
 }
 
-/// Why there is no answer. A refused filing leaves the store unchanged.
+/// Why there is no answer. A refused filing leaves its store unchanged.
 #[derive(Clone, Copy, PartialEq, Eq, Hash, Debug)]
 pub struct Refusal {
     pub kind: RefusalKind,

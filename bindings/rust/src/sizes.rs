@@ -16,6 +16,13 @@ pub const MOST_CERTIFICATES: usize = 1_600;
 /// A store in words: its count, then the certificates.
 pub const STORE_WORDS: usize = 1 + CERTIFICATE_WORDS * MOST_CERTIFICATES;
 
+/// A link in words: key, name, polarity of both lists, other key, other name.
+pub const LINK_WORDS: usize = 5;
+/// The most links that a link store holds.
+pub const MOST_LINKS: usize = 256;
+/// A link store in words: its count, then the links.
+pub const LINKS_WORDS: usize = 1 + LINK_WORDS * MOST_LINKS;
+
 /// The most definitions of a policy.
 pub const MOST_DEFINITIONS: usize = 16;
 /// The most words of a policy: an area of so many takes every rewritten one.
@@ -37,6 +44,8 @@ mod tests {
             ("POLICY", POLICY_WORDS),
             ("STORE", STORE_WORDS),
             ("CERTIFICATE", CERTIFICATE_WORDS),
+            ("LINKS", LINKS_WORDS),
+            ("LINK", LINK_WORDS),
             ("ANSWER", ANSWER_WORDS),
             ("DEFINITIONS", DEFINITIONS_WORDS),
             ("SCRATCH", SCRATCH_WORDS),

@@ -1,5 +1,6 @@
+use crate::filing::kept_words;
 use crate::sizes::{CERTIFICATE_WORDS, STORE_WORDS};
-use crate::{calls, Minute, Polarity, Refusal, Row, Validity};
+use crate::{calls, Filing, Minute, Polarity, Refusal, Row, Validity};
 
 /// What an observatory says of one row and one of its lists, for a term of validity. Its signature has been checked before: the engine takes what is filed as
 /// said by that key. Certificates are in order as in a store.
@@ -30,36 +31,20 @@ impl Certificate {
     }
 }
 
-#[derive(Clone, Copy, PartialEq, Eq, Debug)]
-pub enum Filing {
-    /// The certificate is new and now in the store.
-    Filed,
-    /// It was there already, with the same term.
-    Held,
-}
-
 /// The certificates held, up to 1,600, whenever they hold. None is ever taken back.
 #[derive(Clone, PartialEq, Eq, Debug)]
 pub struct Store {
     words: Vec<u32>,
 }
 
-impl Store {
-    /// An empty one.
-    pub fn new() -> Store {
-        Store { words: vec![0; STORE_WORDS] }
-    }
+kept_words!(Store, STORE_WORDS);
 
+impl Store {
     /// From words kept earlier. Any words at all: an unsound store is refused with 8 when it is used. A store kept by a version before 0.5 has certificates
     /// without a term and is not to be used as it is: every eight words behind its count are for [`file_words`](Store::file_words) into a new store, with a
     /// first and an end minute behind them.
     pub fn from_words(words: Vec<u32>) -> Store {
         Store { words }
-    }
-
-    /// To be kept.
-    pub fn words(&self) -> &[u32] {
-        &self.words
     }
 
     pub fn file(&mut self, certificate: &Certificate) -> Result<Filing, Refusal> {
@@ -68,24 +53,14 @@ impl Store {
 
     /// As they arrived.
     pub fn file_words(&mut self, certificate: &[u32]) -> Result<Filing, Refusal> {
-        match calls::file(&mut self.words, certificate) {
-            0 => Ok(Filing::Filed),
-            1 => Ok(Filing::Held),
-            number => Err(Refusal::from_number(number, None)),
-        }
+        Filing::from_number(calls::file(&mut self.words, certificate))
     }
 
-    /// The rows certified of one name, each with its term, in ascending order; none if the store is unsound. A row comes once for each of its terms, also for
-    /// those that have not begun or are over.
+    /// The rows certified of one name itself, without links, each with its term, in ascending order; none if the store is unsound. A row comes once for each of
+    /// its terms, also for those that have not begun or are over.
     pub fn certificates_of(&self, key: u32, name: u16, polarity: Polarity) -> impl Iterator<Item = (Row, Validity)> + '_ {
         let words = calls::certificates_of(&self.words, key, name.into(), polarity as u32);
         let records = self.words[words].as_chunks::<CERTIFICATE_WORDS>().0.iter();
         records.map(|[_, _, _, row @ .., first, end]| (Row::from_words(row), Validity { first: Minute::new(*first), end: Minute::new(*end) }))
-    }
-}
-
-impl Default for Store {
-    fn default() -> Store {
-        Store::new()
     }
 }

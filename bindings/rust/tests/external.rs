@@ -3,8 +3,8 @@
 
 use txindurbe::calls::{self, Rewriting};
 use txindurbe::{
-    key, Certificate, Definition, Engine, Expression, Guard, Minute, Part, Polarity, Policy, Query, Refusal, RefusalKind, Row, Rows, Slot, Store,
-    Table, Term, Validity,
+    key, Certificate, Definition, Engine, Expression, Guard, Links, Minute, Part, Polarity, Policy, Query, Refusal, RefusalKind, Row, Rows, Slot,
+    Store, Table, Term, Validity,
 };
 
 const ALICE: u32 = key(1);
@@ -38,7 +38,7 @@ fn delegated(trusted: Expression, released: fn(Term) -> Expression) -> Expressio
 
 /// The rows of definition 1.
 fn at_least(policy: &Policy, store: &Store) -> Vec<Row> {
-    let answer = Engine::new().query(policy, &Query::new(&Expression::definition(1)), NOW, store).unwrap();
+    let answer = Engine::new().query(policy, &Query::new(&Expression::definition(1)), NOW, store, &Links::new()).unwrap();
     match answer.table {
         Table::Lower(Rows::Only(rows)) => rows,
         table => panic!("{table:?}"),

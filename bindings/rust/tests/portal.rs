@@ -2,8 +2,8 @@
 //! library: `rt staticlib capi` first.
 
 use txindurbe::{
-    key, Certificate, Definition, Engine, Expression, Filing, Guard, Minute, Part, Polarity, Policy, Query, Refusal, RefusalKind, Row, Rows, Slot,
-    Store, Table, Term, Validity, Verdict,
+    key, Certificate, Definition, Engine, Expression, Filing, Guard, Links, Minute, Part, Polarity, Policy, Query, Refusal, RefusalKind, Row, Rows,
+    Slot, Store, Table, Term, Validity, Verdict,
 };
 
 const RELEASED: u16 = 1;
@@ -47,7 +47,7 @@ fn portal_cases_a_to_e() {
     let query = Query::new(&Expression::definition(0));
     let mut engine = Engine::new();
     let mut store = Store::new();
-    let mut ask = |query: &Query, store: &Store| engine.query(&policy, query, NOW, store).map(|answer| (answer.table, answer.draws));
+    let mut ask = |query: &Query, store: &Store| engine.query(&policy, query, NOW, store, &Links::new()).map(|answer| (answer.table, answer.draws));
     let lower = |listed: Vec<Row>, draws| Ok((Table::Lower(Rows::Only(listed)), draws));
     assert_eq!(ask(&query, &store), lower(vec![], 0));
     assert_eq!(store.file(&Certificate::listed(OBSERVATORY, RELEASED, [7], TERM)), Ok(Filing::Filed));
@@ -72,7 +72,7 @@ fn rows_of_one_observation_are_side_by_side() {
     }
     assert_eq!(certified(&store, RELEASED, Polarity::Plus), ascending);
     let query = Query::new(&Expression::list(OBSERVATORY, RELEASED, Polarity::Plus));
-    let ask = |store: &Store| Engine::new().query(&Policy::new(&[]), &query, NOW, store).map(|answer| answer.table);
+    let ask = |store: &Store| Engine::new().query(&Policy::new(&[]), &query, NOW, store, &Links::new()).map(|answer| answer.table);
     let table = ask(&store).unwrap();
     assert_eq!(table, Table::Lower(Rows::Only(ascending.to_vec())));
     assert!(ascending.iter().all(|row| table.rows().contains(*row)));
@@ -101,7 +101,7 @@ fn verdicts_without_a_store() {
 fn complements_are_exact() {
     let (seven, eight): (&[Term], &[Term]) = (&[Term::Atom(7)], &[Term::Atom(8)]);
     let query = Query::new(&Expression::all_but(&[seven, eight]).union(Expression::rows(&[eight])));
-    let answer = Engine::new().query(&Policy::new(&[]), &query, NOW, &Store::new()).unwrap();
+    let answer = Engine::new().query(&Policy::new(&[]), &query, NOW, &Store::new(), &Links::new()).unwrap();
     assert_eq!(answer.table, Table::Exact(Rows::AllBut(rows([7]))));
     assert!(answer.table.rows().contains([8]) && !answer.table.rows().contains([7]));
 }
@@ -111,7 +111,7 @@ fn refusals_say_where_and_why() {
     let from_open = Expression::each(&[Guard::Draw(withdrawn(), vec![Slot::New(0)])], &[X]);
     let policy = Policy::new(&[Definition { name: 1, polarity: Polarity::Minus, expression: from_open.clone() }]);
     let query = Query::new(&Expression::rows(&[]));
-    let refusal = Engine::new().query(&policy, &query, NOW, &Store::new()).unwrap_err();
+    let refusal = Engine::new().query(&policy, &query, NOW, &Store::new(), &Links::new()).unwrap_err();
     assert_eq!(refusal, Refusal { kind: RefusalKind::OpenDraw, part: Some(Part::Definition(0)) });
     assert_eq!(refusal.to_string(), "refusal 7 in definition 0: a draw is made from an open expression");
     assert_eq!(policy.part(&query, Part::Definition(0)), from_open.words());
@@ -119,7 +119,7 @@ fn refusals_say_where_and_why() {
     assert_eq!(policy.part(&query, Part::Definition(1)), []);
 
     let broken = Store::from_words(vec![3; 5]);
-    let refusal = Engine::new().query(&Policy::new(&[]), &query, NOW, &broken).unwrap_err();
+    let refusal = Engine::new().query(&Policy::new(&[]), &query, NOW, &broken, &Links::new()).unwrap_err();
     assert_eq!(refusal, Refusal { kind: RefusalKind::BadStore, part: None });
     assert_eq!(Store::new().file_words(&[1, 2, 3]), Err(Refusal { kind: RefusalKind::BadCertificate, part: None }));
 }

@@ -3,7 +3,8 @@
 
 use txindurbe::calls::{self, Dated, Minutes};
 use txindurbe::{
-    key, Certificate, Date, Engine, Expression, Filing, Minute, Polarity, Policy, Query, Refusal, RefusalKind, Row, Rows, Store, Table, Validity,
+    key, Certificate, Date, Engine, Expression, Filing, Links, Minute, Polarity, Policy, Query, Refusal, RefusalKind, Row, Rows, Store, Table,
+    Validity,
 };
 
 const OBSERVATORY: u32 = key(1);
@@ -24,7 +25,7 @@ fn refused<T>(kind: RefusalKind) -> Result<T, Refusal> {
 /// What is released, at least.
 fn at_least(store: &Store, minute: u32) -> Result<Vec<Row>, RefusalKind> {
     let query = Query::new(&Expression::list(OBSERVATORY, RELEASED, Polarity::Plus));
-    let answer = Engine::new().query(&Policy::new(&[]), &query, Minute::new(minute), store).map_err(|refusal| refusal.kind)?;
+    let answer = Engine::new().query(&Policy::new(&[]), &query, Minute::new(minute), store, &Links::new()).map_err(|refusal| refusal.kind)?;
     match answer.table {
         Table::Lower(Rows::Only(rows)) => Ok(rows),
         table => panic!("{table:?}"),

@@ -1,20 +1,21 @@
 //! Puts the same words to two engines and compares replies and areas, word for word.
 
-use crate::engine::{Engine, Lent};
+use crate::engine::{Engine, Kind, Stores};
 use crate::evaluator::{Date, Evaluator, Set};
 use crate::generate::{Case, Filings, Generator, PORTAL};
 use crate::random::Random;
 use std::collections::BTreeMap;
 use std::ops::Range;
-use txindurbe::calls::Reply;
+use txindurbe::calls::{Lent, Reply};
 
 /// What was seen in a run.
 #[derive(Default)]
 pub struct Tally {
     pub passed: u64,
     pub failed: u64,
-    /// Replies to filings, to rewritings and to conversions by number, to queries by refusal number, and answers by verdict and form.
-    pub filings: BTreeMap<u32, u64>,
+    /// Replies to filings of certificates and of links, to rewritings and to conversions by number, to queries by refusal number, and answers by verdict and form.
+    pub certificates: BTreeMap<u32, u64>,
+    pub links: BTreeMap<u32, u64>,
     pub rewritings: BTreeMap<u32, u64>,
     pub conversions: BTreeMap<u32, u64>,
     pub refusals: BTreeMap<u32, u64>,
@@ -122,9 +123,9 @@ impl<'a> Comparison<'a> {
     /// So many cases, or up to the first failure.
     pub fn run(&mut self, seed: u64, cases: u64, stop_at_failure: bool) {
         let mut generator = Generator::new(seed, &PORTAL);
-        let mut store = generator.store();
+        let mut stores = Stores { store: generator.store(), links: generator.links() };
         for number in 0..cases {
-            let result = self.next(&mut generator, &mut store);
+            let result = self.next(&mut generator, &mut stores);
             self.tally.count(result.map_err(|report| format!("case {number}, {report}")));
             if stop_at_failure && self.tally.failed > 0 {
                 return;
@@ -133,37 +134,46 @@ impl<'a> Comparison<'a> {
     }
 
     /// One case in eight is a list of filings.
-    fn next(&mut self, generator: &mut Generator, store: &mut Vec<u32>) -> Result<(), String> {
+    fn next(&mut self, generator: &mut Generator, stores: &mut Stores) -> Result<(), String> {
         if generator.random.chance(125) {
             return self.filings(&generator.filings());
         }
         if generator.random.chance(150) {
-            *store = generator.store();
+            stores.store = generator.store();
+        }
+        if generator.random.chance(250) {
+            stores.links = generator.links();
         }
         let case = generator.case();
         let Case { policy, query, minute, areas, .. } = &case;
         let show = |report| format!("{report}\n  policy {policy:?}\n  query {query:?}\n  minute {minute}\n  areas {areas:?}");
-        self.case(&case, store).map_err(show)
+        self.case(&case, stores).map_err(show)
     }
 
-    /// Each filing gets the store as those before it left it.
+    /// Each filing gets the stores as those before it left them.
     fn filings(&mut self, filings: &Filings) -> Result<(), String> {
-        let (mut tested, mut expected) = (filings.store.clone(), filings.store.clone());
-        for certificate in &filings.certificates {
-            let reply = Engine::file(&self.expected, &mut expected, certificate);
-            *self.tally.filings.entry(reply).or_default() += 1;
-            let filing = || format!("filing {certificate:?} in a store of {} certificates", filings.store.first().unwrap_or(&0));
-            equal(&filing(), self.tested.file(&mut tested, certificate), reply)?;
-            same_words(&filing(), &tested, &expected)?;
+        let (mut tested, mut expected) = (filings.stores.clone(), filings.stores.clone());
+        for (kind, words) in &filings.filed {
+            let reply = expected.file(&self.expected, *kind, words);
+            let tally = match kind {
+                Kind::Certificate => &mut self.tally.certificates,
+                Kind::Link => &mut self.tally.links,
+            };
+            *tally.entry(reply).or_default() += 1;
+            let [certificates, links] = [&filings.stores.store, &filings.stores.links].map(|store| store.first().unwrap_or(&0));
+            let filing = || format!("filing the {kind:?} {words:?}, starting with {certificates} certificates and {links} links");
+            equal(&filing(), tested.file(self.tested, *kind, words), reply)?;
+            same_words(&filing(), &tested.store, &expected.store)?;
+            same_words(&filing(), &tested.links, &expected.links)?;
         }
         Ok(())
     }
 
-    fn case(&mut self, case: &Case, store: &[u32]) -> Result<(), String> {
-        let Case { policy, query, .. } = case;
-        let reply = self.query(case, store)?;
+    fn case(&mut self, case: &Case, stores: &Stores) -> Result<(), String> {
+        let (Case { policy, query, .. }, store) = (case, &stores.store);
+        let reply = self.query(case, stores)?;
         if self.random.chance(100) {
-            equal("the same query with other junk", self.query(case, store)?, reply)?;
+            equal("the same query with other junk", self.query(case, stores)?, reply)?;
         }
         equal("judgement", self.tested.judge(policy, query), Engine::judge(&self.expected, policy, query))?;
         self.rewrite(policy, case.rewriting_area)?;
@@ -195,21 +205,22 @@ impl<'a> Comparison<'a> {
         tested.fences_kept("rewritten policy's")
     }
 
-    fn query(&mut self, case: &Case, store: &[u32]) -> Result<Reply, String> {
+    fn query(&mut self, case: &Case, Stores { store, links }: &Stores) -> Result<Reply, String> {
         let mut area = |length| self.junk.area(length, &mut self.random);
         let [mut expected, mut definitions, mut scratch] = [case.areas.answer, case.areas.definitions, case.areas.scratch].map(&mut area);
         let mut tested = expected.clone();
         let mut ask = |engine: &dyn Engine, answer: &mut Area| {
             let lent = Lent { answer: answer.lent(), definitions: definitions.lent(), scratch: scratch.lent() };
-            engine.query(&case.policy, &case.query, case.minute, store, lent)
+            engine.query(&case.policy, &case.query, case.minute, store, links, lent)
         };
         let reply = ask(&self.expected, &mut expected);
-        let store_before = store.to_vec();
+        let (store_before, links_before) = (store.clone(), links.clone());
         let tested_reply = ask(self.tested, &mut tested);
         self.tally_reply(reply, expected.lent());
         equal("reply", tested_reply, reply)?;
         same_words("answer area", tested.lent(), expected.lent())?;
         same_words("store after a query", store, &store_before)?;
+        same_words("link store after a query", links, &links_before)?;
         tested.fences_kept("answer")?;
         definitions.fences_kept("definition")?;
         scratch.fences_kept("scratch")?;
@@ -249,7 +260,10 @@ mod tests {
         let tally = run(Evaluator::default(), 10_000, false);
         assert_eq!(tally.failed, 0);
         for number in [0, 1, 8, 9, 10, 17] {
-            assert!(tally.filings.get(&number) > Some(&20), "filing reply {number}: {:?}", tally.filings);
+            assert!(tally.certificates.get(&number) > Some(&20), "reply {number} to certificates: {:?}", tally.certificates);
+        }
+        for number in [0, 1, 18, 19] {
+            assert!(tally.links.get(&number) > Some(&20), "reply {number} to links: {:?}", tally.links);
         }
         for number in [0, 1, 2, 3, 4, 5, 6, 7, 11, 15] {
             assert!(tally.rewritings.get(&number) > Some(&20), "rewriting reply {number}: {:?}", tally.rewritings);
@@ -257,7 +271,7 @@ mod tests {
         for number in [0, 16] {
             assert!(tally.conversions.get(&number) > Some(&1_000), "conversion reply {number}: {:?}", tally.conversions);
         }
-        for number in [1, 2, 3, 4, 5, 6, 7, 8, 11, 13] {
+        for number in [1, 2, 3, 4, 5, 6, 7, 8, 11, 13, 18] {
             assert!(tally.refusals.get(&number) > Some(&20), "refusal {number}: {:?}", tally.refusals);
         }
         // 14 takes a million draws. 12 is never met: what is not open is always finite.

@@ -4,13 +4,14 @@ use crate::evaluator::{Answer, Areas, Date, Evaluator, Filing, Part, Refusal, Ve
 use crate::faults::{self, Fault};
 use crate::numbers::NO_PART;
 use std::ops::Range;
-use txindurbe::calls::{Dated, Judgement, Minutes, Reply, Rewriting};
+use txindurbe::calls::{Dated, Judgement, Lent, Minutes, Reply, Rewriting};
 
-/// The eight calls of `include/txindurbe.h`, with all that they hand out.
+/// The nine calls of `include/txindurbe.h`, with all that they hand out.
 pub trait Engine {
     /// 0 Filed, 1 Held, else the refusal's number.
     fn file(&self, store: &mut [u32], certificate: &[u32]) -> u32;
-    fn query(&self, policy: &[u32], query: &[u32], minute: u32, store: &[u32], lent: Lent) -> Reply;
+    fn file_link(&self, links: &mut [u32], link: &[u32]) -> u32;
+    fn query(&self, policy: &[u32], query: &[u32], minute: u32, store: &[u32], links: &[u32], lent: Lent) -> Reply;
     fn judge(&self, policy: &[u32], query: &[u32]) -> Judgement;
     fn rewrite(&self, policy: &[u32], area: &mut [u32]) -> Rewriting;
     /// 1 for words of the query, 0 for words of the policy, and where in it they stand.
@@ -21,16 +22,27 @@ pub trait Engine {
     fn date(&self, minutes: u32) -> Dated;
 }
 
-/// The areas lent to a query.
-pub struct Lent<'a> {
-    pub answer: &'a mut [u32],
-    pub definitions: &'a mut [u32],
-    pub scratch: &'a mut [u32],
+/// A store and a link store, into which lists of filings go.
+#[derive(Clone)]
+pub struct Stores {
+    pub store: Vec<u32>,
+    pub links: Vec<u32>,
 }
 
-impl Lent<'_> {
-    pub fn lengths(&self) -> Areas {
-        Areas { answer: self.answer.len(), definitions: self.definitions.len(), scratch: self.scratch.len() }
+/// What is filed.
+#[derive(Clone, Copy, PartialEq, Eq, Debug)]
+pub enum Kind {
+    Certificate,
+    Link,
+}
+
+impl Stores {
+    /// Into the store of its kind.
+    pub fn file(&mut self, engine: &dyn Engine, kind: Kind, words: &[u32]) -> u32 {
+        match kind {
+            Kind::Certificate => engine.file(&mut self.store, words),
+            Kind::Link => engine.file_link(&mut self.links, words),
+        }
     }
 }
 
@@ -44,6 +56,14 @@ fn judgement(judged: Result<Verdict, Refusal>) -> Judgement {
     }
 }
 
+fn filing_number(filing: Filing) -> u32 {
+    match filing {
+        Filing::Filed => 0,
+        Filing::Held => 1,
+        Filing::Refused(number) => number,
+    }
+}
+
 fn reply(answered: Result<Answer, Refusal>) -> Reply {
     let draws = answered.as_ref().map_or(0, |answer| answer.draws);
     let Judgement { number, part, verdict } = judgement(answered.map(|answer| answer.verdict));
@@ -52,15 +72,16 @@ fn reply(answered: Result<Answer, Refusal>) -> Reply {
 
 impl Engine for Evaluator {
     fn file(&self, store: &mut [u32], certificate: &[u32]) -> u32 {
-        match Evaluator::file(self, store, certificate) {
-            Filing::Filed => 0,
-            Filing::Held => 1,
-            Filing::Refused(number) => number,
-        }
+        filing_number(Evaluator::file(self, store, certificate))
     }
 
-    fn query(&self, policy: &[u32], query: &[u32], minute: u32, store: &[u32], lent: Lent) -> Reply {
-        let answered = Evaluator::query(self, policy, query, minute, store, lent.lengths());
+    fn file_link(&self, links: &mut [u32], link: &[u32]) -> u32 {
+        filing_number(Evaluator::file_link(self, links, link))
+    }
+
+    fn query(&self, policy: &[u32], query: &[u32], minute: u32, store: &[u32], links: &[u32], lent: Lent) -> Reply {
+        let areas = Areas { answer: lent.answer.len(), definitions: lent.definitions.len(), scratch: lent.scratch.len() };
+        let answered = Evaluator::query(self, policy, query, minute, store, links, areas);
         match &answered {
             Ok(answer) => {
                 let words = faults::wrong_layout(self.fault, &answer.set).unwrap_or_else(|| answer.set.words());

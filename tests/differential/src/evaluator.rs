@@ -1,4 +1,4 @@
-//! Document 01, with document 02's N1 to N4, as a plain program, section by section, to be read with the documents beside it.
+//! Document 01, with document 02's N1 to N5, as a plain program, section by section, to be read with the documents beside it.
 //!
 //! It is slow and short on purpose: sets are `BTreeSet`s, words are parsed by recursive descent, and nothing is shared with the engine it is compared with.
 //! Places marked `planted`, and calls of [`faults`], are mistakes that are made only when asked for; without a [`Fault`] they do nothing.
@@ -142,11 +142,13 @@ impl Validity {
     }
 }
 
+/// Key, name, polarity.
+pub type Name = [u32; 3];
+
 /// A certificate. The derived order is the store's: by key, name and polarity, then by the row, then by first, then by end minute.
 #[derive(Clone, Copy, PartialEq, Eq, PartialOrd, Ord, Debug)]
 pub struct Record {
-    /// Key, name, polarity.
-    pub name: [u32; 3],
+    pub name: Name,
     pub row: Row,
     pub validity: Validity,
 }
@@ -171,6 +173,49 @@ pub enum Filing {
     Filed,
     Held,
     Refused(u32),
+}
+
+// ---- Links ----
+
+/// A link between two names of one polarity. The derived order is the link store's: word by word.
+#[derive(Clone, Copy, PartialEq, Eq, PartialOrd, Ord, Debug)]
+pub struct Link {
+    pub key: u32,
+    pub name: u32,
+    pub polarity: u32,
+    pub other_key: u32,
+    pub other_name: u32,
+}
+
+impl Link {
+    /// Nothing where the link is malformed: "if it is not five words, either key is a number, either name is over 65,535 or its polarity over 1".
+    pub fn from_words(words: &[u32]) -> Option<Link> {
+        let &[key, name, polarity, other_key, other_name] = words else { return None };
+        let sound = is_key(key) && is_key(other_key) && name <= LAST_NAME && other_name <= LAST_NAME && polarity <= 1;
+        sound.then_some(Link { key, name, polarity, other_key, other_name })
+    }
+
+    pub fn words(&self) -> [u32; LINK_WORDS] {
+        [self.key, self.name, self.polarity, self.other_key, self.other_name]
+    }
+
+    pub fn first(&self) -> Name {
+        [self.key, self.name, self.polarity]
+    }
+
+    pub fn second(&self) -> Name {
+        [self.other_key, self.other_name, self.polarity]
+    }
+}
+
+/// Every name that steps reach from this one, itself included.
+pub fn reached(name: Name, steps: impl Fn(Name) -> Vec<Name>) -> BTreeSet<Name> {
+    let mut reached = BTreeSet::from([name]);
+    let mut left = vec![name];
+    while let Some(at) = left.pop() {
+        left.extend(steps(at).into_iter().filter(|next| reached.insert(*next)));
+    }
+    reached
 }
 
 // ---- Dates ----
@@ -501,7 +546,7 @@ pub struct Judged {
 // ---- Reading ----
 
 /// The rows certified of each name.
-pub type Certified = BTreeMap<[u32; 3], BTreeSet<Row>>;
+pub type Certified = BTreeMap<Name, BTreeSet<Row>>;
 
 pub fn certified<'a>(records: impl IntoIterator<Item = &'a Record>) -> Certified {
     let mut rows = Certified::new();
@@ -511,10 +556,16 @@ pub fn certified<'a>(records: impl IntoIterator<Item = &'a Record>) -> Certified
     rows
 }
 
-/// Reads in the minimal model of the certificates that hold at the minute.
-struct Reading<'a> {
-    /// All that are held in the store, at whatever minute; only planted faults look at them.
+/// What the two stores hold.
+#[derive(Clone, Copy)]
+struct Held<'a> {
     records: &'a [Record],
+    links: &'a [Link],
+}
+
+/// Reads in the minimal model of the links and of the certificates that hold at the minute.
+struct Reading<'a> {
+    held: Held<'a>,
     minute: u32,
     certified: Certified,
     definitions: Vec<Set>,
@@ -546,10 +597,11 @@ pub fn row_of(terms: &[Term], values: &[u32]) -> Row {
 }
 
 impl Reading<'_> {
-    fn new(records: &[Record], minute: u32, evaluator: Evaluator) -> Reading<'_> {
+    fn new(held: Held<'_>, minute: u32, evaluator: Evaluator) -> Reading<'_> {
+        let records = held.records;
         let holds = |record: &&Record| faults::wrongly_holds(evaluator.fault, records, record, minute).unwrap_or(record.validity.holds_at(minute));
         let certified = certified(records.iter().filter(holds));
-        Reading { records, minute, certified, definitions: Vec::new(), draws: 0, evaluator }
+        Reading { held, minute, certified, definitions: Vec::new(), draws: 0, evaluator }
     }
 
     fn read(&mut self, expression: &Expression, values: &mut Vec<u32>) -> Numbered<Set> {
@@ -569,16 +621,26 @@ impl Reading<'_> {
         }
     }
 
-    /// A + name has just its certified rows, a − name all but those. Nothing is certified under a number.
+    /// The names whose certified rows are joined for this one: each that links of its polarity reach from it, in any number of steps.
+    fn joined(&self, name: Name) -> BTreeSet<Name> {
+        let steps = |at| self.held.links.iter().filter(|link| link.first() == at).map(Link::second).collect();
+        faults::wrongly_joined(self.evaluator.fault, self.held.links, name).unwrap_or_else(|| reached(name, steps))
+    }
+
+    /// A + name has just the rows certified of the names joined for it, a − name all but those. Nothing is certified under a number, and no link is of one.
     fn list(&self, issuer: Term, name: u32, polarity: u32, values: &[u32]) -> Numbered<Set> {
-        let name = [value(issuer, values), name, polarity];
-        let rows = self.certified.get(&name).cloned().unwrap_or_default();
+        let (fault, name) = (self.evaluator.fault, [value(issuer, values), name, polarity]);
+        let alone = self.evaluator.has(Fault::VariableIssuerWithoutLinks) && matches!(issuer, Term::Variable(_)); // planted
+        let joined = if alone { BTreeSet::from([name]) } else { self.joined(name) };
+        let rows = || joined.iter().filter_map(|name| self.certified.get(name)).flatten().copied().collect();
+        let rows = faults::wrongly_certified(fault, self.held.records, &self.certified, name, &joined).unwrap_or_else(rows);
         let set = if polarity == 0 { Set::Finite(rows) } else { Set::Complement(rows) };
-        if faults::rows_wrongly_counted(self.evaluator.fault, self.records, name, self.minute) > MOST_ROWS {
+        if faults::rows_wrongly_counted(fault, self.held.records, &self.certified, &joined, self.minute) > MOST_ROWS {
             return Err(TOO_MANY_ROWS); // planted
         }
-        match faults::wrong_list(self.evaluator.fault, issuer, values, &set) {
+        match faults::wrong_list(fault, issuer, values, &set) {
             Some(planted) => Ok(planted),
+            None if faults::limit_passed(fault, &self.certified, &joined) => Ok(set), // planted
             None => limited(set),
         }
     }
@@ -598,12 +660,21 @@ impl Reading<'_> {
         if fault == Some(Fault::VettedAtAnyMinute) {
             return self.at_any_minute().list(issuer, name, 0, values); // planted
         }
+        if let Some(links) = faults::wrongly_vetted(fault, compromised, self.held.links) {
+            return self.with_links(&links).list(issuer, name, 0, values); // planted
+        }
         self.list(issuer, name, 0, values)
     }
 
     /// Planted with `VettedAtAnyMinute` and `AbsentAtAnyMinute`.
     fn at_any_minute(&self) -> Reading<'_> {
-        Reading { certified: certified(self.records), definitions: self.definitions.clone(), ..*self }
+        Reading { certified: certified(self.held.records), definitions: self.definitions.clone(), ..*self }
+    }
+
+    /// Planted with `VettedWithoutLinks`, `ReachedVetted` and `AbsentWithoutLinks`.
+    fn with_links<'b>(&'b self, links: &'b [Link]) -> Reading<'b> {
+        let held = Held { links, ..self.held };
+        Reading { held, certified: self.certified.clone(), definitions: self.definitions.clone(), ..*self }
     }
 
     fn union(&mut self, left: &Expression, right: &Expression, values: &mut Vec<u32>) -> Numbered<Set> {
@@ -641,6 +712,10 @@ impl Reading<'_> {
                     absent = !self.at_any_minute().read(from, values)?.holds(&row);
                     // planted
                 }
+                if self.evaluator.has(Fault::AbsentWithoutLinks) && matches!(from, Expression::List { .. }) {
+                    absent = !self.with_links(&[]).read(from, values)?.holds(&row);
+                    // planted
+                }
                 if self.evaluator.has(Fault::OperandReadOnce) && draws > 0 {
                     self.draws = draws; // planted
                 }
@@ -670,9 +745,9 @@ impl Reading<'_> {
         if self.evaluator.has(Fault::DrawnByWidth) {
             rows.sort_by_key(|row| row.width); // planted
         }
-        if let (true, Expression::List { issuer, name, polarity }) = (self.evaluator.has(Fault::DrawnForEachRecord), from) {
-            let name = [value(*issuer, values), *name, *polarity];
-            rows = faults::rows_of_records(self.records, name, self.minute).collect();
+        if let (Some(fault), Expression::List { issuer, name, polarity }) = (self.evaluator.fault, from) {
+            let joined = self.joined([value(*issuer, values), *name, *polarity]);
+            rows = faults::wrongly_drawn(fault, self.held.records, &self.certified, &joined, self.minute).unwrap_or(rows);
             // planted
         }
         let most = MOST_DRAWS_MADE - self.evaluator.has(Fault::MillionthDrawRefused) as u32; // planted
@@ -753,6 +828,23 @@ impl Areas {
     }
 }
 
+/// A store's records, as many as its count says, of so many words each; nothing where they are more than it may hold, or one is unsound.
+fn laid_out<R>(store: &[u32], most: usize, width: usize, from_words: impl FnMut(&[u32]) -> Option<R>) -> Option<Vec<R>> {
+    let count = store[0] as usize;
+    if count > most {
+        return None;
+    }
+    store[1..1 + width * count].chunks(width).map(from_words).collect()
+}
+
+/// Later records move up by as many words as a record has, and the count rises by 1.
+fn put_in_place(store: &mut [u32], place: usize, record: &[u32], moved: usize) {
+    let (start, end) = (1 + record.len() * place, 1 + record.len() * store[0] as usize);
+    store.copy_within(start..end, start + moved);
+    store[start..start + record.len()].copy_from_slice(record);
+    store[0] += 1;
+}
+
 /// What the documents say, or that with one fault planted.
 #[derive(Clone, Copy, Default, Debug)]
 pub struct Evaluator {
@@ -767,18 +859,17 @@ impl Evaluator {
     /// The records of a sound store.
     pub fn certificates(&self, store: &[u32]) -> Option<Vec<Record>> {
         let most = faults::wrong_capacity(self.fault, store).unwrap_or(0).max(MOST_CERTIFICATES); // the other capacity is planted
-        if store.len() < STORE_WORDS || store[0] as usize > most {
+        if store.len() < STORE_WORDS {
             return None;
         }
-        let words = &store[1..1 + RECORD_WORDS * store[0] as usize];
-        let records = words.chunks(RECORD_WORDS).map(Record::from_words).collect::<Option<Vec<Record>>>()?;
+        let records = laid_out(store, most, RECORD_WORDS, Record::from_words)?;
         let ascending = |pair: &[Record]| faults::wrongly_ascending(self.fault, &pair[0], &pair[1]).unwrap_or(pair[0] < pair[1]);
         let sound = |record: &Record| faults::wrongly_sound(self.fault, record.validity).unwrap_or(record.validity.sound());
         (records.iter().all(sound) && records.windows(2).all(ascending)).then_some(records)
     }
 
     /// The part of the store with one name's certificates, in words; empty if there is none or the store is unsound.
-    pub fn certificates_of(&self, store: &[u32], name: [u32; 3]) -> Range<usize> {
+    pub fn certificates_of(&self, store: &[u32], name: Name) -> Range<usize> {
         let Some(records) = self.certificates(store) else { return 0..0 };
         let of_name = |record: &Record| record.name == name;
         let Some(first) = records.iter().position(of_name) else { return 0..0 };
@@ -822,16 +913,71 @@ impl Evaluator {
         if full {
             return Filing::Refused(STORE_FULL);
         }
-        let (start, end) = (1 + RECORD_WORDS * place, 1 + RECORD_WORDS * records.len());
         let moved = if self.has(Fault::MovedByEightWords) { 8 } else { RECORD_WORDS }; // planted
-        store.copy_within(start..end, start + moved);
-        store[start..start + RECORD_WORDS].copy_from_slice(&record.words());
-        store[0] += 1;
+        put_in_place(store, place, &record.words(), moved);
         if self.has(Fault::FilingClearsPastTheEnd) {
-            store[end + RECORD_WORDS..].iter_mut().take(1).for_each(|word| *word = 0);
+            store[1 + RECORD_WORDS * (records.len() + 1)..].iter_mut().take(1).for_each(|word| *word = 0);
             // planted
         }
         Filing::Filed
+    }
+
+    /// The links of a sound link store.
+    pub fn links(&self, store: &[u32]) -> Option<Vec<Link>> {
+        if faults::wrongly_short(self.fault, store).unwrap_or(store.len() < LINKS_WORDS) {
+            return None;
+        }
+        let most = faults::wrong_links_capacity(self.fault, store).unwrap_or(0).max(MOST_LINKS); // the other capacity is planted
+        let link = |words: &[u32]| faults::wrongly_formed(self.fault, words).or_else(|| Link::from_words(words));
+        let links = laid_out(store, most, LINK_WORDS, |words| faults::wrongly_held_link(self.fault, words).or_else(|| link(words)))?;
+        let ascending = |pair: &[Link]| faults::links_wrongly_ascending(self.fault, &pair[0], &pair[1]).unwrap_or(pair[0] < pair[1]);
+        links.windows(2).all(ascending).then_some(links)
+    }
+
+    /// 18, Held, 19.
+    pub fn file_link(&self, store: &mut [u32], link: &[u32]) -> Filing {
+        if self.has(Fault::HeldBeforeUnsoundLinks) && faults::has_link(store, link) {
+            return Filing::Held; // planted
+        }
+        let Some(links) = self.links(store) else { return Filing::Refused(self.unsound_links()) };
+        let full = links.len() >= faults::wrong_links_capacity(self.fault, store).unwrap_or(MOST_LINKS); // the other capacity is planted
+        let refused_as_full = Filing::Refused(if self.has(Fault::LinksFullAsStoreFull) { STORE_FULL } else { LINKS_FULL }); // 10 is planted
+        if full && self.has(Fault::LinksFullBeforeBadLink) {
+            return refused_as_full; // planted
+        }
+        let Some(link) = faults::wrongly_formed(self.fault, link).or_else(|| Link::from_words(link)) else {
+            return Filing::Refused(if self.has(Fault::BadLinkAsCertificate) { BAD_CERTIFICATE } else { BAD_LINK });
+            // 9 is planted
+        };
+        if faults::wrongly_refused_link(self.fault, &links, &link) {
+            return Filing::Refused(BAD_LINK); // planted
+        }
+        if full && self.has(Fault::LinksFullBeforeHeld) {
+            return refused_as_full; // planted
+        }
+        if links.contains(&link) || faults::link_wrongly_held(self.fault, &links, &link) {
+            return Filing::Held; // the second is planted
+        }
+        if full {
+            return refused_as_full;
+        }
+        let place = links.iter().filter(|held| **held < link).count();
+        let place = faults::wrong_place_of_link(self.fault, &links, &link).unwrap_or(place);
+        let moved = faults::link_wrongly_moved(self.fault, store).unwrap_or(LINK_WORDS);
+        put_in_place(store, place, &link.words(), moved);
+        if self.has(Fault::LinkPastTheEndCleared) {
+            store[1 + LINK_WORDS * (links.len() + 1)..].iter_mut().take(1).for_each(|word| *word = 0);
+            // planted
+        }
+        Filing::Filed
+    }
+
+    fn unsound_links(&self) -> u32 {
+        if self.has(Fault::UnsoundLinksAsStore) {
+            BAD_STORE // planted
+        } else {
+            BAD_LINK
+        }
     }
 
     /// 1, 2.
@@ -1127,26 +1273,41 @@ impl Evaluator {
         (FIRST_YEAR..=last).flat_map(|year| (1..=12).map(move |month| (year, month))).map(move |(year, month)| (year, month, days(year, month)))
     }
 
-    /// 1 to 7; 8; 11; then reading.
-    pub fn query(&self, policy: &[u32], query: &[u32], minute: u32, store: &[u32], areas: Areas) -> Result<Answer, Refusal> {
+    /// 1 to 7; 8; 18; 11; then reading.
+    pub fn query(&self, policy: &[u32], query: &[u32], minute: u32, store: &[u32], links: &[u32], areas: Areas) -> Result<Answer, Refusal> {
+        let sound_links = self.links(links);
+        if self.has(Fault::BadLinkBeforeJudging) && sound_links.is_none() {
+            return refused(BAD_LINK); // planted
+        }
         let judged = self.judge(policy, query)?;
         if self.has(Fault::AreasBeforeStore) && areas.under(Areas::LEAST) {
             return refused(SHORT_AREA); // planted
         }
+        if self.has(Fault::BadLinkBeforeStore) && sound_links.is_none() {
+            return refused(BAD_LINK); // planted
+        }
         let Some(records) = self.certificates(store) else { return refused(BAD_STORE) };
+        if self.has(Fault::AreasBeforeLinks) && areas.under(Areas::LEAST) {
+            return refused(SHORT_AREA); // planted
+        }
+        let Some(links) = faults::links_taken(self.fault, &judged, sound_links) else {
+            let part = if self.has(Fault::BadLinkHasAPart) { QUERY_PART } else { NO_PART }; // planted
+            return Err(Refusal { number: self.unsound_links(), part });
+        };
         if areas.under(Areas::LEAST) {
             return refused(SHORT_AREA);
         }
         if self.has(Fault::MinuteWithoutDateRefused) {
             self.date(minute).or_else(refused)?; // planted
         }
-        self.read(&judged, &records, minute)
+        self.read(&judged, Held { records: &records, links: &links }, minute)
     }
 
     /// Definitions are read once, in file order, then the query.
-    fn read(&self, judged: &Judged, records: &[Record], minute: u32) -> Result<Answer, Refusal> {
+    fn read(&self, judged: &Judged, held: Held, minute: u32) -> Result<Answer, Refusal> {
         let definitions_minute = if self.has(Fault::DefinitionsAtMinute0) { 0 } else { minute }; // planted
-        let mut reading = Reading::new(records, definitions_minute, *self);
+        let definitions_links = if self.has(Fault::DefinitionsWithoutLinks) { &[] } else { held.links }; // planted
+        let mut reading = Reading::new(Held { links: definitions_links, ..held }, definitions_minute, *self);
         for (definition, part) in judged.definitions.iter().zip(0..) {
             let set = if self.has(Fault::UnusedDefinitionNotRead) && !judged.uses(part as usize) {
                 Set::Finite(BTreeSet::new()) // planted
@@ -1158,9 +1319,9 @@ impl Evaluator {
                 reading.draws = 0; // planted
             }
         }
-        if definitions_minute != minute {
+        if self.has(Fault::DefinitionsAtMinute0) || self.has(Fault::DefinitionsWithoutLinks) {
             let Reading { definitions, draws, .. } = reading;
-            reading = Reading { definitions, draws, ..Reading::new(records, minute, *self) };
+            reading = Reading { definitions, draws, ..Reading::new(held, minute, *self) };
             // planted
         }
         let set = in_part(reading.read(&judged.query, &mut Vec::new()), QUERY_PART)?;

@@ -51,13 +51,19 @@ fn store_of(records: impl IntoIterator<Item = Record>) -> Vec<u32> {
     store
 }
 
+fn no_links() -> Vec<u32> {
+    let mut links = vec![77; LINKS_WORDS];
+    links[0] = 0;
+    links
+}
+
 /// At minute 0, as cases a to l.
 fn ask(policy: &[u32], query: &[u32], store: &[u32]) -> Result<Answer, Refusal> {
     ask_at(0, policy, query, store)
 }
 
 fn ask_at(minute: u32, policy: &[u32], query: &[u32], store: &[u32]) -> Result<Answer, Refusal> {
-    Evaluator::default().query(policy, query, minute, store, Areas::LEAST)
+    Evaluator::default().query(policy, query, minute, store, &no_links(), Areas::LEAST)
 }
 
 fn certificates_of(store: &[u32], name: [u32; 3]) -> Range<usize> {
@@ -427,14 +433,17 @@ fn declared_polarity_alone_counts_and_openness_is_passed_on() {
 }
 
 #[test]
-fn short_areas_get_11_after_8() {
-    let mut unsound = empty_store();
+fn short_areas_get_11_after_8_and_18() {
+    let (mut unsound, mut unsound_links) = (empty_store(), no_links());
     unsound[0] = 1_601;
+    unsound_links[0] = 257;
     let shorter = [Areas { answer: 641, ..Areas::LEAST }, Areas { definitions: 10_271, ..Areas::LEAST }, Areas { scratch: 16_383, ..Areas::LEAST }];
     for areas in shorter {
-        let ask = |store: &[u32]| Evaluator::default().query(NOTHING, &[1, 0], 0, store, areas);
-        assert_eq!(ask(&empty_store()), refusal(11, NO_PART));
-        assert_eq!(ask(&unsound), refusal(8, NO_PART));
+        let ask = |store: &[u32], links: &[u32]| Evaluator::default().query(NOTHING, &[1, 0], 0, store, links, areas);
+        assert_eq!(ask(&empty_store(), &no_links()), refusal(11, NO_PART));
+        assert_eq!(ask(&unsound, &no_links()), refusal(8, NO_PART));
+        assert_eq!(ask(&empty_store(), &unsound_links), refusal(18, NO_PART));
+        assert_eq!(ask(&unsound, &unsound_links), refusal(8, NO_PART));
     }
 }
 
@@ -879,6 +888,209 @@ fn each_day_follows_the_one_before() {
         last = date;
     }
     assert_eq!(last, [2099, 12, 31, 0, 0]);
+}
+
+// ---- document 02, N5 ----
+
+/// From name 1 of one key to name 1 of another.
+fn link(key: u32, polarity: u32, other_key: u32) -> Link {
+    Link { key, name: 1, polarity, other_key, other_name: 1 }
+}
+
+fn file_link(links: &mut [u32], link: Link) -> Filing {
+    Evaluator::default().file_link(links, &link.words())
+}
+
+fn links_of(links: impl IntoIterator<Item = Link>) -> Vec<u32> {
+    let mut store = no_links();
+    for link in links {
+        assert_eq!(file_link(&mut store, link), Filing::Filed, "{link:?}");
+    }
+    store
+}
+
+/// Three keys with a row each under name 1: k1 has 7, k2 has 8, k3 has 9.
+fn three_rows(polarity: u32) -> Vec<u32> {
+    store_of([(K1, [7]), (K2, [8]), (K3, [9])].map(|(key, row)| certificate(key, 1, polarity, &row)))
+}
+
+fn ask_linked(query: &[u32], store: &[u32], links: &[u32]) -> Result<Answer, Refusal> {
+    Evaluator::default().query(NOTHING, query, 0, store, links, Areas::LEAST)
+}
+
+/// The rows listed for name 1 of each of the three keys.
+fn listed(polarity: u32, links: impl IntoIterator<Item = Link>) -> [Vec<u32>; 3] {
+    let links = links_of(links);
+    [K1, K2, K3].map(|key| {
+        let set = ask_linked(&[4, 0, key, 1, polarity], &three_rows(polarity), &links).unwrap().set;
+        assert_eq!(matches!(set, Complement(_)), polarity == 1);
+        set.listed().iter().map(|row| row.atoms[0]).collect()
+    })
+}
+
+#[test]
+fn links_join_the_rows_of_every_name_that_they_reach() {
+    for polarity in [0, 1] {
+        let to = |key, other| link(key, polarity, other);
+        assert_eq!(listed(polarity, []), [vec![7], vec![8], vec![9]]);
+        // a chain, as it ascends and against the order of links
+        assert_eq!(listed(polarity, [to(K1, K2), to(K2, K3)]), [vec![7, 8, 9], vec![8, 9], vec![9]]);
+        assert_eq!(listed(polarity, [to(K2, K1), to(K3, K2)]), [vec![7], vec![7, 8], vec![7, 8, 9]]);
+        // circles of three, of two and of one
+        assert_eq!(listed(polarity, [to(K1, K2), to(K2, K3), to(K3, K1)]), [vec![7, 8, 9], vec![7, 8, 9], vec![7, 8, 9]]);
+        assert_eq!(listed(polarity, [to(K1, K3), to(K3, K1)]), [vec![7, 9], vec![8], vec![7, 9]]);
+        assert_eq!(listed(polarity, [to(K1, K1), to(K1, K2), to(K2, K2)]), [vec![7, 8], vec![8], vec![9]]);
+        // two ways to one name; a star, and its reverse
+        assert_eq!(listed(polarity, [to(K1, K2), to(K1, K3), to(K2, K3)]), [vec![7, 8, 9], vec![8, 9], vec![9]]);
+        assert_eq!(listed(polarity, [to(K1, K2), to(K1, K3)]), [vec![7, 8, 9], vec![8], vec![9]]);
+        assert_eq!(listed(polarity, [to(K1, K3), to(K2, K3)]), [vec![7, 9], vec![8, 9], vec![9]]);
+        // links of the other polarity are of other names
+        assert_eq!(listed(polarity, [link(K1, 1 - polarity, K2), to(K2, K3)]), [vec![7], vec![8, 9], vec![9]]);
+    }
+}
+
+/// Its number and its key are both asked for.
+#[test]
+fn a_link_is_from_a_name_to_a_name() {
+    let store = store_of([(K1, 1, [7]), (K1, 2, [8]), (K2, 1, [9]), (K2, 2, [10])].map(|(key, name, row)| certificate(key, name, 0, &row)));
+    let links = links_of([Link { key: K1, name: 1, polarity: 0, other_key: K2, other_name: 2 }]);
+    let rows_of = |key, name| ask_linked(&[4, 0, key, name, 0], &store, &links).unwrap().set;
+    assert_eq!(rows_of(K1, 1), Finite(rows([&[7], &[10]])));
+    assert_eq!(rows_of(K1, 2), Finite(rows([&[8]])));
+    assert_eq!(rows_of(K2, 1), Finite(rows([&[9]])));
+    assert_eq!(rows_of(K2, 2), Finite(rows([&[10]])));
+}
+
+#[test]
+fn a_chain_of_256_links_is_followed_to_its_end() {
+    let to = |n: u32| Link { key: K1, name: 300 - n, polarity: 0, other_key: K1, other_name: 299 - n };
+    let links = links_of((0..256).map(to));
+    let store = store_of([certificate(K1, 300, 0, &[7]), certificate(K1, 44, 0, &[8]), certificate(K1, 43, 0, &[9])]);
+    assert_eq!(ask_linked(&[4, 0, K1, 300, 0], &store, &links).unwrap().set, Finite(rows([&[7], &[8]])));
+}
+
+#[test]
+fn guards_draws_variables_and_definitions_read_through_links() {
+    let store = store_of([certificate(K2, 1, 0, &[7]), certificate(K1, 1, 0, &[7]), certificate(K2, 1, 0, &[8]), certificate(K3, 2, 1, &[8])]);
+    let withdrawn = Link { key: K1, name: 2, polarity: 1, other_key: K3, other_name: 2 };
+    let links = links_of([link(K1, 0, K2), withdrawn]);
+    let ask = |policy: &[u32], query: &[u32]| Evaluator::default().query(policy, query, 0, &store, &links, Areas::LEAST);
+    // k1's name 1 has 7, once, and 8: two draws; of 8 alone it is said that it is not withdrawn
+    assert_eq!(ask(&p(), Q), answer(Lower, 2, Finite(rows([&[8]]))));
+    assert_eq!(ask(NOTHING, &[4, 0, K1, 2, 1]), answer(Upper, 0, Complement(rows([&[8]]))));
+    // x of {k1, 5}, y of its name 1: two draws for x and two for y
+    let delegation = [7, 2, 1, 1, 2, 1, 0, K1, 1, 0, 5, 1, 2, 0, 1, 4, 1, 0, 1, 0, 1, 2, 1, 1, 1, 1];
+    assert_eq!(ask(NOTHING, &delegation), answer(Lower, 4, Finite(rows([&[7], &[8]]))));
+}
+
+#[test]
+fn code_8_guards_the_issuer_alone() {
+    let store = store_of([certificate(K1, 1, 0, &[7]), certificate(K2, 1, 0, &[8])]);
+    let links = links_of([link(K1, 0, K2), link(K3, 0, K1)]);
+    let compromised = policy(&[(0, 1, &[1, 1, 1, 0, K2])]);
+    let vetted = |key| Evaluator::default().query(&compromised, &[8, 0, key, 1, 0, 0], 0, &store, &links, Areas::LEAST).unwrap().set;
+    assert_eq!(vetted(K1), Finite(rows([&[7], &[8]])));
+    assert_eq!(vetted(K2), Finite(rows([])));
+    assert_eq!(vetted(K3), Finite(rows([&[7], &[8]])));
+}
+
+#[test]
+fn only_certificates_that_hold_are_joined() {
+    let store = store_of([seven(0, 10), with_term(certificate(K2, 1, 0, &[8]), 5, 15), with_term(certificate(K2, 1, 0, &[7]), 5, 15)]);
+    let links = links_of([link(K1, 0, K2)]);
+    let listed = |minute| Evaluator::default().query(NOTHING, LIST, minute, &store, &links, Areas::LEAST).unwrap().set.listed().len();
+    assert_eq!([0, 5, 10, 14, 15].map(listed), [1, 2, 2, 2, 0]);
+}
+
+#[test]
+fn thirteen_counts_the_rows_joined_once_each() {
+    for polarity in [0, 1] {
+        let rows_from = |key, numbers: Range<u32>| numbers.map(move |n| certificate(key, 1, polarity, &[n]));
+        let links = links_of([link(K1, polarity, K2), link(K2, polarity, K3), link(K1, polarity, K3)]);
+        let ask = |records: Vec<Record>, key| ask_linked(&[4, 0, key, 1, polarity], &store_of(records), &links);
+        // 128 rows, most of them of two or three names
+        let many: Vec<Record> = rows_from(K1, 0..100).chain(rows_from(K2, 20..120)).chain(rows_from(K3, 28..128)).collect();
+        assert_eq!(ask(many.clone(), K1).unwrap().set.listed().len(), 128);
+        let one_more: Vec<Record> = many.into_iter().chain(rows_from(K3, 128..129)).collect();
+        assert_eq!(ask(one_more.clone(), K1), refusal(13, QUERY_PART));
+        assert_eq!(ask(one_more, K2).unwrap().set.listed().len(), 109);
+    }
+}
+
+#[test]
+fn malformed_links_get_18() {
+    let sound = link(K1, 1, K2).words();
+    let mut links = no_links();
+    for (place, word) in [(0, 0), (0, K1 - 2), (1, 65_536), (2, 2), (3, 5), (4, 65_536), (4, u32::MAX)] {
+        let mut words = sound;
+        words[place] = word;
+        assert_eq!(Evaluator::default().file_link(&mut links, &words), Filing::Refused(18), "{words:?}");
+    }
+    for length in [0, 4, 6] {
+        assert_eq!(Evaluator::default().file_link(&mut links, &[sound.as_slice(), &[0]].concat()[..length]), Filing::Refused(18));
+    }
+    assert_eq!(links, no_links());
+    let extreme = Link { key: key(0), name: 65_535, polarity: 1, other_key: u32::MAX, other_name: 65_535 };
+    assert_eq!(file_link(&mut links, extreme), Filing::Filed);
+}
+
+#[test]
+fn links_ascend_word_by_word() {
+    let words = [[K1, 1, 0, K2, 1], [K1, 1, 0, K2, 2], [K1, 1, 0, K3, 0], [K1, 1, 1, K1, 0], [K1, 2, 0, K1, 0], [K2, 0, 0, K1, 0]];
+    let ascending = words.map(|words| Link::from_words(&words).unwrap());
+    let mut store = links_of([3, 5, 0, 4, 2, 1].map(|place| ascending[place]));
+    assert_eq!(store[..31], [&[6], words.as_flattened()].concat());
+    assert!(store[31..].iter().all(|&word| word == 77));
+    let before = store.clone();
+    for link in ascending {
+        assert_eq!(file_link(&mut store, link), Filing::Held);
+    }
+    assert_eq!(store, before);
+}
+
+#[test]
+fn unsound_link_stores_get_18_in_filing_and_in_a_query() {
+    let sound = links_of([link(K1, 0, K2), link(K1, 0, K3), link(K2, 1, K2)]);
+    let mut swapped = sound.clone();
+    swapped[1..11].rotate_left(5);
+    let mut twice = sound.clone();
+    twice.copy_within(1..6, 6);
+    let mut unsound = vec![swapped, twice, sound[..1_280].to_vec(), vec![]];
+    for (place, word) in [(0, 257), (0, 4), (0, u32::MAX), (1, 5), (7, 65_536), (13, 2), (14, 5), (15, 65_536)] {
+        unsound.push(sound.clone());
+        unsound.last_mut().unwrap()[place] = word;
+    }
+    for mut links in unsound {
+        let before = links.clone();
+        // also for what is held, or malformed
+        assert_eq!(file_link(&mut links, link(K1, 0, K3)), Filing::Refused(18));
+        assert_eq!(Evaluator::default().file_link(&mut links, &[]), Filing::Refused(18));
+        assert_eq!(links, before);
+        // also where no name is read; right after 8
+        assert_eq!(ask_linked(&[1, 0], &empty_store(), &links), refusal(18, NO_PART));
+        assert_eq!(ask_linked(&[1, 0], &[], &links), refusal(8, NO_PART));
+        assert_eq!(ask_linked(&[9], &empty_store(), &links), refusal(3, QUERY_PART));
+    }
+    // words past the last link are not looked at
+    assert!(ask_linked(&[1, 0], &empty_store(), &[sound, vec![9; 7]].concat()).is_ok());
+}
+
+#[test]
+fn a_full_link_store_holds_and_refuses_with_19() {
+    let some = |n| Link { key: K1, name: n, polarity: 0, other_key: K2, other_name: 1 };
+    let mut links = links_of((0..256).map(some));
+    let before = links.clone();
+    assert_eq!(file_link(&mut links, some(5)), Filing::Held);
+    assert_eq!(file_link(&mut links, some(256)), Filing::Refused(19));
+    assert_eq!(file_link(&mut links, some(65_536)), Filing::Refused(18));
+    assert_eq!(links, before);
+    assert!(ask_linked(&[1, 0], &empty_store(), &links).is_ok());
+    // not even where there is room for more
+    links.extend([77; 100]);
+    assert_eq!(file_link(&mut links, some(256)), Filing::Refused(19));
+    links[0] = 257;
+    links[1_281..1_286].copy_from_slice(&some(256).words());
+    assert_eq!(file_link(&mut links, some(5)), Filing::Refused(18));
 }
 
 #[test]

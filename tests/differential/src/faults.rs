@@ -1,7 +1,9 @@
 //! Mistakes that can be planted in the evaluator, to see that the comparison notices each of them.
 
-use crate::evaluator::{certified, is_key, limited, value, Date, Numbered, Record, Row, Set, Term, Validity};
-use crate::numbers::{MOST_CERTIFICATES, MOST_ROWS, RECORD_WORDS, TOO_MANY_ROWS};
+use crate::evaluator::{
+    certified, is_key, limited, reached, value, Certified, Date, Expression, Judged, Link, Name, Numbered, Record, Row, Set, Term, Validity,
+};
+use crate::numbers::{LAST_NAME, LINKS_WORDS, LINK_WORDS, MOST_CERTIFICATES, MOST_LINKS, MOST_ROWS, RECORD_WORDS, TOO_MANY_ROWS};
 use std::cmp::{Ordering, Reverse};
 use std::collections::BTreeSet;
 use std::ops::Range;
@@ -143,11 +145,77 @@ pub enum Fault {
     Year2100Passes,
     RefusedMinutesHandedOut,
     RefusedDateHandedOut,
+    LinksNotRead,
+    LinksFollowedOneStep,
+    LinksFollowed15Steps,
+    LinksTheWrongWay,
+    LinksBothWays,
+    MinusLinksTheWrongWay,
+    MinusLinksNotRead,
+    LinkPolarityIgnored,
+    LinkPolarityTurnedRound,
+    ItselfNotJoined,
+    ItselfNotJoinedWhereLinked,
+    CirclesCut,
+    SearchStopsAtNameMetBefore,
+    FirstLinkOfNameAlone,
+    LinksGoneThroughOnce,
+    LinksOfKey,
+    LinksOfNumber,
+    OtherKeyIgnored,
+    OtherNameIgnored,
+    NamesUpTo128Joined,
+    VariableIssuerWithoutLinks,
+    VettedWithoutLinks,
+    ReachedVetted,
+    AbsentWithoutLinks,
+    DefinitionsWithoutLinks,
+    MinusListsUnited,
+    ReachedAtAnyMinute,
+    ReachedOfBothPolarities,
+    RowsOfEachNameCounted,
+    LimitBeforeJoining,
+    DrawnForEachName,
+    HeldBeforeUnsoundLinks,
+    LinksFullAsStoreFull,
+    LinksFullBeforeBadLink,
+    LinksFullBeforeHeld,
+    CapacityOf257Links,
+    LinksFullAt255,
+    BadLinkAsCertificate,
+    UnsoundLinksAsStore,
+    LongerLinkFiled,
+    LinkKeyNotTested,
+    LinkOtherKeyNotTested,
+    LinkNameNotTested,
+    LinkOtherNameNotTested,
+    LinkPolarityNotTested,
+    HeldLinksNotTested,
+    LinksInAnyOrder,
+    LinkHeldTwice,
+    LinksByPolarityLast,
+    LinkPutBehindItsName,
+    ShortLinksTaken,
+    LongLinksRefused,
+    LinksMovedByTenWords,
+    LinkPastTheEndCleared,
+    LinkHeldWithOtherPolarity,
+    LinkHeldTheOtherWay,
+    ImpliedLinkHeld,
+    SelfLinkRefused,
+    CircleRefused,
+    CirclesUnsound,
+    BadLinkBeforeJudging,
+    BadLinkBeforeStore,
+    AreasBeforeLinks,
+    LinksTestedWhereRead,
+    UnsoundLinksTakenAsNone,
+    BadLinkHasAPart,
 }
 
 impl Fault {
     /// Every fault; `--plant K` plants the one at K, counted from 1.
-    pub const ALL: [Fault; 134] = [
+    pub const ALL: [Fault; 200] = [
         Fault::UnknownListTakenAsEmpty,
         Fault::ComparedTermsCounted,
         Fault::AbsentNotTurnedRound,
@@ -282,6 +350,72 @@ impl Fault {
         Fault::Year2100Passes,
         Fault::RefusedMinutesHandedOut,
         Fault::RefusedDateHandedOut,
+        Fault::LinksNotRead,
+        Fault::LinksFollowedOneStep,
+        Fault::LinksFollowed15Steps,
+        Fault::LinksTheWrongWay,
+        Fault::LinksBothWays,
+        Fault::MinusLinksTheWrongWay,
+        Fault::MinusLinksNotRead,
+        Fault::LinkPolarityIgnored,
+        Fault::LinkPolarityTurnedRound,
+        Fault::ItselfNotJoined,
+        Fault::ItselfNotJoinedWhereLinked,
+        Fault::CirclesCut,
+        Fault::SearchStopsAtNameMetBefore,
+        Fault::FirstLinkOfNameAlone,
+        Fault::LinksGoneThroughOnce,
+        Fault::LinksOfKey,
+        Fault::LinksOfNumber,
+        Fault::OtherKeyIgnored,
+        Fault::OtherNameIgnored,
+        Fault::NamesUpTo128Joined,
+        Fault::VariableIssuerWithoutLinks,
+        Fault::VettedWithoutLinks,
+        Fault::ReachedVetted,
+        Fault::AbsentWithoutLinks,
+        Fault::DefinitionsWithoutLinks,
+        Fault::MinusListsUnited,
+        Fault::ReachedAtAnyMinute,
+        Fault::ReachedOfBothPolarities,
+        Fault::RowsOfEachNameCounted,
+        Fault::LimitBeforeJoining,
+        Fault::DrawnForEachName,
+        Fault::HeldBeforeUnsoundLinks,
+        Fault::LinksFullAsStoreFull,
+        Fault::LinksFullBeforeBadLink,
+        Fault::LinksFullBeforeHeld,
+        Fault::CapacityOf257Links,
+        Fault::LinksFullAt255,
+        Fault::BadLinkAsCertificate,
+        Fault::UnsoundLinksAsStore,
+        Fault::LongerLinkFiled,
+        Fault::LinkKeyNotTested,
+        Fault::LinkOtherKeyNotTested,
+        Fault::LinkNameNotTested,
+        Fault::LinkOtherNameNotTested,
+        Fault::LinkPolarityNotTested,
+        Fault::HeldLinksNotTested,
+        Fault::LinksInAnyOrder,
+        Fault::LinkHeldTwice,
+        Fault::LinksByPolarityLast,
+        Fault::LinkPutBehindItsName,
+        Fault::ShortLinksTaken,
+        Fault::LongLinksRefused,
+        Fault::LinksMovedByTenWords,
+        Fault::LinkPastTheEndCleared,
+        Fault::LinkHeldWithOtherPolarity,
+        Fault::LinkHeldTheOtherWay,
+        Fault::ImpliedLinkHeld,
+        Fault::SelfLinkRefused,
+        Fault::CircleRefused,
+        Fault::CirclesUnsound,
+        Fault::BadLinkBeforeJudging,
+        Fault::BadLinkBeforeStore,
+        Fault::AreasBeforeLinks,
+        Fault::LinksTestedWhereRead,
+        Fault::UnsoundLinksTakenAsNone,
+        Fault::BadLinkHasAPart,
     ];
 
     pub fn meaning(self) -> &'static str {
@@ -420,6 +554,72 @@ impl Fault {
             Fault::Year2100Passes => "dates end with 2100",
             Fault::RefusedMinutesHandedOut => "a refused date hands out minutes",
             Fault::RefusedDateHandedOut => "a refused minute hands out a date",
+            Fault::LinksNotRead => "links are not read",
+            Fault::LinksFollowedOneStep => "links are followed one step only",
+            Fault::LinksFollowed15Steps => "links are followed at most 15 steps",
+            Fault::LinksTheWrongWay => "links are followed from their second name to their first",
+            Fault::LinksBothWays => "links are followed both ways",
+            Fault::MinusLinksTheWrongWay => "− links are followed from their second name to their first",
+            Fault::MinusLinksNotRead => "− links are not read",
+            Fault::LinkPolarityIgnored => "links are followed whatever their polarity",
+            Fault::LinkPolarityTurnedRound => "+ links are followed for − names, and − links for + names",
+            Fault::ItselfNotJoined => "a name's own rows are not joined",
+            Fault::ItselfNotJoinedWhereLinked => "a name's own rows are not joined if it has a link",
+            Fault::CirclesCut => "a name on a circle has its own rows alone",
+            Fault::SearchStopsAtNameMetBefore => "the search for names stops at one that it met before",
+            Fault::FirstLinkOfNameAlone => "only the first link of a name is followed",
+            Fault::LinksGoneThroughOnce => "links are gone through once, in their order",
+            Fault::LinksOfKey => "a name's links are those of its key, whatever their name",
+            Fault::LinksOfNumber => "a name's links are those of its number, whatever their key",
+            Fault::OtherKeyIgnored => "a link's second name is taken to be of its first key",
+            Fault::OtherNameIgnored => "a link's second name is taken to have its first number",
+            Fault::NamesUpTo128Joined => "no more than 128 names are joined",
+            Fault::VariableIssuerWithoutLinks => "a list whose issuer is a variable is read without links",
+            Fault::VettedWithoutLinks => "code 8 reads the list without links",
+            Fault::ReachedVetted => "code 8 looks up the keys of the names that links reach too",
+            Fault::AbsentWithoutLinks => "an absent guard asks a name without links",
+            Fault::DefinitionsWithoutLinks => "definitions are read without links",
+            Fault::MinusListsUnited => "the − lists that links reach are united with the name's own, as + lists are",
+            Fault::ReachedAtAnyMinute => "the certificates of the names that links reach are read whatever the minute",
+            Fault::ReachedOfBothPolarities => "the rows of both polarities of a number that links reach are joined",
+            Fault::RowsOfEachNameCounted => "13 counts a row once for each name that it is certified of",
+            Fault::LimitBeforeJoining => "13 is asked of each name's own rows and not of those joined",
+            Fault::DrawnForEachName => "a row is drawn once for each name that it is certified of",
+            Fault::HeldBeforeUnsoundLinks => "Held comes before 18, for a link that an unsound link store has",
+            Fault::LinksFullAsStoreFull => "a full link store refuses with 10",
+            Fault::LinksFullBeforeBadLink => "19 comes before 18",
+            Fault::LinksFullBeforeHeld => "19 comes before Held",
+            Fault::CapacityOf257Links => "257 links may be held where the link store is long enough",
+            Fault::LinksFullAt255 => "the 256th link is refused",
+            Fault::BadLinkAsCertificate => "a malformed link is refused with 9",
+            Fault::UnsoundLinksAsStore => "an unsound link store is refused with 8",
+            Fault::LongerLinkFiled => "of a longer link the first five words are filed",
+            Fault::LinkKeyNotTested => "a link's first key may be a number",
+            Fault::LinkOtherKeyNotTested => "a link's other key may be a number",
+            Fault::LinkNameNotTested => "a link's first name may be over 65,535",
+            Fault::LinkOtherNameNotTested => "a link's other name may be over 65,535",
+            Fault::LinkPolarityNotTested => "a link's polarity may be over 1",
+            Fault::HeldLinksNotTested => "a held link may be malformed",
+            Fault::LinksInAnyOrder => "a link store is sound whatever the order of its links",
+            Fault::LinkHeldTwice => "a link store may hold a link twice",
+            Fault::LinksByPolarityLast => "links are in order by the polarity last",
+            Fault::LinkPutBehindItsName => "a link is put behind all others of its first name",
+            Fault::ShortLinksTaken => "a link store need have room for one link more than it holds, and for no other",
+            Fault::LongLinksRefused => "a link store of over 1,281 words is refused",
+            Fault::LinksMovedByTenWords => "filing moves later links by ten words",
+            Fault::LinkPastTheEndCleared => "filing clears the word past the last link",
+            Fault::LinkHeldWithOtherPolarity => "a link is Held if it is held with the other polarity",
+            Fault::LinkHeldTheOtherWay => "a link is Held if it is held the other way round",
+            Fault::ImpliedLinkHeld => "a link is Held if the links held reach its second name from its first",
+            Fault::SelfLinkRefused => "a link from a name to itself is refused with 18",
+            Fault::CircleRefused => "a link that closes a circle is refused with 18",
+            Fault::CirclesUnsound => "a link store with a circle is refused with 18 in a query",
+            Fault::BadLinkBeforeJudging => "18 comes before 1 to 7",
+            Fault::BadLinkBeforeStore => "18 comes before 8",
+            Fault::AreasBeforeLinks => "11 comes before 18",
+            Fault::LinksTestedWhereRead => "18 is asked only where a name is written",
+            Fault::UnsoundLinksTakenAsNone => "an unsound link store is read as an empty one",
+            Fault::BadLinkHasAPart => "18 comes with the query as its part",
         }
     }
 }
@@ -442,19 +642,251 @@ pub fn wrongly_holds(fault: Option<Fault>, records: &[Record], record: &Record, 
     }
 }
 
-/// What 13 is wrongly asked of, beside the rows of the name's value; 0 if it is not.
-pub fn rows_wrongly_counted(fault: Option<Fault>, records: &[Record], name: [u32; 3], minute: u32) -> usize {
+/// What 13 is wrongly asked of, beside the rows of the name's value, which is that of these names joined; 0 if it is not.
+pub fn rows_wrongly_counted(fault: Option<Fault>, records: &[Record], held: &Certified, joined: &BTreeSet<Name>, minute: u32) -> usize {
     match fault {
-        Some(Fault::RepeatedRowsCounted) => rows_of_records(records, name, minute).count(),
-        Some(Fault::RowsThatDoNotHoldCounted) => certified(records).get(&name).map_or(0, BTreeSet::len),
+        Some(Fault::RepeatedRowsCounted) => rows_of_records(records, joined, minute).count(),
+        Some(Fault::RowsThatDoNotHoldCounted) => rows_of_names(&certified(records), joined).collect::<BTreeSet<Row>>().len(),
+        Some(Fault::RowsOfEachNameCounted) => rows_of_names(held, joined).count(),
         _ => 0,
     }
 }
 
-/// The row of each record of the name that holds at the minute, so that a row may come again.
-pub fn rows_of_records(records: &[Record], name: [u32; 3], minute: u32) -> impl Iterator<Item = Row> + '_ {
-    records.iter().filter(move |record| record.name == name && record.validity.holds_at(minute)).map(|record| record.row)
+/// The row of each record of these names that holds at the minute, so that a row may come again.
+fn rows_of_records<'a>(records: &'a [Record], joined: &'a BTreeSet<Name>, minute: u32) -> impl Iterator<Item = Row> + 'a {
+    records.iter().filter(move |record| joined.contains(&record.name) && record.validity.holds_at(minute)).map(|record| record.row)
 }
+
+/// The rows of each of these names, so that a row may come again.
+fn rows_of_names<'a>(certified: &'a Certified, joined: &'a BTreeSet<Name>) -> impl Iterator<Item = Row> + 'a {
+    joined.iter().filter_map(|name| certified.get(name)).flatten().copied()
+}
+
+/// The rows that are wrongly drawn from a list.
+pub fn wrongly_drawn(fault: Fault, records: &[Record], held: &Certified, joined: &BTreeSet<Name>, minute: u32) -> Option<Vec<Row>> {
+    match fault {
+        Fault::DrawnForEachRecord => Some(rows_of_records(records, joined, minute).collect()),
+        Fault::DrawnForEachName => Some(rows_of_names(held, joined).collect()),
+        _ => None,
+    }
+}
+
+// ---- what links join ----
+
+/// The names that are wrongly joined for this one.
+pub fn wrongly_joined(fault: Option<Fault>, links: &[Link], name: Name) -> Option<BTreeSet<Name>> {
+    let fault = fault?;
+    let alone = BTreeSet::from([name]);
+    let some = |which: &dyn Fn(&Link) -> bool, to: &dyn Fn(&Link) -> Name| links.iter().filter(|link| which(link)).map(to).collect::<Vec<Name>>();
+    let forth = |at: Name| some(&|link| link.first() == at, &Link::second);
+    let back = |at: Name| some(&|link| link.second() == at, &Link::first);
+    let behind = || forth(name).into_iter().flat_map(|next| reached(next, forth)).collect::<BTreeSet<Name>>();
+    Some(match fault {
+        Fault::LinksNotRead => alone,
+        Fault::LinksFollowedOneStep => forth(name).into_iter().chain(alone).collect(),
+        Fault::LinksFollowed15Steps => (0..15).fold(alone, |reached, _| reached.iter().flat_map(|at| forth(*at)).chain(reached.clone()).collect()),
+        Fault::LinksTheWrongWay => reached(name, back),
+        Fault::LinksBothWays => reached(name, |at| [forth(at), back(at)].concat()),
+        Fault::MinusLinksTheWrongWay if name[2] == 1 => reached(name, back),
+        Fault::MinusLinksNotRead if name[2] == 1 => alone,
+        Fault::LinkPolarityIgnored => reached(name, |[key, number, polarity]| {
+            some(&|link| [link.key, link.name] == [key, number], &|link| [link.other_key, link.other_name, polarity])
+        }),
+        Fault::LinkPolarityTurnedRound => reached(name, |[key, number, polarity]| {
+            some(&|link| link.first() == [key, number, 1 - polarity], &|link| [link.other_key, link.other_name, polarity])
+        }),
+        Fault::ItselfNotJoined => behind(),
+        Fault::ItselfNotJoinedWhereLinked if !forth(name).is_empty() => behind(),
+        Fault::CirclesCut if behind().contains(&name) => alone,
+        Fault::SearchStopsAtNameMetBefore => met_once(name, forth),
+        Fault::FirstLinkOfNameAlone => reached(name, |at| forth(at).into_iter().take(1).collect()),
+        Fault::LinksGoneThroughOnce => links.iter().fold(alone, |mut reached, link| {
+            if reached.contains(&link.first()) {
+                reached.insert(link.second());
+            }
+            reached
+        }),
+        Fault::LinksOfKey => reached(name, |[key, _, polarity]| some(&|link| [link.key, link.polarity] == [key, polarity], &Link::second)),
+        Fault::LinksOfNumber => reached(name, |[_, number, polarity]| some(&|link| [link.name, link.polarity] == [number, polarity], &Link::second)),
+        Fault::OtherKeyIgnored => reached(name, |at| some(&|link| link.first() == at, &|link| [link.key, link.other_name, link.polarity])),
+        Fault::OtherNameIgnored => reached(name, |at| some(&|link| link.first() == at, &|link| [link.other_key, link.name, link.polarity])),
+        Fault::NamesUpTo128Joined => nearest(name, forth, 128),
+        _ => return None,
+    })
+}
+
+/// So many of the names that steps reach from this one, those of the fewest steps first.
+fn nearest(name: Name, steps: impl Fn(Name) -> Vec<Name>, count: usize) -> BTreeSet<Name> {
+    let mut met = vec![name];
+    let mut next = 0;
+    while next < met.len() && met.len() < count {
+        let new: BTreeSet<Name> = steps(met[next]).into_iter().filter(|name| !met.contains(name)).collect();
+        met.extend(new);
+        next += 1;
+    }
+    met.into_iter().take(count).collect()
+}
+
+/// The names met in order of steps, up to the first one that is met again.
+fn met_once(name: Name, steps: impl Fn(Name) -> Vec<Name>) -> BTreeSet<Name> {
+    let mut met = vec![name];
+    let mut next = 0;
+    while next < met.len() {
+        for step in steps(met[next]) {
+            if met.contains(&step) {
+                return met.into_iter().collect();
+            }
+            met.push(step);
+        }
+        next += 1;
+    }
+    met.into_iter().collect()
+}
+
+/// The rows that are wrongly joined for a name, from these names.
+pub fn wrongly_certified(fault: Option<Fault>, records: &[Record], held: &Certified, name: Name, joined: &BTreeSet<Name>) -> Option<BTreeSet<Row>> {
+    let rows = |of: &Name| held.get(of).cloned().unwrap_or_default();
+    let others = || joined.iter().filter(|other| **other != name);
+    match fault? {
+        Fault::MinusListsUnited if name[2] == 1 => Some(others().fold(rows(&name), |common, other| &common & &rows(other))),
+        Fault::ReachedAtAnyMinute => {
+            let at_any_minute = certified(records);
+            Some(others().filter_map(|other| at_any_minute.get(other)).flatten().copied().chain(rows(&name)).collect())
+        }
+        Fault::ReachedOfBothPolarities => Some(
+            others().flat_map(|&[key, number, _]| [0, 1].map(|polarity| [key, number, polarity])).chain([name]).flat_map(|of| rows(&of)).collect(),
+        ),
+        _ => None,
+    }
+}
+
+/// Whether these names joined wrongly pass 13.
+pub fn limit_passed(fault: Option<Fault>, held: &Certified, joined: &BTreeSet<Name>) -> bool {
+    fault == Some(Fault::LimitBeforeJoining) && joined.iter().filter_map(|name| held.get(name)).all(|rows| rows.len() <= MOST_ROWS)
+}
+
+/// The links with which code 8 wrongly reads a list.
+pub fn wrongly_vetted(fault: Option<Fault>, compromised: &Set, links: &[Link]) -> Option<Vec<Link>> {
+    match fault? {
+        Fault::VettedWithoutLinks => Some(Vec::new()),
+        Fault::ReachedVetted => Some(links.iter().filter(|link| !compromised.holds(&Row::new(&[link.other_key]))).copied().collect()),
+        _ => None,
+    }
+}
+
+// ---- link stores ----
+
+/// Whether a link store is wrongly taken as too short, or as long enough.
+pub fn wrongly_short(fault: Option<Fault>, store: &[u32]) -> Option<bool> {
+    match fault? {
+        Fault::ShortLinksTaken => Some(store.first().is_none_or(|&count| store.len() < 1 + LINK_WORDS * (count as usize + 1))),
+        Fault::LongLinksRefused => Some(store.len() != LINKS_WORDS),
+        _ => None,
+    }
+}
+
+/// How many links a link store may wrongly hold.
+pub fn wrong_links_capacity(fault: Option<Fault>, store: &[u32]) -> Option<usize> {
+    match fault? {
+        Fault::CapacityOf257Links => Some((store.len().saturating_sub(1) / LINK_WORDS).min(257)),
+        Fault::LinksFullAt255 => Some(MOST_LINKS - 1),
+        _ => None,
+    }
+}
+
+/// A link that is wrongly taken as well formed, where only one of its words is looked over.
+pub fn wrongly_formed(fault: Option<Fault>, words: &[u32]) -> Option<Link> {
+    let fault = fault?;
+    let untested = |skipped: Fault| fault == skipped;
+    let words = if fault == Fault::LongerLinkFiled { words.get(..LINK_WORDS)? } else { words };
+    let &[key, name, polarity, other_key, other_name] = words else { return None };
+    let passes = (is_key(key) || untested(Fault::LinkKeyNotTested))
+        && (is_key(other_key) || untested(Fault::LinkOtherKeyNotTested))
+        && (name <= LAST_NAME || untested(Fault::LinkNameNotTested))
+        && (other_name <= LAST_NAME || untested(Fault::LinkOtherNameNotTested))
+        && (polarity <= 1 || untested(Fault::LinkPolarityNotTested));
+    passes.then_some(Link { key, name, polarity, other_key, other_name })
+}
+
+/// A held link that is wrongly taken whatever its words are.
+pub fn wrongly_held_link(fault: Option<Fault>, words: &[u32]) -> Option<Link> {
+    let &[key, name, polarity, other_key, other_name] = words else { return None };
+    (fault == Some(Fault::HeldLinksNotTested)).then_some(Link { key, name, polarity, other_key, other_name })
+}
+
+/// Whether two links that follow each other are wrongly taken as ascending, or as not ascending.
+pub fn links_wrongly_ascending(fault: Option<Fault>, earlier: &Link, later: &Link) -> Option<bool> {
+    match fault? {
+        Fault::LinksInAnyOrder => Some(earlier != later),
+        Fault::LinkHeldTwice => Some(earlier <= later),
+        Fault::LinksByPolarityLast => Some(by_polarity_last(earlier) < by_polarity_last(later)),
+        _ => None,
+    }
+}
+
+fn by_polarity_last(link: &Link) -> [u32; LINK_WORDS] {
+    [link.key, link.name, link.other_key, link.other_name, link.polarity]
+}
+
+/// Whether the words of a link store, sound or not, have this link.
+pub fn has_link(store: &[u32], link: &[u32]) -> bool {
+    let held = store.first().map_or(0, |&count| count as usize).min(MOST_LINKS);
+    store.iter().skip(1).copied().collect::<Vec<u32>>().chunks(LINK_WORDS).take(held).any(|held| held == link)
+}
+
+fn reaches(links: &[Link], first: Name, second: Name) -> bool {
+    reached(first, |at| links.iter().filter(|link| link.first() == at).map(Link::second).collect()).contains(&second)
+}
+
+/// Whether a link is wrongly refused with 18.
+pub fn wrongly_refused_link(fault: Option<Fault>, links: &[Link], link: &Link) -> bool {
+    match fault {
+        Some(Fault::SelfLinkRefused) => link.first() == link.second(),
+        Some(Fault::CircleRefused) => link.first() != link.second() && reaches(links, link.second(), link.first()),
+        _ => false,
+    }
+}
+
+/// Whether a link is wrongly taken as held.
+pub fn link_wrongly_held(fault: Option<Fault>, links: &[Link], link: &Link) -> bool {
+    let Link { key, name, polarity, other_key, other_name } = *link;
+    match fault {
+        Some(Fault::LinkHeldWithOtherPolarity) => links.contains(&Link { polarity: 1 - polarity, ..*link }),
+        Some(Fault::LinkHeldTheOtherWay) => links.contains(&Link { key: other_key, name: other_name, other_key: key, other_name: name, polarity }),
+        Some(Fault::ImpliedLinkHeld) => link.first() != link.second() && reaches(links, link.first(), link.second()),
+        _ => false,
+    }
+}
+
+/// Where a link is wrongly put among those held.
+pub fn wrong_place_of_link(fault: Option<Fault>, links: &[Link], link: &Link) -> Option<usize> {
+    let before = |held: &&Link| match fault {
+        Some(Fault::LinksByPolarityLast) => by_polarity_last(held) < by_polarity_last(link),
+        _ => held.first() <= link.first(),
+    };
+    let misplaced = matches!(fault?, Fault::LinksByPolarityLast | Fault::LinkPutBehindItsName);
+    misplaced.then(|| links.iter().filter(before).count())
+}
+
+/// By how many words later links are wrongly moved, where there is room for that.
+pub fn link_wrongly_moved(fault: Option<Fault>, store: &[u32]) -> Option<usize> {
+    let room = store.len() > LINK_WORDS * store[0] as usize + RECORD_WORDS;
+    (fault == Some(Fault::LinksMovedByTenWords) && room).then_some(RECORD_WORDS)
+}
+
+/// The links that a query is read with: those held if the link store is sound, unless a fault takes others or none.
+pub fn links_taken(fault: Option<Fault>, judged: &Judged, links: Option<Vec<Link>>) -> Option<Vec<Link>> {
+    let lists = || judged.expressions().iter().any(|expression| matches!(expression, Expression::List { .. } | Expression::Vetted { .. }));
+    let in_a_circle = |links: &[Link]| links.iter().any(|link| reaches(links, link.second(), link.first()));
+    match fault {
+        Some(Fault::UnsoundLinksTakenAsNone) => links.or(Some(Vec::new())),
+        Some(Fault::LinksTestedWhereRead) if !lists() => Some(Vec::new()),
+        Some(Fault::CirclesUnsound) => links.filter(|links| !in_a_circle(links)),
+        _ => links,
+    }
+}
+
+// ---- certificates and stores ----
 
 /// A certificate's words with an end that is not after its first minute, whatever the others are.
 pub fn has_bad_term(certificate: &[u32]) -> bool {
@@ -521,7 +953,7 @@ pub fn wrong_place(fault: Option<Fault>, records: &[Record], record: &Record) ->
     misplaced.then(|| records.iter().filter(before).count())
 }
 
-fn by_end(record: &Record) -> ([u32; 3], Row, u32, u32) {
+fn by_end(record: &Record) -> (Name, Row, u32, u32) {
     (record.name, record.row, record.validity.end, record.validity.first)
 }
 

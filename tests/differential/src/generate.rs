@@ -1,11 +1,13 @@
-//! Random policies, queries, stores, lists of filings, minutes and dates.
+//! Random policies, queries, stores and link stores, lists of filings, minutes and dates.
 //!
 //! Expressions are written by the grammar, with a polarity and openness in mind, so that most are answered and many answers are not empty: keys, names and
 //! atoms come from a small universe. Then single words are changed, words cut off or added, and each limit of document 01 is approached from both sides.
 
-use crate::evaluator::{key, Areas, Date, Evaluator, Record, Refusal, Row, Validity};
+use crate::engine::{Kind, Stores};
+use crate::evaluator::{key, Areas, Date, Evaluator, Link, Name, Record, Refusal, Row, Validity};
 use crate::numbers::{
-    COMPROMISED, FIRST_YEAR, LAST_NAME, LAST_YEAR, MOST_CERTIFICATES, MOST_POLICY_WORDS, MOST_VARIABLES, RECORD_WORDS, STORE_WORDS,
+    COMPROMISED, FIRST_YEAR, LAST_NAME, LAST_YEAR, LINKS_WORDS, LINK_WORDS, MOST_CERTIFICATES, MOST_LINKS, MOST_POLICY_WORDS, MOST_VARIABLES,
+    RECORD_WORDS, STORE_WORDS,
 };
 use crate::random::Random;
 use std::collections::BTreeSet;
@@ -62,7 +64,7 @@ pub const fn term(first: u32, end: u32) -> Validity {
     Validity { first, end }
 }
 
-/// The name that has about 128 rows in crowded stores.
+/// The name that has about 128 rows in crowded stores, by itself or with what links join to it.
 const CROWD: u32 = 3;
 
 /// One query call, and what is asked beside it.
@@ -76,15 +78,16 @@ pub struct Case {
     /// A part to hand back.
     pub number: u32,
     /// A name whose certificates to hand back.
-    pub name: [u32; 3],
+    pub name: Name,
     /// A date and minutes to convert.
     pub date: Date,
     pub minutes: u32,
 }
 
+/// What is filed into these stores, one after the other.
 pub struct Filings {
-    pub store: Vec<u32>,
-    pub certificates: Vec<Vec<u32>>,
+    pub stores: Stores,
+    pub filed: Vec<(Kind, Vec<u32>)>,
 }
 
 /// A definition's polarity and openness, for those that use it.
@@ -362,14 +365,29 @@ pub fn assemble(definitions: &[Definition]) -> Vec<u32> {
     words
 }
 
-/// A store with these records, and junk past the last one.
-pub fn lay_out(records: &BTreeSet<Record>, length: usize, random: &mut Random) -> Vec<u32> {
+/// A store or link store with these records, and junk past the last one.
+fn lay_out<const WIDTH: usize>(records: &[[u32; WIDTH]], length: usize, random: &mut Random) -> Vec<u32> {
     let junk = random.word() | 1;
     let mut store = Vec::with_capacity(length);
     store.push(records.len() as u32);
-    store.extend(records.iter().flat_map(Record::words));
+    store.extend(records.as_flattened());
     store.extend((store.len() as u32..length as u32).map(|n| n.wrapping_mul(junk)));
     store
+}
+
+/// Both empty.
+pub fn empty_stores(random: &mut Random) -> Stores {
+    Stores { store: lay_out::<RECORD_WORDS>(&[], STORE_WORDS, random), links: lay_out::<LINK_WORDS>(&[], LINKS_WORDS, random) }
+}
+
+/// The records' words, in order.
+fn words_of(records: &BTreeSet<Record>) -> Vec<[u32; RECORD_WORDS]> {
+    records.iter().map(Record::words).collect()
+}
+
+/// Of the first one's polarity.
+fn link_between([key, name, polarity]: Name, [other_key, other_name, _]: Name) -> Link {
+    Link { key, name, polarity, other_key, other_name }
 }
 
 pub struct Generator {
@@ -384,11 +402,14 @@ impl Generator {
 
     // ---- certificates, stores, filings ----
 
+    fn name(&mut self) -> Name {
+        [self.random.pick(self.universe.keys), self.random.pick(self.universe.names), self.random.between(0, 1)]
+    }
+
     pub fn record(&mut self) -> Record {
         let width = self.random.pick(self.universe.widths) as usize;
         let atoms: Vec<u32> = (0..width).map(|_| self.random.pick(self.universe.atoms)).collect();
-        let name = [self.random.pick(self.universe.keys), self.random.pick(self.universe.names), self.random.between(0, 1)];
-        Record { name, row: Row::new(&atoms), validity: self.random.pick(self.universe.terms) }
+        Record { name: self.name(), row: Row::new(&atoms), validity: self.random.pick(self.universe.terms) }
     }
 
     /// Some rows have several terms.
@@ -401,18 +422,24 @@ impl Generator {
         (0..count).map(|_| next()).collect()
     }
 
-    /// 126 to 130 rows of one name with one term, up to 130 with another, some of which are the same rows, and some others.
+    /// 126 to 130 rows of one name with one term, up to 130 with another, some of which are the same rows, and some others. The second ones are of the same name
+    /// or of another key's, where both may have 126 to 130 rows together.
     fn crowd(&mut self) -> BTreeSet<Record> {
         let mut records = self.records(20);
         for polarity in [0, 1] {
-            let name = [self.universe.keys[0], CROWD, polarity];
-            records.retain(|record| record.name != name);
+            records.retain(|record| record.name[1..] != [CROWD, polarity]);
             let count = self.random.between(126, 130);
-            let first_of_others = self.random.pick(&[0, 0, 20, count]);
-            let others = first_of_others..first_of_others + self.random.pick(&[0, 1, count - 1, count, 130]);
-            for rows in [0..count, others] {
-                let validity = self.random.pick(self.universe.terms);
-                records.extend(rows.map(|n| Record { name, row: Row::new(&[n]), validity }));
+            let first_of_second = self.random.pick(&[0, 0, 20, count]);
+            let second = first_of_second..first_of_second + self.random.pick(&[0, 1, count - 1, count, 130]);
+            let [key, other_key] = [0, 1].map(|place| self.universe.keys[place]);
+            let parts = match self.random.below(4) {
+                0 | 1 => [(key, 0..count), (key, second)],
+                2 => [(key, 0..count), (other_key, second)],
+                _ => [(key, 0..count - 40), (other_key, count - 80..count)],
+            };
+            for (key, rows) in parts {
+                let validity = if self.random.chance(500) { ALWAYS } else { self.random.pick(self.universe.terms) };
+                records.extend(rows.map(|n| Record { name: [key, CROWD, polarity], row: Row::new(&[n]), validity }));
             }
         }
         records
@@ -438,19 +465,19 @@ impl Generator {
     fn full(&mut self) -> Vec<u32> {
         let count = MOST_CERTIFICATES - 3 + self.random.pick(&[0, 1, 2, 2, 3, 3, 3, 4, 403]);
         let (records, length) = (self.many(count), self.room(count));
-        lay_out(&records, length, &mut self.random)
+        lay_out(&words_of(&records), length, &mut self.random)
     }
 
     pub fn sound_store(&mut self) -> Vec<u32> {
         let records = match self.random.below(20) {
             0 => BTreeSet::new(),
-            1..=3 => self.crowd(),
-            4 => self.many(MOST_CERTIFICATES),
-            5..=9 => self.records(200),
+            1..=4 => self.crowd(),
+            5 => self.many(MOST_CERTIFICATES),
+            6..=9 => self.records(200),
             _ => self.records(40),
         };
         let longer = if self.random.chance(200) { self.random.below(20) } else { 0 };
-        lay_out(&records, STORE_WORDS + longer, &mut self.random)
+        lay_out(&words_of(&records), STORE_WORDS + longer, &mut self.random)
     }
 
     pub fn store(&mut self) -> Vec<u32> {
@@ -465,21 +492,39 @@ impl Generator {
     }
 
     fn damage(&mut self, store: &mut Vec<u32>) {
-        let count = store[0] as usize;
-        let word = if count > 0 { 1 + self.random.below(RECORD_WORDS * count) } else { 0 };
-        let record = if count > 1 { 1 + RECORD_WORDS * self.random.below(count - 1) } else { 1 };
+        let record = self.place_of_two(store, RECORD_WORDS);
         match self.random.below(9) {
-            0 => store.truncate(self.random.pick(&[STORE_WORDS - 1, 0, 1, 9, 8_000])),
-            1 => store[0] = self.random.pick(&[MOST_CERTIFICATES as u32 + 1, u32::MAX, count as u32 + 1]),
-            2 => store.copy_within(record..record + RECORD_WORDS, record + RECORD_WORDS), // the same twice
-            3 => (0..RECORD_WORDS).for_each(|place| store.swap(record + place, record + RECORD_WORDS + place)),
-            4 => store[word] = self.random.pick(&[0, 1, 2, 5, 65_536, u32::MAX]),
-            5 => store[word] ^= 1 << self.random.below(32),
-            6 => {
+            0 => {
                 let first = store[record + 8];
                 store[record + 9] = self.random.pick(&[first, first, first.saturating_sub(1), 0]);
             }
-            _ => self.swap_terms(store),
+            1 | 2 => self.swap_terms(store),
+            _ => self.damage_records(store, RECORD_WORDS, STORE_WORDS),
+        }
+    }
+
+    /// Where a record stands that another one follows, if there is one.
+    fn place_of_two(&mut self, store: &[u32], width: usize) -> usize {
+        let count = store[0] as usize;
+        if count > 1 {
+            1 + width * self.random.below(count - 1)
+        } else {
+            1
+        }
+    }
+
+    /// Of a store or a link store, whose records have so many words and which has at least so many.
+    fn damage_records(&mut self, store: &mut Vec<u32>, width: usize, least: usize) {
+        let (count, record) = (store[0] as usize, self.place_of_two(store, width));
+        let word = if count > 0 { 1 + self.random.below(width * count) } else { 0 };
+        let most = (least - 1) / width;
+        match self.random.below(6) {
+            0 => store.truncate(self.random.pick(&[least - 1, 0, 1, width - 1, least / 2])),
+            1 => store[0] = self.random.pick(&[most as u32 + 1, u32::MAX, count as u32 + 1]),
+            2 => store.copy_within(record..record + width, record + width), // the same twice
+            3 => (0..width).for_each(|place| store.swap(record + place, record + width + place)),
+            4 => store[word] = self.random.pick(&[0, 1, 2, 5, 65_536, u32::MAX]),
+            _ => store[word] ^= 1 << self.random.below(32),
         }
     }
 
@@ -494,38 +539,176 @@ impl Generator {
         }
     }
 
-    pub fn filings(&mut self) -> Filings {
-        let store = match self.random.below(20) {
-            0 => self.store(),
-            1 => self.full(),
-            2 => {
-                let mut store = self.sound_store();
-                self.damage(&mut store);
-                store
-            }
-            _ => lay_out(&BTreeSet::new(), STORE_WORDS, &mut self.random),
-        };
-        let mut certificates = Vec::new();
-        for _ in 0..self.random.between(1, 24) {
-            let words = self.filed(&store, &certificates);
-            certificates.push(words);
+    // ---- links, link stores ----
+
+    /// Sometimes from a name to itself.
+    pub fn link(&mut self) -> Link {
+        let first = self.name();
+        let second = if self.random.chance(80) { first } else { self.name() };
+        link_between(first, second)
+    }
+
+    /// A chain, a circle, a star or its reverse, or two ways from one name to another: over so many names of one polarity, in any order. All but a few of many
+    /// names are of none of the certificates.
+    fn shape(&mut self, count: u32) -> Vec<Link> {
+        let polarity = self.random.between(0, 1);
+        let far = count > 8;
+        let mut names: Vec<Name> = (0..count).map(|n| if far && n % 40 > 0 { [self.some_key(), 100 + n, polarity] } else { self.name() }).collect();
+        if far {
+            self.random.shuffle(&mut names[1..]);
+            names.push(self.name());
         }
-        Filings { store, certificates }
+        let (first, last) = (names[0], names[names.len() - 1]);
+        let chain = names.windows(2).map(|pair| link_between(pair[0], pair[1]));
+        let of_one_polarity = |link: Link| Link { polarity, ..link };
+        match self.random.below(6) {
+            0 | 1 => chain.map(of_one_polarity).collect(),
+            2 => chain.chain([link_between(last, first)]).map(of_one_polarity).collect(),
+            3 => names.iter().map(|name| of_one_polarity(link_between(first, *name))).collect(),
+            4 => names.iter().map(|name| of_one_polarity(link_between(*name, first))).collect(),
+            _ => names[1..].iter().take(100).flat_map(|way| [link_between(first, *way), link_between(*way, last)]).map(of_one_polarity).collect(),
+        }
+    }
+
+    fn some_key(&mut self) -> u32 {
+        self.random.pick(self.universe.keys)
+    }
+
+    /// From the crowded name to the same name of another key, straight or by a third, and perhaps back.
+    fn crowd_links(&mut self, polarity: u32) -> Vec<Link> {
+        let [crowd, other] = [0, 1].map(|place| [self.universe.keys[place], CROWD, polarity]);
+        let between = [self.some_key(), 100, polarity];
+        let mut links =
+            if self.random.chance(600) { vec![link_between(crowd, other)] } else { vec![link_between(crowd, between), link_between(between, other)] };
+        links.extend(self.random.chance(300).then_some(link_between(other, crowd)));
+        links
+    }
+
+    fn many_links(&mut self, count: usize) -> BTreeSet<Link> {
+        let mut links: BTreeSet<Link> = (0..20).map(|_| self.link()).collect();
+        while links.len() < count {
+            let [key, other_key] = [self.some_key(), self.some_key()];
+            let [name, other_name] = [self.random.between(0, 99), self.random.between(0, 99)];
+            links.insert(Link { key, name, polarity: self.random.between(0, 1), other_key, other_name });
+        }
+        links
+    }
+
+    fn links_laid_out(&mut self, links: &BTreeSet<Link>, length: usize) -> Vec<u32> {
+        let words: Vec<[u32; LINK_WORDS]> = links.iter().map(Link::words).collect();
+        lay_out(&words, length, &mut self.random)
+    }
+
+    /// Full, or nearly so; sometimes fuller than it may be.
+    fn full_links(&mut self) -> Vec<u32> {
+        let count = MOST_LINKS - 3 + self.random.pick(&[0, 1, 2, 2, 3, 3, 3, 4]);
+        let length = (1 + LINK_WORDS * count).max(LINKS_WORDS) + self.random.pick(&[0, 0, 4, 5, 100]);
+        let links = self.many_links(count);
+        self.links_laid_out(&links, length)
+    }
+
+    pub fn sound_links(&mut self) -> Vec<u32> {
+        let mut links: Vec<Link> = match self.random.below(20) {
+            0..=3 => Vec::new(),
+            4..=9 => (0..self.random.between(1, 8)).map(|_| self.link()).collect(),
+            10..=16 => (0..self.random.between(1, 3)).flat_map(|_| self.short_shape()).collect(),
+            17 | 18 => {
+                let count = self.random.between(9, 240);
+                [self.shape(count), self.short_shape()].concat()
+            }
+            _ => self.many_links(MOST_LINKS).into_iter().collect(),
+        };
+        if links.len() <= MOST_LINKS - 6 && self.random.chance(400) {
+            links.extend([0, 1].into_iter().flat_map(|polarity| self.crowd_links(polarity)));
+        }
+        let longer = if self.random.chance(200) { self.random.below(20) } else { 0 };
+        self.links_laid_out(&links.into_iter().collect(), LINKS_WORDS + longer)
+    }
+
+    fn short_shape(&mut self) -> Vec<Link> {
+        let count = self.random.between(2, 5);
+        self.shape(count)
+    }
+
+    pub fn links(&mut self) -> Vec<u32> {
+        let mut links = self.sound_links();
+        if self.random.chance(120) {
+            self.damage_records(&mut links, LINK_WORDS, LINKS_WORDS);
+        }
+        links
+    }
+
+    // ---- filings ----
+
+    pub fn filings(&mut self) -> Filings {
+        let Stores { mut store, mut links } = empty_stores(&mut self.random);
+        match self.random.below(20) {
+            0 => store = self.store(),
+            1 => store = self.full(),
+            2 => {
+                store = self.sound_store();
+                self.damage(&mut store);
+            }
+            _ => {}
+        }
+        match self.random.below(20) {
+            0 => links = self.links(),
+            1 => links = self.full_links(),
+            2 => {
+                links = self.sound_links();
+                self.damage_records(&mut links, LINK_WORDS, LINKS_WORDS);
+            }
+            _ => {}
+        }
+        let mut filed: Vec<(Kind, Vec<u32>)> = Vec::new();
+        for _ in 0..self.random.between(1, 32) {
+            let kind = self.random.pick(&[Kind::Certificate, Kind::Link]);
+            let earlier =
+                |filed: &[(Kind, Vec<u32>)]| filed.iter().filter(|(other, _)| *other == kind).map(|(_, words)| words.clone()).collect::<Vec<_>>();
+            let words = match kind {
+                Kind::Certificate => self.certificate_filed(&store, &earlier(&filed)),
+                Kind::Link => self.link_filed(&links, &earlier(&filed)),
+            };
+            filed.push((kind, words));
+        }
+        Filings { stores: Stores { store, links }, filed }
+    }
+
+    /// Words that are there already: in the store, whose records have so many words, or among those filed earlier.
+    fn met_before(&mut self, store: &[u32], width: usize, earlier: &[Vec<u32>]) -> Option<Vec<u32>> {
+        let records = store.len().saturating_sub(1) / width;
+        if records > 0 && self.random.chance(150) {
+            let start = 1 + width * self.random.below(records.min(store[0] as usize).max(1));
+            return Some(store[start..start + width].to_vec());
+        }
+        let again = !earlier.is_empty() && self.random.chance(250);
+        again.then(|| earlier[self.random.below(earlier.len())].clone())
     }
 
     /// Words to file: mostly sound, often there already, perhaps with another term, sometimes any at all.
-    fn filed(&mut self, store: &[u32], earlier: &[Vec<u32>]) -> Vec<u32> {
+    fn certificate_filed(&mut self, store: &[u32], earlier: &[Vec<u32>]) -> Vec<u32> {
         let mut words = self.record().words().to_vec();
-        let records = store.len().saturating_sub(1) / RECORD_WORDS;
-        if records > 0 && self.random.chance(150) {
-            let start = 1 + RECORD_WORDS * self.random.below(records.min(store[0] as usize).max(1));
-            words = store[start..start + RECORD_WORDS].to_vec();
-        } else if !earlier.is_empty() && self.random.chance(250) {
-            words = earlier[self.random.below(earlier.len())].clone();
-        }
+        words = self.met_before(store, RECORD_WORDS, earlier).unwrap_or(words);
         if words.len() == RECORD_WORDS && self.random.chance(300) {
             let Validity { first, end } = self.another_term(term(words[8], words[9]));
             words[8..].copy_from_slice(&[first, end]);
+        }
+        if self.random.chance(200) {
+            self.mutate(&mut words);
+        }
+        words
+    }
+
+    /// The same of links: perhaps with the other polarity, or the other way round.
+    fn link_filed(&mut self, links: &[u32], earlier: &[Vec<u32>]) -> Vec<u32> {
+        let mut words = self.link().words().to_vec();
+        words = self.met_before(links, LINK_WORDS, earlier).unwrap_or(words);
+        if let &[key, name, polarity, other_key, other_name] = words.as_slice() {
+            match self.random.below(10) {
+                0 => words = vec![key, name, polarity ^ 1, other_key, other_name],
+                1 => words = vec![other_key, other_name, polarity, key, name],
+                _ => {}
+            }
         }
         if self.random.chance(200) {
             self.mutate(&mut words);
@@ -609,14 +792,32 @@ impl Generator {
         if self.random.chance(2) {
             return if self.random.chance(700) { self.many_draws_made() } else { self.many_draws_of_two_widths() };
         }
+        if self.random.chance(40) {
+            return self.one_list();
+        }
         let (policy, declared) = if self.random.chance(250) { self.external_policy() } else { self.policy() };
         let query = self.query(&declared);
         self.asked(policy, query)
     }
 
+    /// One name, often the crowded one, in each place that lists are read at: by itself, vetted while one key is compromised, under an absent guard, and drawn
+    /// from with a variable issuer.
+    fn one_list(&mut self) -> Case {
+        let [key, name, polarity] = if self.random.chance(400) { [self.universe.keys[0], CROWD, self.random.between(0, 1)] } else { self.name() };
+        let (list, atom) = ([4, 0, key, name, polarity], self.random.pick(self.universe.atoms));
+        let compromised = (COMPROMISED, 1, vec![1, 1, 1, 0, self.some_key()]);
+        let (definitions, query) = match self.random.below(4) {
+            0 => (vec![], list.to_vec()),
+            1 => (vec![compromised], vec![8, 0, key, name, 0, 0]),
+            2 => (vec![], [&[7, 1, 4, 1, 0, atom], &list[..], &[1, 0, atom]].concat()),
+            _ => (vec![], draws_from(&[vec![1, 1, 1, 0, key], vec![4, 1, 0, name, 0]], &[1, 1, 1])),
+        };
+        self.asked(assemble(&definitions), query)
+    }
+
     fn asked(&mut self, policy: Vec<u32>, query: Vec<u32>) -> Case {
         let number = if self.random.chance(900) { self.random.between(0, 18) } else { self.random.word() };
-        let name = self.record().name;
+        let name = self.name();
         let rewriting_area = self.rewriting_area(&policy);
         let (minute, areas) = (self.minute(), self.areas());
         Case { policy, query, minute, areas, rewriting_area, number, name, date: self.date(), minutes: self.minutes() }
@@ -1025,6 +1226,7 @@ mod tests {
         let mut generator = Generator::new(1, &PORTAL);
         for _ in 0..300 {
             assert!(Evaluator::default().certificates(&generator.sound_store()).is_some());
+            assert!(Evaluator::default().links(&generator.sound_links()).is_some());
         }
     }
 
@@ -1057,10 +1259,10 @@ mod tests {
     #[test]
     fn sound_pairs_are_mostly_answered() {
         let mut generator = Generator::new(1, &PORTAL);
-        let store = generator.sound_store();
+        let (store, links) = (generator.sound_store(), generator.sound_links());
         let answered = |generator: &mut Generator| {
             let (policy, query) = generator.sound_pair();
-            Evaluator::default().query(&policy, &query, 10, &store, Areas::LEAST).is_ok()
+            Evaluator::default().query(&policy, &query, 10, &store, &links, Areas::LEAST).is_ok()
         };
         let count = (0..1_000).filter(|_| answered(&mut generator)).count();
         assert!(count > 700, "{count}");

@@ -1,9 +1,9 @@
 //! The compiled library.
 
-use crate::engine::{Engine, Lent};
+use crate::engine::Engine;
 use crate::evaluator::Date;
 use std::ops::Range;
-use txindurbe::calls::{self, Dated, Judgement, Minutes, Reply, Rewriting};
+use txindurbe::calls::{self, Dated, Judgement, Lent, Minutes, Reply, Rewriting};
 
 pub struct Library;
 
@@ -12,8 +12,12 @@ impl Engine for Library {
         calls::file(store, certificate)
     }
 
-    fn query(&self, policy: &[u32], query: &[u32], minute: u32, store: &[u32], lent: Lent) -> Reply {
-        calls::query(policy, query, minute, store, lent.answer, lent.definitions, lent.scratch)
+    fn file_link(&self, links: &mut [u32], link: &[u32]) -> u32 {
+        calls::file_link(links, link)
+    }
+
+    fn query(&self, policy: &[u32], query: &[u32], minute: u32, store: &[u32], links: &[u32], lent: Lent) -> Reply {
+        calls::query(policy, query, minute, store, links, lent)
     }
 
     fn judge(&self, policy: &[u32], query: &[u32]) -> Judgement {

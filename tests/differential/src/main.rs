@@ -67,9 +67,11 @@ fn against_worlds(options: &Options, tally: &mut Tally) -> Seen {
 }
 
 fn print_tally(tally: &Tally, seen: &Seen) {
-    for (reply, count) in &tally.filings {
-        let reply = ["Filed", "Held"].get(*reply as usize).map_or(format!("refused with {reply}"), |word| word.to_string());
-        println!("filing {reply}: {count}");
+    for (kind, replies) in [("certificate", &tally.certificates), ("link", &tally.links)] {
+        for (reply, count) in replies {
+            let reply = ["Filed", "Held"].get(*reply as usize).map_or(format!("refused with {reply}"), |word| word.to_string());
+            println!("{kind} {reply}: {count}");
+        }
     }
     for (number, count) in &tally.rewritings {
         let reply = if *number == 0 { "done".into() } else { format!("refused with {number}") };
@@ -87,8 +89,8 @@ fn print_tally(tally: &Tally, seen: &Seen) {
     }
     let [exact, lower, upper] = seen.points;
     println!(
-        "held against worlds: {exact} exact, {lower} lower and {upper} upper answers, {} policies rewritten, {} worlds, {} rows that worlds differ on",
-        seen.rewritten, seen.worlds, seen.undecided_rows
+        "held against worlds: {exact} exact, {lower} lower and {upper} upper answers, {} policies rewritten, {} links, {} worlds, {} rows that worlds differ on",
+        seen.rewritten, seen.links, seen.worlds, seen.undecided_rows
     );
     for report in &tally.reports {
         println!("FAILED {report}");

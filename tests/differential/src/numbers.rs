@@ -20,6 +20,13 @@ pub const MOST_CERTIFICATES: usize = 1_600;
 pub const STORE_WORDS: usize = 16_001;
 pub const LAST_NAME: u32 = 65_535;
 
+// ---- Links ----
+
+/// Key, name, polarity, other key, other name.
+pub const LINK_WORDS: usize = 5;
+pub const MOST_LINKS: usize = 256;
+pub const LINKS_WORDS: usize = 1_281;
+
 // ---- Dates ----
 
 pub const FIRST_YEAR: u32 = 2_000;
@@ -61,6 +68,8 @@ pub const TOO_MANY_DRAWS: u32 = 14;
 pub const NOT_EXTERNAL: u32 = 15;
 pub const BAD_DATE: u32 = 16;
 pub const BAD_TERM: u32 = 17;
+pub const BAD_LINK: u32 = 18;
+pub const LINKS_FULL: u32 = 19;
 
 /// The part that is the query, after 0 to 15, the definitions.
 pub const QUERY_PART: u32 = 16;
@@ -83,6 +92,9 @@ mod tests {
         assert_eq!(sizes::CERTIFICATE_WORDS, super::RECORD_WORDS);
         assert_eq!(sizes::MOST_CERTIFICATES, super::MOST_CERTIFICATES);
         assert_eq!(sizes::STORE_WORDS, super::STORE_WORDS);
+        assert_eq!(sizes::LINK_WORDS, super::LINK_WORDS);
+        assert_eq!(sizes::MOST_LINKS, super::MOST_LINKS);
+        assert_eq!(sizes::LINKS_WORDS, super::LINKS_WORDS);
         assert_eq!(sizes::MOST_DEFINITIONS, super::MOST_DEFINITIONS as usize);
         assert_eq!(sizes::POLICY_WORDS, super::MOST_POLICY_WORDS);
         assert_eq!(sizes::ANSWER_WORDS, super::SET_WORDS);

@@ -1,5 +1,8 @@
 //! Demand 3 by brute force: answers at a minute are held against belonging in every world of that minute over a small universe of rows.
 //!
+//! A world of a minute is one where the links, and the certificates that hold then, are true. Where a few rows are undecided, all worlds over the universe are
+//! tried and those where a link is not true are passed over; where there are more, some are tried, after what their links ask for was put right.
+//!
 //! Why a small universe is enough to be worth asking:
 //! - A row that is wrongly left out of a lower answer, or wrongly kept in an upper one, is shown by the minimal model, which is always among the worlds
 //!   tried. A witness found here is a world of document 01: finite sets for + names, and for − names finite sets or complements.
@@ -8,12 +11,13 @@
 //! - The values of variables need be sought only among the atoms written in policy and query and those of the world's listed rows: a draw's rows come from
 //!   an expression that is not open, and such an expression has only rows made of those atoms. Rows past the universe (`rest`) are in − names alone.
 
-use crate::engine::{Engine, Lent};
-use crate::evaluator::{key, row_of, value, Areas, Evaluator, Expression, Guard, Judged, Record, Row, Set, Slot, Term, Verdict};
-use crate::generate::{lay_out, rewritten, term, Generator, Universe, ALWAYS};
-use crate::numbers::{FIRST_KEY, MOST_POLICY_WORDS, STORE_WORDS};
+use crate::engine::{Engine, Kind, Stores};
+use crate::evaluator::{key, row_of, value, Areas, Evaluator, Expression, Guard, Judged, Link, Name, Record, Row, Set, Slot, Term, Verdict};
+use crate::generate::{empty_stores, rewritten, term, Generator, Universe, ALWAYS};
+use crate::numbers::{FIRST_KEY, MOST_POLICY_WORDS};
 use crate::random::Random;
 use std::collections::{BTreeMap, BTreeSet};
+use txindurbe::calls::Lent;
 
 pub const SMALL: Universe = Universe {
     keys: &[key(1), key(2)],
@@ -33,8 +37,6 @@ const MOST_UNDECIDED: usize = 8;
 const SAMPLE: usize = 96;
 
 // ---- worlds ----
-
-type Name = [u32; 3];
 
 /// A list: the rows of the universe that it holds, and whether it holds all rows past the universe.
 #[derive(Clone)]
@@ -57,14 +59,50 @@ impl World<'_> {
             list.rest
         }
     }
+
+    /// With + the first list contains the second, with − it is contained in it.
+    fn has_true(&self, link: &Link) -> bool {
+        let (first, second) = (&self.lists[&link.first()], &self.lists[&link.second()]);
+        let (inner, outer) = if link.polarity == 0 { (second, first) } else { (first, second) };
+        inner.rows.is_subset(&outer.rows) && inner.rest <= outer.rest
+    }
+
+    /// Where the link is not true, the first list gets what it lacks of the second with +, and loses what the second lacks with −. A certificate stays true.
+    fn put_right(&mut self, link: &Link) {
+        let second = self.lists[&link.second()].clone();
+        let first = self.lists.get_mut(&link.first()).expect("every name has a list");
+        if link.polarity == 0 {
+            first.rows.extend(second.rows);
+            first.rest |= second.rest;
+        } else {
+            first.rows.retain(|row| second.rows.contains(row));
+            first.rest &= second.rest;
+        }
+    }
+
+    /// Until every link is true: each round changes a list, and lists change one way.
+    fn with_links_true(mut self, links: &BTreeSet<Link>) -> Self {
+        while let Some(link) = links.iter().find(|link| !self.has_true(link)) {
+            self.put_right(link);
+        }
+        self
+    }
 }
 
-/// The worlds of a minute: those in which all certificates accepted so far that hold then are true. The first one is the minimal model.
-fn worlds_of_minute<'a>(names: &BTreeSet<Name>, universe: &'a BTreeSet<Row>, holding: &BTreeSet<Record>, random: &mut Random) -> Vec<World<'a>> {
-    let minimal = minimal_model(names, universe, holding);
-    let undecided = undecided(names, universe, holding);
+/// Certificates and links accepted so far, or those of them that hold at a minute; links hold at each.
+#[derive(Clone, Default, Debug)]
+struct Accepted {
+    records: BTreeSet<Record>,
+    links: BTreeSet<Link>,
+}
+
+/// The worlds of a minute: those in which all links accepted so far, and all certificates accepted so far that hold then, are true. The minimal model, the least
+/// + lists and the greatest − lists of all these, is among them.
+fn worlds_of_minute<'a>(names: &BTreeSet<Name>, universe: &'a BTreeSet<Row>, holding: &Accepted, random: &mut Random) -> Vec<World<'a>> {
+    let certified_alone = certified_alone(names, universe, &holding.records);
+    let undecided = undecided(names, universe, &holding.records);
     let turned = |turn: &dyn Fn(usize) -> bool| {
-        let mut lists = minimal.clone();
+        let mut lists = certified_alone.clone();
         for (_, (name, row)) in undecided.iter().enumerate().filter(|(place, _)| turn(*place)) {
             turn_round(lists.get_mut(name).expect("every name has a list"), row);
         }
@@ -72,7 +110,8 @@ fn worlds_of_minute<'a>(names: &BTreeSet<Name>, universe: &'a BTreeSet<Row>, hol
     };
     let count = undecided.len();
     if count <= MOST_UNDECIDED {
-        return (0..1usize << count).map(|chosen| turned(&|place| chosen >> place & 1 == 1)).collect();
+        let all = (0..1usize << count).map(|chosen| turned(&|place| chosen >> place & 1 == 1));
+        return all.filter(|world| holding.links.iter().all(|link| world.has_true(link))).collect();
     }
     let mut worlds = vec![turned(&|_| false), turned(&|_| true)];
     worlds.extend((0..count).map(|one| turned(&|place| place == one)));
@@ -80,11 +119,11 @@ fn worlds_of_minute<'a>(names: &BTreeSet<Name>, universe: &'a BTreeSet<Row>, hol
         let chosen = random.number() & random.number();
         worlds.push(turned(&|place| chosen >> (place % 64) & 1 == 1));
     }
-    worlds
+    worlds.into_iter().map(|world| world.with_links_true(&holding.links)).collect()
 }
 
-/// A + name has just its certified rows; a − name has all rows but its certified ones.
-fn minimal_model(names: &BTreeSet<Name>, universe: &BTreeSet<Row>, holding: &BTreeSet<Record>) -> BTreeMap<Name, List> {
+/// Without links: a + name has just its certified rows; a − name has all rows but its certified ones.
+fn certified_alone(names: &BTreeSet<Name>, universe: &BTreeSet<Row>, holding: &BTreeSet<Record>) -> BTreeMap<Name, List> {
     let list = |name: &Name| {
         let certified = certified(holding, name);
         let minus = name[2] == 1;
@@ -97,7 +136,7 @@ fn certified(holding: &BTreeSet<Record>, name: &Name) -> BTreeSet<Row> {
     holding.iter().filter(|record| record.name == *name).map(|record| record.row).collect()
 }
 
-/// What no certificate decides then: rows of the universe, and for − names the rest (`None`).
+/// What no certificate of the name itself decides then: rows of the universe, and for − names the rest (`None`).
 fn undecided(names: &BTreeSet<Name>, universe: &BTreeSet<Row>, holding: &BTreeSet<Record>) -> Vec<(Name, Option<Row>)> {
     let of_name = |name: &Name| {
         let certified = certified(holding, name);
@@ -204,17 +243,16 @@ fn pattern_row(pattern: &[Slot], outside: usize, values: &[u32]) -> Row {
 
 /// The answer at one point and minute, with what was accepted so far.
 struct Point {
-    accepted: BTreeSet<Record>,
+    accepted: Accepted,
     minute: u32,
     verdict: Verdict,
     answer: Set,
 }
 
 impl Point {
-    /// What was accepted so far and holds at the minute.
-    fn holding(&self) -> BTreeSet<Record> {
+    fn holding(&self) -> Accepted {
         let holds = |record: &&Record| record.validity.first <= self.minute && self.minute < record.validity.end;
-        self.accepted.iter().filter(holds).copied().collect()
+        Accepted { records: self.accepted.records.iter().filter(holds).copied().collect(), ..self.accepted.clone() }
     }
 }
 
@@ -231,6 +269,8 @@ pub struct Seen {
     pub undecided_rows: u64,
     /// Certificates that were accepted before a point and do not hold at its minute.
     pub not_holding: u64,
+    /// Links that were accepted before a point, of names that the query may ask for or that links join with them.
+    pub links: u64,
 }
 
 /// A random policy and query at one minute and several points of a random list of filings. An external policy is rewritten by the engine, and what it answers
@@ -245,14 +285,17 @@ pub fn check(engine: &dyn Engine, generator: &mut Generator, seen: &mut Seen) ->
     };
     let policy = if external { rewritten_by(engine, &written)? } else { written };
     seen.rewritten += external as u64;
-    let names = names_asked(&judged);
-    let points = points(engine, generator, &names, &policy, &query)?;
+    let asked = names_asked(&judged);
+    let points = points(engine, generator, &asked, &policy, &query)?;
+    let names = with_linked(asked, &points.last().expect("there is a first point").accepted.links);
     let universe = universe(&points, &mut generator.random);
     let atoms = atoms(&judged, &universe);
     let show = |report| format!("{report}\n  policy {policy:?}\n  query {query:?}");
     for point in &points {
-        let holding = point.holding();
-        seen.not_holding += (point.accepted.len() - holding.len()) as u64;
+        let mut holding = point.holding();
+        holding.links.retain(|link| names.contains(&link.first()));
+        seen.not_holding += (point.accepted.records.len() - holding.records.len()) as u64;
+        seen.links += holding.links.len() as u64;
         let worlds = worlds_of_minute(&names, &universe, &holding, &mut generator.random);
         let belonging: Vec<Belonging> =
             worlds.iter().map(|world| Belonging { judged: &judged, world, atoms: &atoms, external, later: false }).collect();
@@ -303,23 +346,34 @@ fn in_step(earlier: &Point, later: &Point) -> Result<(), String> {
     }
 }
 
-/// Files certificates through the engine, and asks at the first point, in between and at the last, always at one minute.
-fn points(engine: &dyn Engine, generator: &mut Generator, names: &BTreeSet<Name>, policy: &[u32], query: &[u32]) -> Result<Vec<Point>, String> {
-    let mut store = lay_out(&BTreeSet::new(), STORE_WORDS, &mut generator.random);
-    let mut accepted = BTreeSet::new();
+/// Files certificates and links through the engine, and asks at the first point, in between and at the last, always at one minute.
+fn points(engine: &dyn Engine, generator: &mut Generator, asked: &BTreeSet<Name>, policy: &[u32], query: &[u32]) -> Result<Vec<Point>, String> {
+    let mut stores = empty_stores(&mut generator.random);
+    let mut accepted = Accepted::default();
     let minute = generator.minute();
-    let mut points = vec![point(engine, policy, query, minute, &store, &accepted)?];
+    let mut points = vec![point(engine, policy, query, minute, &stores, &accepted)?];
     for _ in 0..3 {
         for _ in 0..generator.random.between(1, 6) {
-            let record = filed(generator, names);
-            if engine.file(&mut store, &record) == 0 {
-                let sound = Record::from_words(&record).filter(|record| record.validity.sound());
-                accepted.insert(sound.ok_or_else(|| format!("{record:?} was accepted"))?);
+            let kind = generator.random.pick(&[Kind::Certificate, Kind::Certificate, Kind::Link]);
+            let words = filed(generator, asked, kind);
+            if stores.file(engine, kind, &words) == 0 {
+                accepted.take(kind, &words).ok_or_else(|| format!("{kind:?} {words:?} was accepted"))?;
             }
         }
-        points.push(point(engine, policy, query, minute, &store, &accepted)?);
+        points.push(point(engine, policy, query, minute, &stores, &accepted)?);
     }
     Ok(points)
+}
+
+impl Accepted {
+    /// Nothing where a refusal applies to these words.
+    fn take(&mut self, kind: Kind, words: &[u32]) -> Option<()> {
+        match kind {
+            Kind::Certificate => drop(self.records.insert(Record::from_words(words).filter(|record| record.validity.sound())?)),
+            Kind::Link => drop(self.links.insert(Link::from_words(words)?)),
+        }
+        Some(())
+    }
 }
 
 fn rewritten_by(engine: &dyn Engine, policy: &[u32]) -> Result<Vec<u32>, String> {
@@ -332,27 +386,43 @@ fn rewritten_by(engine: &dyn Engine, policy: &[u32]) -> Result<Vec<u32>, String>
     Ok(area)
 }
 
-/// Mostly a certificate of a name that the query asks, sometimes words that are none.
-fn filed(generator: &mut Generator, names: &BTreeSet<Name>) -> Vec<u32> {
-    let mut record = generator.record();
-    if !names.is_empty() && generator.random.chance(800) {
-        let name = names.iter().nth(generator.random.below(names.len())).expect("it is one of them");
+/// Mostly a certificate of a name that the query asks, or a link from one; sometimes words that are none.
+fn filed(generator: &mut Generator, asked: &BTreeSet<Name>, kind: Kind) -> Vec<u32> {
+    let (mut record, mut link) = (generator.record(), generator.link());
+    // Links bring the certificates of other names in.
+    let of_asked = if kind == Kind::Link { 800 } else { 500 };
+    if !asked.is_empty() && generator.random.chance(of_asked) {
+        let name = asked.iter().nth(generator.random.below(asked.len())).expect("it is one of them");
         record.name = *name;
+        [link.key, link.name, link.polarity] = *name;
     }
-    let words = record.words();
-    match generator.random.below(10) {
-        0 => words[..8].to_vec(),
-        1 => [5, 1, 0, 1, 5, 0, 0, 0, 0, 20].to_vec(), // a number as key
-        2 => [&words[..9], &words[8..9]].concat(),     // it ends at its first minute
-        _ => words.to_vec(),
+    let odd = generator.random.below(10);
+    match kind {
+        Kind::Certificate => {
+            let words = record.words();
+            match odd {
+                0 => words[..8].to_vec(),
+                1 => [5, 1, 0, 1, 5, 0, 0, 0, 0, 20].to_vec(), // a number as key
+                2 => [&words[..9], &words[8..9]].concat(),     // it ends at its first minute
+                _ => words.to_vec(),
+            }
+        }
+        Kind::Link => {
+            let words = link.words();
+            match odd {
+                0 => words[..4].to_vec(),
+                1 => [&words[..3], &[5], &words[4..]].concat(), // a number as other key
+                _ => words.to_vec(),
+            }
+        }
     }
 }
 
-fn point(engine: &dyn Engine, policy: &[u32], query: &[u32], minute: u32, store: &[u32], accepted: &BTreeSet<Record>) -> Result<Point, String> {
+fn point(engine: &dyn Engine, policy: &[u32], query: &[u32], minute: u32, stores: &Stores, accepted: &Accepted) -> Result<Point, String> {
     let Areas { answer, definitions, scratch } = Areas::LEAST;
     let (mut answer, mut definitions, mut scratch) = (vec![9; answer], vec![9; definitions], vec![9; scratch]);
     let lent = Lent { answer: &mut answer, definitions: &mut definitions, scratch: &mut scratch };
-    let reply = engine.query(policy, query, minute, store, lent);
+    let reply = engine.query(policy, query, minute, &stores.store, &stores.links, lent);
     let verdict = match (reply.number, reply.verdict) {
         (0, 0) => Verdict::Exact,
         (0, 1) => Verdict::Lower,
@@ -380,10 +450,19 @@ fn names_asked(judged: &Judged) -> BTreeSet<Name> {
     names
 }
 
+/// These names, and all that links join with them, whichever way: the lists of others have no say.
+fn with_linked(mut names: BTreeSet<Name>, links: &BTreeSet<Link>) -> BTreeSet<Name> {
+    let half_in = |names: &BTreeSet<Name>, link: &Link| names.contains(&link.first()) != names.contains(&link.second());
+    while let Some(link) = links.iter().find(|link| half_in(&names, link)) {
+        names.extend([link.first(), link.second()]);
+    }
+    names
+}
+
 /// All certified rows, and some of `ROWS`.
 fn universe(points: &[Point], random: &mut Random) -> BTreeSet<Row> {
     let accepted = &points.last().expect("there is a first point").accepted;
-    let mut universe: BTreeSet<Row> = accepted.iter().map(|record| record.row).collect();
+    let mut universe: BTreeSet<Row> = accepted.records.iter().map(|record| record.row).collect();
     universe.extend(ROWS.iter().filter(|_| random.chance(400)).map(|row| Row::new(row)));
     universe
 }
@@ -434,7 +513,47 @@ mod tests {
             assert_eq!(result, Ok(()));
             println!("{seen:?}");
             assert!(seen.points.iter().all(|&count| count > 100) && seen.undecided_rows > 1_000, "{seen:?}");
-            assert!(seen.rewritten > 50 && seen.not_holding > 1_000, "{seen:?}");
+            assert!(seen.rewritten > 50 && seen.not_holding > 1_000 && seen.links > 1_000, "{seen:?}");
+        }
+    }
+
+    /// Each of three names of one polarity, under every set of links between them, against every world over two rows where the links are true. Either row is
+    /// certified of one of the names.
+    fn links_between_three_names(engine: &dyn Engine) -> Result<(), String> {
+        let mut random = Random::new(1);
+        let rows = [5, 6].map(|atom| Row::new(&[atom]));
+        let universe = BTreeSet::from(rows);
+        for (polarity, chosen) in [0, 1].into_iter().flat_map(|polarity| (0..1 << 9).map(move |chosen| (polarity, chosen))) {
+            let names = [1, 2, 3].map(|n| [key(n), 1, polarity]);
+            let mut accepted = Accepted::default();
+            let mut stores = empty_stores(&mut random);
+            let links = (0..9).filter(|place| chosen >> place & 1 == 1).map(|place| [names[place / 3], names[place % 3]]);
+            for words in links.map(|[[key, name, _], [other_key, other_name, _]]| [key, name, polarity, other_key, other_name]) {
+                assert_eq!(stores.file(engine, Kind::Link, &words), 0);
+                accepted.take(Kind::Link, &words).expect("it is well formed");
+            }
+            for row in rows {
+                let words = Record { name: random.pick(&names), row, validity: ALWAYS }.words();
+                assert_eq!(stores.file(engine, Kind::Certificate, &words), 0);
+                accepted.take(Kind::Certificate, &words).expect("it is sound");
+            }
+            let worlds = worlds_of_minute(&BTreeSet::from(names), &universe, &accepted, &mut random);
+            for name in names {
+                let point = point(engine, &[1, 0], &[4, 0, name[0], 1, polarity], 0, &stores, &accepted)?;
+                for row in rows.iter().chain([&Row::new(&[97])]) {
+                    bounded(&point, row, &worlds.iter().map(|world| world.gives(name, row)).collect::<Vec<bool>>())?;
+                }
+            }
+        }
+        Ok(())
+    }
+
+    #[test]
+    fn every_set_of_links_between_three_names_is_read_as_its_worlds_have_it() {
+        assert_eq!(links_between_three_names(&Library), Ok(()));
+        assert_eq!(links_between_three_names(&Evaluator::default()), Ok(()));
+        for fault in [Fault::LinksFollowedOneStep, Fault::LinksTheWrongWay, Fault::MinusListsUnited, Fault::CirclesCut, Fault::LinksGoneThroughOnce] {
+            assert!(links_between_three_names(&Evaluator { fault: Some(fault) }).is_err(), "{fault:?} is not noticed");
         }
     }
 
@@ -467,6 +586,31 @@ mod tests {
             Fault::VettedAtAnyMinute,
             Fault::AbsentAtAnyMinute,
             Fault::DefinitionsAtMinute0,
+            Fault::LinksNotRead,
+            Fault::LinksFollowedOneStep,
+            Fault::LinksTheWrongWay,
+            Fault::LinksBothWays,
+            Fault::MinusLinksTheWrongWay,
+            Fault::MinusLinksNotRead,
+            Fault::LinkPolarityIgnored,
+            Fault::LinkPolarityTurnedRound,
+            Fault::ItselfNotJoined,
+            Fault::ItselfNotJoinedWhereLinked,
+            Fault::CirclesCut,
+            Fault::SearchStopsAtNameMetBefore,
+            Fault::FirstLinkOfNameAlone,
+            Fault::LinksGoneThroughOnce,
+            Fault::LinksOfKey,
+            Fault::LinksOfNumber,
+            Fault::OtherKeyIgnored,
+            Fault::OtherNameIgnored,
+            Fault::VettedWithoutLinks,
+            Fault::ReachedVetted,
+            Fault::AbsentWithoutLinks,
+            Fault::DefinitionsWithoutLinks,
+            Fault::MinusListsUnited,
+            Fault::ReachedAtAnyMinute,
+            Fault::ReachedOfBothPolarities,
         ];
         for fault in meanings {
             let (result, _) = run(&Evaluator { fault: Some(fault) }, 8_000);
