@@ -15,6 +15,7 @@ pub use lines::cell_end;
 pub use lines::is_at;
 pub use lines::is_bar;
 pub use lines::next_line;
+pub use lines::past;
 pub use printing::say;
 pub use printing::say_number;
 pub use printing::say_words;

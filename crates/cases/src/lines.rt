@@ -32,6 +32,24 @@ pub fn after(text: &[u8], at: usize) -> usize
     if at < text.len() { at + 1 } else { at }
 }
 
+// The place after this word, if it stands at `at`, and otherwise `at`.
+pub fn past(text: &[u8], at: usize, word: &[u8]) -> usize
+    requires { ⌜ at ≤ length (now text) ⌝ }
+    ensures { λ r. ⌜ (at ≤ r) × (r ≤ length (now (text .entry))) ⌝ }
+{
+    let mut i: usize = 0;
+    while i < word.len() {
+        if text.len() - at <= i {
+            return at;
+        }
+        if text[at + i] != word[i] {
+            return at;
+        }
+        i += 1;
+    }
+    at + i
+}
+
 // Where the bar or the line's end is that ends this cell.
 pub fn cell_end(text: &[u8], at: usize) -> usize
     requires { ⌜ at ≤ length (now text) ⌝ }

@@ -1,20 +1,20 @@
 // Asks the engine what the lines of its input ask, by real calls on areas full of other words, and prints what it replied. Each line of `stdout`
 // was checked by hand against the documents. How words are written is said in the crate `cases`. A line is one of these:
 //
-//     NAME|POLICY|QUERY            asks the query under the policy, over the store as it is, at the minute that was set last
-//     NAME|POLICY|QUERY|AREAS      the same with an answer, a definition and a scratch area of so many words, not 642 10272 16384
+//     NAME|POLICY|QUERY            asks the query under the policy, over the store and the links as they are, at the minute that was set last
+//     NAME|POLICY|QUERY|AREAS      the same with an answer, a definition, a scratch area and a link store of so many words, not 642 10272 16384 1281
 //     minute N                     sets the minute, which is 0 at the start
 //
-// `file` and `store` lines keep the store (`cases::storing`). Any other line is printed.
+// `file`, `store`, `link` and `links` lines keep the stores (`cases::storing`); there are no links at the start. Any other line is printed.
 ghost use Prim.Native.Nat.{_≤_};
 ghost use lib.ListN.{length};
 use cases::after;
 use cases::at_most;
 use cases::cell_end;
 use cases::first_word;
-use cases::is_at;
 use cases::is_bar;
 use cases::next_line;
+use cases::past;
 use cases::read_words;
 use cases::replies::say_reply;
 use cases::say;
@@ -24,6 +24,7 @@ use engine::query;
 // Asks, and prints the reply.
 fn ask_with<'a>(
     store: &[u32],
+    links: &[u32],
     minute: u32,
     policy: &'a [u32],
     words: &'a [u32],
@@ -31,20 +32,38 @@ fn ask_with<'a>(
     definitions: &mut [u32],
     scratch: &mut [u32],
 ) {
-    let reply = query(policy, words, minute, store, answer, definitions, scratch);
+    let reply = query(
+        policy,
+        words,
+        minute,
+        store,
+        links,
+        answer,
+        definitions,
+        scratch,
+    );
     say_reply(reply, answer);
 }
 
-// Asks with areas of these lengths.
-fn ask<'a>(store: &[u32], minute: u32, policy: &'a [u32], words: &'a [u32], areas: [u32; 3]) {
+// Asks with areas and a link store of these lengths.
+fn ask<'a>(
+    store: &[u32],
+    links: &[u32],
+    minute: u32,
+    policy: &'a [u32],
+    words: &'a [u32],
+    areas: [u32; 4],
+) {
     let mut answer = [5u32; 1000];
     let mut definitions = [6u32; 11000];
     let mut scratch = [7u32; 17000];
     let a = at_most(areas[0], 1000);
     let d = at_most(areas[1], 11000);
     let s = at_most(areas[2], 17000);
+    let l = at_most(areas[3], links.len());
     ask_with(
         store,
+        &links[0..l],
         minute,
         policy,
         words,
@@ -54,11 +73,11 @@ fn ask<'a>(store: &[u32], minute: u32, policy: &'a [u32], words: &'a [u32], area
     );
 }
 
-// The lengths after the bar at `at`, or document 01's if there is no bar.
-fn areas_at(text: &[u8], at: usize) -> [u32; 3]
+// The lengths after the bar at `at`; those that are not given are the documents'.
+fn areas_at(text: &[u8], at: usize) -> [u32; 4]
     requires { ⌜ at ≤ length (now text) ⌝ }
 {
-    let mut areas = [642, 10272, 16384];
+    let mut areas = [642, 10272, 16384, 1281];
     if is_bar(text, at) {
         read_words(text, after(text, at), &mut areas);
     }
@@ -66,7 +85,7 @@ fn areas_at(text: &[u8], at: usize) -> [u32; 3]
 }
 
 // The policy, the query and the areas after the bar at `at`.
-fn ask_at(text: &[u8], at: usize, store: &[u32], minute: u32)
+fn ask_at(text: &[u8], at: usize, store: &[u32], links: &[u32], minute: u32)
     requires { ⌜ at ≤ length (now text) ⌝ }
 {
     let mut policy = [0u32; 8193];
@@ -77,6 +96,7 @@ fn ask_at(text: &[u8], at: usize, store: &[u32], minute: u32)
     let asked = second.count;
     ask(
         store,
+        links,
         minute,
         &policy[0..held],
         &words[0..asked],
@@ -85,13 +105,14 @@ fn ask_at(text: &[u8], at: usize, store: &[u32], minute: u32)
 }
 
 // A line without bars. It returns the minute of the lines that follow.
-fn act(text: &[u8], at: usize, end: usize, store: &mut [u32], minute: u32) -> u32
+fn act(text: &[u8], at: usize, end: usize, store: &mut [u32], links: &mut [u32], minute: u32) -> u32
     requires { ⌜ (at ≤ end) × (end ≤ length (now text)) ⌝ }
 {
-    if is_at(text, at, b'm') {
-        return first_word(text, at);
+    let set = past(text, at, b"minute ");
+    if at < set {
+        return first_word(text, set);
     }
-    if !keep(text, at, store) {
+    if !keep(text, at, store, links) {
         say(&text[at..end]);
         say(b"\n");
     }
@@ -99,26 +120,26 @@ fn act(text: &[u8], at: usize, end: usize, store: &mut [u32], minute: u32) -> u3
 }
 
 // One line. It returns the minute of the lines that follow.
-fn line(text: &[u8], at: usize, store: &mut [u32], minute: u32) -> u32
+fn line(text: &[u8], at: usize, store: &mut [u32], links: &mut [u32], minute: u32) -> u32
     requires { ⌜ at ≤ length (now text) ⌝ }
 {
     let end = cell_end(text, at);
     if is_bar(text, end) {
         say(&text[at..end]);
         say(b": ");
-        ask_at(text, end, store, minute);
+        ask_at(text, end, store, links, minute);
         say(b"\n");
         minute
     } else {
-        act(text, at, end, store, minute)
+        act(text, at, end, store, links, minute)
     }
 }
 
-fn run(text: &[u8], store: &mut [u32]) {
+fn run(text: &[u8], store: &mut [u32], links: &mut [u32]) {
     let mut at: usize = 0;
     let mut minute: u32 = 0;
     while at < text.len() {
-        minute = line(text, at, store, minute);
+        minute = line(text, at, store, links, minute);
         at = next_line(text, at);
     }
 }
@@ -127,5 +148,7 @@ fn main() {
     let mut text = io::large_buffer();
     let count = io::read_full(0, &mut text);
     let mut store = [99u32; 16001];
-    run(&text[0..count], &mut store);
+    let mut links = [98u32; 1282];
+    links[0] = 0;
+    run(&text[0..count], &mut store, &mut links);
 }
