@@ -9,7 +9,7 @@ use Rattle.rows.specs.Sets.{only, allBut}
 use Rattle.certificates.specs.Stores.{AnyFiling, certificate, link, storesAt}
 use Rattle.policy.specs.Polarity.{exact, lower, upper}
 use Rattle.policy.specs.Judged.{k1, P, Q, noDefinitions as noDefinitions}
-use Rattle.demands.specs.Query.{Outcome, answered, refused, queryCall}
+use Rattle.demands.specs.Query.{Outcome, answered, refused, lent, queryCall}
 
 -- "An empty store is a sound one with the count 0, whatever words follow."
 unfoldable pub emptyStore : List ℕ
@@ -29,7 +29,7 @@ unfoldable pub Holds : Case → Type 0
 unfolding emptyStore emptyLinks
 Holds c =
     queryCall (storesAt (record { store = emptyStore; links = emptyLinks }) (c .filings))
-    (record { policy = c .policy; query = c .query; minute = c .minute; answer = replicate 642 5; definitions = replicate 10272 6; scratch = replicate 16384 7 })
+    (lent (c .policy) (c .query) (c .minute) (replicate 642 5) (replicate 10272 6) (replicate 16384 7))
     ≡ c .outcome
 
 -- k1, 1, +, row 7; k1, 2, −, row 7; k1, 1, +, row 8; document 02, N4: "read at minute 0, their certificates holding from 0 to 1"

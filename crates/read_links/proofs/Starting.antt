@@ -174,6 +174,9 @@ module _ (links : List ℕ) (sound : soundLinks links ≡ true) where
           there : getD links (linkWords * i + 3) 0 ≡ polarity → From links key name polarity i
           there c = record { held = h; polar = ap polarityOf (its-polarity ∙ c); here = rw (its-key, its-name, a, b) }
 
+    pub none-linked : countOf links ≡ 0 → SayLinked links polarity key name false
+    none-linked z = record { means = (λ t. never t refl, λ s. let h = held-link (s .link) (s .held) .1 in absurd (omega arith)) }
+
     -- some link starts at the name just if the first of those that would does
     pub linked : {start : ℕ} {b : Bool} → FirstFrom links key name polarity start → SayFrom links key name polarity start b → SayLinked links polarity key name b
     linked {start} {b} first say = record { means = (λ t. to (say .means .0 t), λ s. say .means .1 (from s)) }

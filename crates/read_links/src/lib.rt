@@ -40,11 +40,14 @@ fn is_from(links: &[u32], i: usize, key: u32, name: u32, polarity: u32) -> bool
     links[LINK_WORDS * i + 3] == polarity
 }
 
-// Do links of the polarity lead on from the name?
+// Do links of the polarity lead on from the name? Where there are none at all, nothing is searched.
 pub fn is_linked(links: &[u32], key: u32, name: u32, polarity: u32) -> bool
     requires { ⌜ (soundLinks (now links) ≡ true) × (polarity ≤ 1) ⌝ }
     ensures { λ r. ⌜ SayLinked (now (links .entry)) polarity key name r ⌝ }
 {
+    if links[0] == 0 {
+        return false;
+    }
     let first = first_from(links, key, name, polarity);
     is_from(links, first, key, name, polarity)
 }
