@@ -34,13 +34,13 @@ use Rattle.read_links.specs.Reached.{linksOf, namesIn, nameIn, SayLinked, SayRe
 use Rattle.read_links.proofs.Names.{names-last, name-∈, ∈-name}
 use Rattle.read_values.proofs.Answers.{stands-filled}
 use Rattle.read_steps.proofs.Inserting.{Listed, NoRoom}
-use Rattle.read_names.specs.Held.{Records, rowAt, rowsHeld, SayFound}
+use Rattle.read_held.specs.Held.{Records, rowAt, rowsHeld, SayFound}
 use Rattle.read_names.specs.Reached.{partOf, ownRows, nameRows, HeldFor, Overfull, SayJoined, SayLooking, SayListed, LookedUp, SayLookup}
 use Rattle.read_names.specs.declared.Lookup.the-variants as Lookup
 use Rattle.read_names.specs.declared.reached.Looking.{Looking}
-use Rattle.read_names.proofs.Holding.{rows-none, rows-hold, rows-skip, rows-within, rows-most, rows-ascend}
-use Rattle.read_names.proofs.Walking.{five-in}
-use Rattle.read_names.proofs.Copying.{wide, rows-wide}
+use Rattle.read_held.proofs.Holding.{rows-none, rows-hold, rows-skip, rows-within, rows-most, rows-ascend}
+use Rattle.read_held.proofs.Walking.{five-in}
+use Rattle.read_held.proofs.Copying.{wide, rows-wide}
 use Rattle.read_names.proofs.Own.{own-rows, part-few, part-records}
 
 -- ---- what a name's rows are

@@ -24,7 +24,7 @@ use Rattle.certificates.proofs.Sound.{sound-record, sound-store}
 use Rattle.certificates.proofs.NameRows.{name-length, name-pieces, name-sound, name-climbs}
 use Rattle.meaning.specs.Links.{reachable}
 use Rattle.meaning.specs.Evidence.{counts, joined}
-use Rattle.read_names.specs.Held.{Records, rowAt, rowsHeld}
+use Rattle.read_held.specs.Held.{Records, rowAt, rowsHeld}
 
 same-polarity : (v w : ℕ) → v ≤ 1 → w ≤ 1 → samePolarity (polarityOf v) (polarityOf w) ≡ eqb v w
 unfolding polarityOf

@@ -17,7 +17,7 @@ use Rattle.certificates.specs.Link.{Named}
 use Rattle.meaning.specs.Evidence.{joined}
 use Rattle.read_values.specs.Answers.{Filled}
 use Rattle.read_links.specs.Reached.{linksOf}
-use Rattle.read_names.specs.Held.{rowsHeld}
+use Rattle.read_held.specs.Held.{rowsHeld}
 use Rattle.read_names.specs.declared.Lookup.{Lookup}
 use Rattle.read_names.specs.declared.Lookup.the-variants.{Listed, TooMany}
 use Rattle.read_names.specs.declared.reached.Looking.{Looking}

@@ -1,5 +1,4 @@
 // Reading a name: the rows that are certified at a minute for it and for the names that links reach from it, copied or looked up.
-mod held;
 mod reached;
 
 ghost use mathlib.Core.Path.{_≡_};
@@ -17,9 +16,9 @@ ghost use Rattle.read_values.specs.Values.{Bound};
 ghost use Rattle.policy_places.specs.Places.{SomeName, SomeRow};
 ghost use Rattle.read_names.specs.Reached.{nameRows, SayListed, SayLookup};
 ghost use Rattle.read_names.specs.Names.{SayName, SayBelongs, SayNameHas};
-use crate::held::copy_rows;
-use crate::held::is_held;
-use crate::held::too_many;
+use read_held::copy_rows;
+use read_held::is_held;
+use read_held::too_many;
 use crate::reached::list_reached;
 use crate::reached::look_reached;
 use certificates::RECORD_WORDS;

@@ -5,7 +5,7 @@ use Prim.Native.Nat.{_+_, _*_, _≤_}
 use mathlib.Core.Path.{_≡_}
 use lib.ListN.{length}
 use Rattle.read_steps.proofs.Inserting.{known-listed, new-listed, full-no-room}
-use Rattle.read_names.proofs.Walking.{row-inside}
+use Rattle.read_held.proofs.Walking.{row-inside}
 use Rattle.read_names.proofs.Linked.{Loaded, loaded, one-listed, one-full}
 use Rattle.read_names.proofs.reached.join_row.Statement.{statement}
 use Rattle.read_names.proofs.reached.join_row.Tie as tie

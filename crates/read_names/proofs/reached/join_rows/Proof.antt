@@ -8,8 +8,8 @@ use borrow.Author.Tests.{not-true, not-false}
 use Rattle.rows.specs.Ordered.{_∈_}
 use Rattle.certificates.specs.Certificate.{holdsAt}
 use Rattle.certificates.specs.Steps.{recordIn}
-use Rattle.read_names.specs.Held.{rowsHeld}
-use Rattle.read_names.proofs.Walking.{row-inside}
+use Rattle.read_held.specs.Held.{rowsHeld}
+use Rattle.read_held.proofs.Walking.{row-inside}
 use Rattle.read_names.proofs.Linked.{Joining, joining-start, joining-same, joining-more, joining-all, joining-full, record-adds, record-adds-nothing, record-among, all-records, no-records}
 use Rattle.read_names.proofs.reached.join_rows.Statement.{statement}
 use Rattle.read_names.proofs.reached.join_rows.Tie as tie
