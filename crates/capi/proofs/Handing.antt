@@ -1,6 +1,6 @@
 -- What filing, judging, rewriting and asking hand out is what their definitions say, one law for each way that a call returns.
 use Prim.Native.Nat.{ℕ}
-use mathlib.Core.Path.{_≡_, sym, _∙_, ap}
+use mathlib.Core.Path.{_≡_, sym, ap}
 use mathlib.Core.List.{List}
 use Rattle.refusals.specs.RefusalTable.{noPart}
 use Rattle.certificates.specs.Stores.{Stores}

@@ -1,6 +1,6 @@
 -- Filings of both kinds: each store is as the filings of its own kind leave it, and the two hold just what was accepted.
 use Prim.Native.Nat.{ℕ}
-use mathlib.Core.Path.{_≡_, refl, sym, _∙_, ap, subst}
+use mathlib.Core.Path.{_≡_, refl, sym, ap, subst}
 use mathlib.Core.Bool.{true}
 use mathlib.Core.List.{List, [], _∷_, _++_}
 use Rattle.rows.specs.Ordered.{_∈_}

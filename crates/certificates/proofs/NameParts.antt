@@ -9,14 +9,14 @@ use lib.Dec.{T, eqb}
 use lib.ListN.{length, take, drop}
 use Rattle.rows.specs.Ordered.{tied, keep, leading, PassFirst, wordsBefore}
 use Rattle.rows.specs.Records.{countOf, beginsBefore}
-use Rattle.rows.proofs.Case.{Case, isTrue, isFalse, split, never, T-true, T-and, T-eqb, same-test, _then_, iff-sym}
-use Rattle.rows.proofs.Order.{words-order, not-both, least-then-less, less-then-least}
+use Rattle.rows.proofs.Case.{T-true, T-and, T-eqb, same-test, _then_, iff-sym}
+use Rattle.rows.proofs.Order.{words-order, not-both}
 use Rattle.rows.proofs.Lists.{all-in, all-of}
 use Rattle.rows.proofs.Ordered.{same-iff}
-use Rattle.rows.proofs.Leading.{leading-more, ascending-pass-first, keep-between}
+use Rattle.rows.proofs.Leading.{leading-more, keep-between}
 use Rattle.rows.proofs.Records.{count-few, records-between}
 use Rattle.rows.proofs.Fronts.{begin-first}
-use Rattle.certificates.specs.Certificate.{recordWords, recordName, soundRecord, recordBefore}
+use Rattle.certificates.specs.Certificate.{recordWords, recordName, soundRecord}
 use Rattle.certificates.specs.Store.{capacity, records, soundStore}
 use Rattle.certificates.specs.NamePart.{ofName, namePart, nameStart}
 use Rattle.certificates.specs.Spans.{Spans}

@@ -1,7 +1,7 @@
 -- Document 02, N5: links, their five words, and the second store, which holds them.
 use Prim.Native.Nat.{ℕ}
 use mathlib.Core.Bool.{Bool, _&&_}
-use mathlib.Core.List.{List, [], map}
+use mathlib.Core.List.{List, map}
 use lib.Dec.{eqb}
 use lib.ListN.{length, getD}
 use Rattle.refusals.specs.RefusalTable.{badLink, linksFull}

@@ -1,15 +1,15 @@
 -- The minimal model of what is held is a world, all of it is true in it, it lies below every world where all is true, and the names held show it.
 use Prim.Native.Nat.{ℕ}
-use mathlib.Core.Path.{_≡_, refl, sym, _∙_, ap, subst, fun-ext}
+use mathlib.Core.Path.{_≡_, refl, sym, ap, subst, fun-ext}
 use mathlib.Core.Logic.{_⊎_, inl, inr, _↔_}
-use mathlib.Core.Bool.{Bool, true, false, _&&_}
+use mathlib.Core.Bool.{Bool, true, false}
 use mathlib.Core.List.{List, [], _∷_}
 use lib.Dec.{T}
 use Rattle.rows.specs.Ordered.{_∈_, insert}
 use Rattle.rows.specs.Row.{Row, IsRow, isKey, rowBefore}
 use Rattle.rows.specs.Name.{Polarity, plus, minus, samePolarity}
 use Rattle.rows.specs.Sets.{RowSet, only, allBut, listing, Proper, has}
-use Rattle.rows.proofs.Case.{T-and, _then_, iff-refl, iff-sym, both-or, both-not}
+use Rattle.rows.proofs.Case.{T-and, _then_, iff-sym, both-not}
 use Rattle.rows.proofs.Order.{row-order}
 use Rattle.rows.proofs.Lists.{all-of}
 use Rattle.rows.proofs.Ordered.{Ascending, true-ascending, insert-∈, insert-ascending, ascending-unique}
@@ -21,7 +21,7 @@ use Rattle.certificates.proofs.Both.{Within}
 use Rattle.meaning.specs.Links.{Reaches, itself, step}
 use Rattle.meaning.specs.Evidence.{named, counts, joined, namesHeld}
 use Rattle.meaning.specs.World.{World, Says, LinkSays, AllTrue, Below, AboutRows}
-use Rattle.meaning.specs.Model.{Minimal, Certified, JustCertified, Theorem}
+use Rattle.meaning.specs.Model.{Minimal, Certified, Theorem}
 use Rattle.meaning.specs.Belonging.{InList}
 use Rattle.meaning.specs.Faithful.{ProperNames, Shows}
 use Rattle.meaning.proofs.Claims.{same-polarity}

@@ -9,7 +9,7 @@ use lib.Dec.{ltb}
 use lib.ListN.{length, getD, take, drop, length-append}
 use lib.Seq.{getD-take, getD-drop, drop-drop, take-take}
 use borrow.Author.Tests.{le-leb, lt-leb, le-ltb, lt-ltb, ltb-true, ltb-false}
-use Rattle.rows.specs.Ordered.{_∈_, wordsBefore, lists}
+use Rattle.rows.specs.Ordered.{_∈_, wordsBefore}
 use Rattle.rows.specs.Row.{Row, rowBefore}
 use Rattle.rows.specs.Layout.{rowIn, rowWords, fiveAt, soundRow}
 use Rattle.rows.proofs.Case.{Case, isTrue, isFalse, split, never}

@@ -8,7 +8,7 @@ ghost use Rattle.rows.specs.Layout.{setRoom, formed, written};
 ghost use Rattle.row_words.specs.Values.{rowIs};
 ghost use Rattle.certificates.specs.Certificate.{recordWords, holdsAt};
 ghost use Rattle.certificates.specs.Steps.{recordIn};
-ghost use Rattle.read_held.specs.Held.{Records, rowAt, rowsHeld, SameRow, ListedSoFar, SayNew, NextHeld, RowStart, PastRow, SayRecord, SayFound};
+ghost use Rattle.read_held.specs.Held.{Records, rowsHeld, SameRow, ListedSoFar, SayNew, NextHeld, RowStart, PastRow, SayRecord, SayFound};
 use certificates::RECORD_WORDS;
 use certificates::ROW_IN_RECORD;
 use certificates::TERM_IN_RECORD;

@@ -1,7 +1,6 @@
 -- The links of a sound store, link by link, and those that start at a name: they stand side by side, and the search finds the first.
 use Prim.Native.Nat.{ℕ, zero, suc, _+_, _*_, _≤_, _<_}
 use mathlib.Core.Path.{_≡_, refl, sym, _∙_, ap, subst}
-use mathlib.Core.Logic.{inl, inr}
 use mathlib.Core.Bool.{Bool, true, false}
 use mathlib.Core.List.{List, [], _∷_}
 use native.Mathlib.Omega.{arith}
@@ -9,7 +8,7 @@ use lib.Dec.{ltb, eqb}
 use lib.ListN.{length, getD, take, drop}
 use lib.Seq.{getD-take, getD-drop}
 use borrow.Author.Tests.{ltb-true, ltb-false, leb-true, eqb-true, eq-eqb}
-use Rattle.rows.specs.Ordered.{_∈_, leading, PassFirst, wordsBefore}
+use Rattle.rows.specs.Ordered.{_∈_, leading, wordsBefore}
 use Rattle.rows.specs.Name.{polarityOf}
 use Rattle.rows.specs.Records.{countOf, recordAt, beginsBefore}
 use Rattle.rows.proofs.Case.{Case, isTrue, isFalse, split, never}

@@ -8,7 +8,7 @@ use native.Mathlib.Omega.{arith}
 use lib.Dec.{ltb}
 use lib.ListN.{length, getD}
 use borrow.Author.Tests.{ltb-true, ltb-false}
-use Rattle.rows.specs.Ordered.{_∈_, lists, insert, join, ascending}
+use Rattle.rows.specs.Ordered.{_∈_, lists, insert, join}
 use Rattle.rows.specs.Row.{Row, rowBefore}
 use Rattle.rows.specs.Name.{polarityOf}
 use Rattle.rows.specs.Layout.{rowIn, fiveAt, rowsIn, formed, setIn, written}
@@ -27,7 +27,7 @@ use Rattle.certificates.specs.NamePart.{namePart}
 use Rattle.certificates.specs.Steps.{recordIn}
 use Rattle.certificates.specs.Link.{Named}
 use Rattle.certificates.proofs.Sound.{sound-record}
-use Rattle.meaning.specs.Evidence.{named, joined}
+use Rattle.meaning.specs.Evidence.{joined}
 use Rattle.meaning.proofs.Model.{rows-ascending, joined-alone, reached-∈}
 use Rattle.read_values.specs.Answers.{Filled, Empty}
 use Rattle.read_links.specs.Reached.{linksOf, namesIn, nameIn, SayLinked, SayReached}
@@ -35,7 +35,7 @@ use Rattle.read_links.proofs.Names.{names-last, name-∈, ∈-name}
 use Rattle.read_values.proofs.Answers.{stands-filled}
 use Rattle.read_steps.proofs.Inserting.{Listed, NoRoom}
 use Rattle.read_held.specs.Held.{Records, rowAt, rowsHeld, SayFound}
-use Rattle.read_names.specs.Reached.{partOf, ownRows, nameRows, HeldFor, Overfull, SayJoined, SayLooking, SayListed, LookedUp, SayLookup}
+use Rattle.read_names.specs.Reached.{partOf, ownRows, nameRows, HeldFor, SayJoined, SayLooking, SayListed, LookedUp, SayLookup}
 use Rattle.read_names.specs.declared.Lookup.the-variants as Lookup
 use Rattle.read_names.specs.declared.reached.Looking.{Looking}
 use Rattle.read_held.proofs.Holding.{rows-none, rows-hold, rows-skip, rows-within, rows-most, rows-ascend}

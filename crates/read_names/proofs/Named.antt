@@ -14,8 +14,6 @@ use Rattle.rows.specs.Layout.{rowsIn, formed, setIn}
 use Rattle.row_words.specs.Values.{rowIs}
 use Rattle.row_words.specs.declared.row.Row as Held-row
 use Rattle.rows.proofs.LayoutLaws.{formed-listing}
-use Rattle.certificates.specs.Store.{certificatesAt}
-use Rattle.certificates.specs.Link.{linksSaid}
 use Rattle.certificates.specs.Stores.{Stores, Held, heldIn}
 use Rattle.policy.specs.Syntax.{Term}
 use Rattle.policy.specs.Words.{termWords}

@@ -9,7 +9,7 @@ use lib.ListN.{length, getD}
 use borrow.Author.Tests.{leb-true, eqb-true, eqb-false, eq-eqb, ne-eqb}
 use Rattle.rows.specs.Word.{All}
 use Rattle.rows.specs.Ordered.{_∈_, insert, join, keep}
-use Rattle.rows.specs.Row.{Row, rowBefore}
+use Rattle.rows.specs.Row.{rowBefore}
 use Rattle.rows.specs.Name.{polarityOf, samePolarity}
 use Rattle.rows.specs.Layout.{pieces}
 use Rattle.rows.proofs.Case.{Case, isTrue, isFalse, split}

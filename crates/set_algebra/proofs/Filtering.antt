@@ -11,7 +11,6 @@ use Rattle.rows.specs.Row.{Row, rowBefore}
 use Rattle.rows.specs.Sets.{RowSet, listing}
 use Rattle.rows.specs.Layout.{rowWords, fiveAt, flat, laid, written, put, formed}
 use Rattle.set_algebra.specs.Private.{roomAt, lefts, rights, Rooms, Passed, alike, picked}
-use Rattle.rows.proofs.Case.{Case, isTrue, isFalse, split}
 use Rattle.rows.proofs.Lists.{all-at, all-take}
 use Rattle.rows.proofs.Ordered.{keep-append, keep-length}
 use Rattle.rows.proofs.Sets.{keep-all}

@@ -1,8 +1,6 @@
 -- The row in hand is listed, or there is no room for it.
 use borrow.Author.Needs.{needs}
-use native.Mathlib.Omega.{arith}
 use Prim.Native.Nat.{_+_, _*_, _≤_}
-use mathlib.Core.Path.{_≡_}
 use lib.ListN.{length}
 use Rattle.read_steps.proofs.Inserting.{known-listed, new-listed, full-no-room}
 use Rattle.read_held.proofs.Walking.{row-inside}
