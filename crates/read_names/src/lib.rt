@@ -66,7 +66,7 @@ fn list_rows(
     true
 }
 
-// Looks for a row among those of a name. They are copied to the area only where links join more of them than a set may list.
+// Looks for a row among those of a name. They are copied to the area only where the names that links reach have more records than a set lists rows.
 fn look_up(
     key: u32,
     name: u32,
