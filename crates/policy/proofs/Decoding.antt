@@ -17,7 +17,7 @@ use Rattle.policy.specs.Parse.{parsed, noneLeft, parse}
 use Rattle.policy.specs.Decode.{Read, got, refused, Reader, after, give, word, wordWhere, countDraw, term, slots, guardOf, guardAs, body, codeOf, isCode, exprAs, expr}
 use Rattle.policy.specs.Parsing.{Theorem}
 use Rattle.policy.proofs.Basics.{impossible}
-use Rattle.policy.proofs.Format.{Format, oneWord, Made, made, Taken, Takes, Returns, Reads, refuse-takes, then-takes, last-takes, then-returns, last-returns, word-takes, word-returns, returns-as}
+use Rattle.policy.proofs.Spelling.{Spelling, oneWord, Made, made, Taken, Takes, Returns, Reads, refuse-takes, then-takes, last-takes, then-returns, last-returns, word-takes, word-returns, returns-as}
 use Rattle.policy.proofs.Leaves.{where-reads, term-reads, width-reads, row-reads, slots-reads}
 use Rattle.policy.proofs.LeafDecoding.{leafAs-reads, leaf-coded}
 
@@ -26,7 +26,7 @@ pub record FitExpr (known levels n : ℕ) (e : Expr) : Type 0 where
   pub fit : Fit known n e
   pub shallow : depth e ≤ levels
 
-abbrev pub expression : ℕ → ℕ → ℕ → Format Expr
+abbrev pub expression : ℕ → ℕ → ℕ → Spelling Expr
 expression known levels n = record { words = λ e. exprWords e n; draws = drawCount; Good = FitExpr known levels n }
 
 -- a body of c guards, its expressions of so many levels at most
@@ -35,11 +35,11 @@ pub record FitGuards (known levels c n : ℕ) (b : Body) : Type 0 where
   pub shallow : bodyDepth b ≤ levels
   pub guards : guardCount b ≡ c
 
-abbrev pub guards : ℕ → ℕ → ℕ → ℕ → Format Body
+abbrev pub guards : ℕ → ℕ → ℕ → ℕ → Spelling Body
 guards known levels c n = record { words = λ b. bodyWords b n; draws = bodyDraws; Good = FitGuards known levels c n }
 
 -- no words, one draw
-abbrev oneDraw : Format (Unit {0})
+abbrev oneDraw : Spelling (Unit {0})
 oneDraw = record { words = λ t. []; draws = λ t. 1; Good = λ t. Unit {0} }
 
 count-reads : Reads countDraw oneDraw

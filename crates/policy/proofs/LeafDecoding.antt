@@ -13,11 +13,11 @@ use Rattle.policy.specs.Leaf.{Leaf, finite, cofinite, definition, listed
 use Rattle.policy.specs.Syntax.{Expr}
 use Rattle.policy.specs.Decode.{refused, Reader, wordWhere, Code, isLeaf, isUnion, isDifference, isComprehension, codeOf, isNode, someCode, isCode, exprAs}
 use Rattle.policy.proofs.Basics.{impossible}
-use Rattle.policy.proofs.Format.{Format, plain, oneWord, Made, made, Takes, Returns, Reads, refuse-takes, then-takes, last-takes, then-returns, last-returns}
+use Rattle.policy.proofs.Spelling.{Spelling, plain, oneWord, Made, made, Takes, Returns, Reads, refuse-takes, then-takes, last-takes, then-returns, last-returns}
 use Rattle.policy.proofs.Leaves.{where-reads, polarity-reads, issuer-reads, rows-reads}
 
 -- the leaves whose code is w, `known` earlier definitions being available and n variables in scope: the words after the code
-abbrev pub leavesOf : ℕ → ℕ → ℕ → Format Leaf
+abbrev pub leavesOf : ℕ → ℕ → ℕ → Spelling Leaf
 leavesOf known n w = plain leafRest (λ x. FitLeaf known n x × (leafCode x ≡ w))
 
 name-reads : Reads (wordWhere badWord isName) (oneWord (λ m. T (isName m)))

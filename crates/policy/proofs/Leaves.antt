@@ -16,7 +16,7 @@ use Rattle.policy.specs.Syntax.{Term, atom, var, Slot, old, new}
 use Rattle.policy.specs.Words.{termWords, each, termRowWords, slotWords, fresh}
 use Rattle.policy.specs.WellFormed.{FitTerm, FitIssuer, FitRow, FitRows, FitSlots}
 use Rattle.policy.specs.Decode.{Reader, after, give, need, word, wordWhere, times, polarity, tagOf, termAs, anyAtom, term, issuer, width, row, rows, Pattern, pushSlot, slotAs, slots}
-use Rattle.policy.proofs.Format.{Format, plain, oneWord, Made, made, Takes, Returns, Reads, refuse-takes, give-takes, give-returns, then-takes, last-takes, whole-takes, then-returns, last-returns, word-takes, word-returns}
+use Rattle.policy.proofs.Spelling.{Spelling, plain, oneWord, Made, made, Takes, Returns, Reads, refuse-takes, give-takes, give-returns, then-takes, last-takes, whole-takes, then-returns, last-returns, word-takes, word-returns}
 
 -- a word that keeps a rule
 pub where-reads : {Good : ℕ → Type 0} (n : ℕ) (rule : ℕ → Bool) → ((w : ℕ) → T (rule w) ↔ Good w) → Reads (wordWhere n rule) (oneWord Good)
@@ -33,28 +33,28 @@ where-reads {Good} n rule same = record {
     returning : (w : ℕ) (b : Bool) → T b → Returns (λ ws k. after (need n b ws k) (λ t. give w)) w [] 0
     returning w true t = give-returns w
 
--- c things, each of a format without draws
-abbrev pub many : {A : Type 0} → (A → List ℕ) → (A → Type 0) → ℕ → Format (List A)
-many spelling Good c = plain (each spelling) (λ xs. All Good xs × (length xs ≡ c))
+-- c things, each of a spelling without draws
+abbrev pub many : {A : Type 0} → (A → List ℕ) → (A → Type 0) → ℕ → Spelling (List A)
+many words Good c = plain (each words) (λ xs. All Good xs × (length xs ≡ c))
 
-pub times-reads : {A : Type 0} {m : Reader A} {spelling : A → List ℕ} {Good : A → Type 0} → Reads m (plain spelling Good) → (c : ℕ) → Reads (times c m) (many spelling Good c)
+pub times-reads : {A : Type 0} {m : Reader A} {words : A → List ℕ} {Good : A → Type 0} → Reads m (plain words Good) → (c : ℕ) → Reads (times c m) (many words Good c)
 unfolding times each All
-times-reads {A} {m} {spelling} {Good} x zero = record {
+times-reads {A} {m} {words} {Good} x zero = record {
   takes = give-takes [] (made (tt, refl));
   returns = λ xs g. returning xs (g .1);
 }
   where
-    returning : (xs : List A) → length xs ≡ 0 → Returns (give []) xs (each spelling xs) 0
+    returning : (xs : List A) → length xs ≡ 0 → Returns (give []) xs (each words xs) 0
     returning [] l = give-returns []
     returning (a ∷ xs) l = absurd (omega arith)
-times-reads {A} {m} {spelling} {Good} x (suc c) =
+times-reads {A} {m} {words} {Good} x (suc c) =
     let more = times-reads x c in
     record {
       takes = then-takes x (λ a g. last-takes (λ xs. a ∷ xs) more (λ xs h. made ((g, h .0), ap suc (h .1))));
       returns = λ xs g. returning more xs (g .0) (g .1);
     }
   where
-    returning : Reads (times c m) (many spelling Good c) → (xs : List A) → All Good xs → length xs ≡ suc c → Returns (times (suc c) m) xs (each spelling xs) 0
+    returning : Reads (times c m) (many words Good c) → (xs : List A) → All Good xs → length xs ≡ suc c → Returns (times (suc c) m) xs (each words xs) 0
     returning more [] g l = absurd (omega arith)
     returning more (a ∷ xs) g l = then-returns _ x a (g .0) (last-returns (λ xs. a ∷ xs) more xs (g .1, omega arith))
 
@@ -134,9 +134,9 @@ unfolding issuer FitIssuer
 issuer-reads n = tagged-reads isKey n (FitIssuer n) (λ a. iff-refl) (λ i. (ltb→lt i n, lt→ltb i n))
 
 -- a count, then so many things
-counted-reads : {A : Type 0} {m : Reader A} {spelling : A → List ℕ} {Good : A → Type 0} {number : Reader ℕ} {Count : ℕ → Type 0} (Fit : List A → Type 0) →
-    ((xs : List A) → (Count (length xs) × All Good xs) ↔ Fit xs) → Reads number (oneWord Count) → Reads m (plain spelling Good) →
-    Reads (λ ws k. after (number ws k) (λ c. times c m)) (plain (λ xs. length xs ∷ each spelling xs) Fit)
+counted-reads : {A : Type 0} {m : Reader A} {words : A → List ℕ} {Good : A → Type 0} {number : Reader ℕ} {Count : ℕ → Type 0} (Fit : List A → Type 0) →
+    ((xs : List A) → (Count (length xs) × All Good xs) ↔ Fit xs) → Reads number (oneWord Count) → Reads m (plain words Good) →
+    Reads (λ ws k. after (number ws k) (λ c. times c m)) (plain (λ xs. length xs ∷ each words xs) Fit)
 counted-reads {Count} Fit fits x y = record {
   takes = then-takes x (λ c g. whole-takes (times-reads y c) (λ xs h. record { spelled = rw (h .1); met = refl; good = fits xs .0 (rw (h .1) g, h .0) }));
   returns = λ xs g. let h = fits xs .1 g in then-returns _ x (length xs) (h .0) (times-reads y (length xs) .returns xs (h .1, refl));
@@ -166,7 +166,7 @@ pub record FitSlotsOf (c n : ℕ) (p : Pattern) : Type 0 where
   pub size : length (p .0) ≡ c
   pub scope : p .1 ≡ n + fresh (p .0)
 
-abbrev pub pattern : ℕ → ℕ → Format Pattern
+abbrev pub pattern : ℕ → ℕ → Spelling Pattern
 pattern c n = plain (λ p. slotWords n (p .0)) (FitSlotsOf c n)
 
 no-slots : (n : ℕ) → Reads (slots zero n) (pattern zero n)

@@ -1,5 +1,5 @@
 pub mod Basics
-pub mod Format
+pub mod Spelling
 pub mod Leaves
 pub mod LeafDecoding
 pub mod Decoding

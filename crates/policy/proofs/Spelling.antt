@@ -1,6 +1,6 @@
--- What a reader reads. A format says how a value is spelled, which draws are met on its words, and which values there are; a reader reads a
--- format if whatever it gets is of the format, and if it gets back each value of the format from its words. Each reader of the decoder
--- has one lemma, `X-reads`, made of the few below.
+-- What a reader reads. A spelling says how a value is written in words, which draws are met on them, and which values are written so; a reader
+-- reads a spelling if whatever it gets is one of these values, with the value's words taken, and if it gets back each of them from its words.
+-- Each reader of the decoder has one lemma, `X-reads`, made of the few below.
 use Prim.Native.Nat.{ℕ, _+_, _≤_}
 use mathlib.Core.Path.{_≡_, refl, ap}
 use mathlib.Core.List.{List, [], _∷_, _++_, append-assoc, append-nil}
@@ -9,26 +9,26 @@ use native.Mathlib.Omega.{arith}
 use Rattle.policy.specs.Decode.{Read, got, refused, Reader, after, give, refuse, word}
 use Rattle.policy.proofs.Basics.{impossible}
 
-pub record Format (A : Type 0) : Type 1 where
+pub record Spelling (A : Type 0) : Type 1 where
   pub words : A → List ℕ
   pub draws : A → ℕ
   pub Good : A → Type 0
 
--- a format without draws
-abbrev pub plain : {A : Type 0} → (A → List ℕ) → (A → Type 0) → Format A
-plain spelling rule = record { words = spelling; draws = λ a. 0; Good = rule }
+-- a spelling without draws
+abbrev pub plain : {A : Type 0} → (A → List ℕ) → (A → Type 0) → Spelling A
+plain words rule = record { words = words; draws = λ a. 0; Good = rule }
 
 -- one word
-abbrev pub oneWord : (ℕ → Type 0) → Format ℕ
+abbrev pub oneWord : (ℕ → Type 0) → Spelling ℕ
 oneWord rule = plain (λ w. w ∷ []) rule
 
--- a value of the format, its words and its draws
-pub record Made {A : Type 0} (F : Format A) (a : A) (u : List ℕ) (d : ℕ) : Type 0 where
-  pub spelled : u ≡ F .words a
-  pub met : d ≡ F .draws a
-  pub good : F .Good a
+-- a value that is spelled so, its words and its draws
+pub record Made {A : Type 0} (S : Spelling A) (a : A) (u : List ℕ) (d : ℕ) : Type 0 where
+  pub spelled : u ≡ S .words a
+  pub met : d ≡ S .draws a
+  pub good : S .Good a
 
-pub made : {A : Type 0} {F : Format A} {a : A} → F .Good a → Made F a (F .words a) (F .draws a)
+pub made : {A : Type 0} {S : Spelling A} {a : A} → S .Good a → Made S a (S .words a) (S .draws a)
 made g = record { spelled = refl; met = refl; good = g }
 
 -- words are taken off the front, draws are met, and there are no more than eight so far
@@ -48,9 +48,9 @@ pub record Takes {A : Type 0} (m : Reader A) (Q : A → List ℕ → ℕ → Typ
 pub record Returns {A : Type 0} (m : Reader A) (a : A) (u : List ℕ) (d : ℕ) : Type 0 where
   pub back : (rest : List ℕ) (k : ℕ) → k + d ≤ 8 → m (u ++ rest) k ≡ got a rest (k + d)
 
-pub record Reads {A : Type 0} (m : Reader A) (F : Format A) : Type 0 where
-  pub takes : Takes m (Made F)
-  pub returns : (a : A) → F .Good a → Returns m a (F .words a) (F .draws a)
+pub record Reads {A : Type 0} (m : Reader A) (S : Spelling A) : Type 0 where
+  pub takes : Takes m (Made S)
+  pub returns : (a : A) → S .Good a → Returns m a (S .words a) (S .draws a)
 
 pub refuse-takes : {A : Type 0} {Q : A → List ℕ → ℕ → Type 0} (n : ℕ) → Takes (refuse n) Q
 refuse-takes n = record { taken = λ ws k a rest j h e. impossible cc }
@@ -70,10 +70,10 @@ give-returns a = record { back = λ rest k h. let o : k ≡ k + 0 = omega arith 
 front-front : (ws u vs v rest : List ℕ) → ws ≡ u ++ vs → vs ≡ v ++ rest → ws ≡ u ++ v ++ rest
 front-front ws u vs v rest p q = rw (p, q, append-assoc)
 
-module _ {A B : Type 0} {m : Reader A} {F : Format A} where
+module _ {A B : Type 0} {m : Reader A} {S : Spelling A} where
   -- first m, then what depends on the value that it got
-  pub then-takes : {f : A → Reader B} {Q : B → List ℕ → ℕ → Type 0} → Reads m F →
-      ((a : A) → F .Good a → Takes (f a) (λ b v e. Q b (F .words a ++ v) (F .draws a + e))) → Takes (λ ws k. after (m ws k) f) Q
+  pub then-takes : {f : A → Reader B} {Q : B → List ℕ → ℕ → Type 0} → Reads m S →
+      ((a : A) → S .Good a → Takes (f a) (λ b v e. Q b (S .words a ++ v) (S .draws a + e))) → Takes (λ ws k. after (m ws k) f) Q
   then-takes {f} {Q} x g = record { taken = λ ws k b rest j h e. go ws k b rest j h (m ws k) refl e }
     where
       go : (ws : List ℕ) (k : ℕ) (b : B) (rest : List ℕ) (j : ℕ) → k ≤ 8 → (r : Read A) → m ws k ≡ r → after r f ≡ got b rest j → Taken Q ws k b rest j
@@ -82,9 +82,9 @@ module _ {A B : Type 0} {m : Reader A} {F : Format A} where
           let z = g a (y .so .good) .taken vs i b rest j (y .few) e in
           let d = y .so .met in
           record {
-            words = F .words a ++ z .words;
-            draws = F .draws a + z .draws;
-            front = front-front ws (F .words a) vs (z .words) rest (rw (y .so .spelled) at (y .front)) (z .front);
+            words = S .words a ++ z .words;
+            draws = S .draws a + z .draws;
+            front = front-front ws (S .words a) vs (z .words) rest (rw (y .so .spelled) at (y .front)) (z .front);
             count = omega arith;
             few = z .few;
             so = z .so;
@@ -92,31 +92,31 @@ module _ {A B : Type 0} {m : Reader A} {F : Format A} where
       go ws k b rest j h (refused n) p e = impossible cc
 
   -- m last, its value being part of what is given
-  pub last-takes : {Q : B → List ℕ → ℕ → Type 0} (c : A → B) → Reads m F → ((a : A) → F .Good a → Q (c a) (F .words a) (F .draws a)) →
+  pub last-takes : {Q : B → List ℕ → ℕ → Type 0} (c : A → B) → Reads m S → ((a : A) → S .Good a → Q (c a) (S .words a) (S .draws a)) →
       Takes (λ ws k. after (m ws k) (λ a. give (c a))) Q
   last-takes {Q} c x q = then-takes x (λ a g. give-takes (c a) (rw (append-nil, add-zero) (q a g)))
 
-  pub then-returns : {b : B} {v : List ℕ} {e : ℕ} (f : A → Reader B) → Reads m F → (a : A) → F .Good a → Returns (f a) b v e →
-      Returns (λ ws k. after (m ws k) f) b (F .words a ++ v) (F .draws a + e)
+  pub then-returns : {b : B} {v : List ℕ} {e : ℕ} (f : A → Reader B) → Reads m S → (a : A) → S .Good a → Returns (f a) b v e →
+      Returns (λ ws k. after (m ws k) f) b (S .words a ++ v) (S .draws a + e)
   then-returns {b} {v} {e} f x a g y = record {
     back = λ rest k h.
         let s = x .returns a g .back (v ++ rest) k (omega arith) in
-        let t = y .back rest (k + F .draws a) (omega arith) in
-        let o : k + F .draws a + e ≡ k + (F .draws a + e) = omega arith in
+        let t = y .back rest (k + S .draws a) (omega arith) in
+        let o : k + S .draws a + e ≡ k + (S .draws a + e) = omega arith in
         rw (append-assoc, s, t, o);
   }
 
-  pub last-returns : (c : A → B) → Reads m F → (a : A) → F .Good a → Returns (λ ws k. after (m ws k) (λ a. give (c a))) (c a) (F .words a) (F .draws a)
+  pub last-returns : (c : A → B) → Reads m S → (a : A) → S .Good a → Returns (λ ws k. after (m ws k) (λ a. give (c a))) (c a) (S .words a) (S .draws a)
   last-returns c x a g = record { back = λ rest k h. rw (x .returns a g .back rest k h) }
 
 -- m alone
-pub whole-takes : {A : Type 0} {m : Reader A} {F : Format A} {Q : A → List ℕ → ℕ → Type 0} → Reads m F → ((a : A) → F .Good a → Q a (F .words a) (F .draws a)) → Takes m Q
-whole-takes {F} {Q} x q = record {
+pub whole-takes : {A : Type 0} {m : Reader A} {S : Spelling A} {Q : A → List ℕ → ℕ → Type 0} → Reads m S → ((a : A) → S .Good a → Q a (S .words a) (S .draws a)) → Takes m Q
+whole-takes {S} {Q} x q = record {
   taken = λ ws k a rest j h e.
       let y = x .takes .taken ws k a rest j h e in
       record {
-        words = F .words a;
-        draws = F .draws a;
+        words = S .words a;
+        draws = S .draws a;
         front = rw (y .so .spelled) at (y .front);
         count = rw (y .so .met) at (y .count);
         few = y .few;
