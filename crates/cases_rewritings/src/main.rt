@@ -1,5 +1,5 @@
 // Rewrites the external policies of its input into areas full of another word, and prints what it found. Each line of `stdout` was checked by
-// hand against document 02, N2. How words are written is said in the crate `cases`. A line is one of these:
+// hand against document 02, N2 and N6. How words are written is said in the crate `cases`. A line is one of these:
 //
 //     NAME|POLICY|LENGTH           rewrites the policy into an area of so many words, and prints the output's length, and its words if they are few
 //     NAME|POLICY|LENGTH|WORDS     the same, and prints whether the output is these words

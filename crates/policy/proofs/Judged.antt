@@ -7,7 +7,8 @@ pub table : AllHold
 unfolding Judges again unions literal
 table = record {
   portal = (refl, refl, refl, refl, refl, refl, refl, refl, refl, refl, refl);
-  header = (refl, refl, refl, refl, refl, refl);
+  header = (refl, refl, refl, refl, refl);
+  formats = (refl, refl, refl, refl, refl, refl, refl, refl);
   entries = (refl, refl, refl, refl, refl, refl, refl, refl);
   queryLength = (refl, refl, refl, refl, refl);
   leftOver = (refl, refl, refl, refl);

@@ -14,6 +14,7 @@ use Rattle.rows.specs.Name.{isName, isPolarity}
 use Rattle.rows.proofs.Case.{T-true, true-T, T-and}
 use Rattle.policy.specs.Syntax.{Expr, leaf, union, difference, comprehension}
 use Rattle.policy.specs.Words.{each, exprWords}
+use Rattle.policy.specs.Format.{isFormat, formatOf}
 use Rattle.policy.specs.Table.{Entry, entryAt, Table, table, refused, named, soundEntry, pushEntry, entries, soundHeader, readTable}
 use Rattle.policy.specs.External.{moved, placed, entryFour, parts, policyWords}
 use Rattle.policy.proofs.SoundTable.{InTable, SoundTable}
@@ -114,12 +115,12 @@ unfolding policyWords
 policy-length format xs es l =
     omega (arith, length-append (each entryFour (placed (2 + 4 * length xs) xs es)) (parts es), cells-length (2 + 4 * length xs) xs es l)
 
-pub table-read : (policy : List ℕ) (xs : List Entry) (es : List Expr) → SoundTable policy xs → length xs ≡ length es → length (policyWords (getD policy 0 0) xs es) ≤ 8192 →
-    readTable (policyWords (getD policy 0 0) xs es) ≡ table (placed (2 + 4 * length xs) xs es)
+pub table-read : (policy : List ℕ) (xs : List Entry) (es : List Expr) → SoundTable policy xs → length xs ≡ length es → length (policyWords (formatOf policy) xs es) ≤ 8192 →
+    readTable (policyWords (formatOf policy) xs es) ≡ table (placed (2 + 4 * length xs) xs es)
 unfolding readTable soundHeader policyWords
 table-read policy xs es h l short =
     let few : length xs ≤ 16 = omega (arith, h .count, h .header .count) in
-    let format = getD policy 0 0 in
+    let format = formatOf policy in
     let size = policy-length format xs es l in
     let n = length (policyWords format xs es) in
     let header : T (soundHeader (policyWords format xs es)) =
@@ -127,7 +128,7 @@ table-read policy xs es h l short =
       le→leb 2 n (omega arith),
       T-and (leb n 8192) _ .1 (
         le→leb n 8192 short,
-        T-and (eqb format 1) _ .1 (
+        T-and (isFormat format) _ .1 (
           h .header .format,
           T-and (leb (length xs) 16) (leb (2 + 4 * length xs) n) .1 (le→leb (length xs) 16 few, le→leb (2 + 4 * length xs) n (omega arith)),
         ),

@@ -1,4 +1,4 @@
--- What an external policy is rewritten into is a policy that passes 1 to 7, its definitions being the vetted ones.
+-- What an external policy is rewritten into is a policy of its format that passes 1 to 7, its definitions being the vetted ones.
 use Prim.Native.Nat.{ℕ, suc, _+_, _*_, _<_, _≤_}
 use mathlib.Core.Path.{_≡_, refl, sym, _∙_, ap, subst}
 use mathlib.Core.Bool.{Bool, true, false, _&&_}
@@ -9,15 +9,16 @@ use lib.ListN.{length, getD, take, drop, List·getD-append}
 use lib.Seq.{drop-drop, take-append-seam, drop-append-seam}
 use borrow.Author.Tests.{eqb-true}
 use Rattle.rows.specs.Name.{plus, minus, polarityOf}
-use Rattle.rows.proofs.Case.{true-T, T-left, T-right}
+use Rattle.rows.proofs.Case.{Case, isTrue, isFalse, split, true-T, T-left, T-right}
 use Rattle.rows.proofs.Lists.{length-snoc}
 use Rattle.policy.specs.Syntax.{Expr}
 use Rattle.policy.specs.Words.{each, exprWords}
 use Rattle.policy.specs.Parse.{parse}
 use Rattle.policy.specs.Polarity.{Known, unknown, hasPolarity}
+use Rattle.policy.specs.Format.{formatOf}
 use Rattle.policy.specs.Table.{Entry, entryWords}
 use Rattle.policy.specs.Definitions.{knownOf, passed, checkPolicy}
-use Rattle.policy.specs.External.{externalExpr, listsKeys, allPlus, isExternal, vet, vetAll, vetLater, moved, placed, parts, policyWords, keysListed}
+use Rattle.policy.specs.External.{externalExpr, listsKeys, allPlus, isExternal, vet, vetAll, vetLater, moved, placed, parts, policyWords, keysListed, output}
 use Rattle.policy.proofs.Decoding.{parse-iff}
 use Rattle.policy.proofs.Judging.{AcceptedDefinition, Accepted, none, one, policy-accepted, accepted-passes}
 use Rattle.policy.proofs.Placing.{table-read, parts-at}
@@ -99,12 +100,21 @@ first-passes policy out (x ∷ xs) (e ∷ es) ls (one a rest) k t due h =
 
 -- "The resulting program .. satisfies our polarity discipline": it passes 1 to 7
 pub rewritten-passes : (policy : List ℕ) (xs : List Entry) (es : List Expr) (ls : List Known) → checkPolicy policy ≡ passed xs es ls → T (keysListed xs) → T (isExternal xs es) →
-    length (policyWords (getD policy 0 0) xs (vetLater es)) ≤ 8192 →
-    checkPolicy (policyWords (getD policy 0 0) xs (vetLater es)) ≡ passed (placed (2 + 4 * length xs) xs (vetLater es)) (vetLater es) ls
+    length (policyWords (formatOf policy) xs (vetLater es)) ≤ 8192 →
+    checkPolicy (policyWords (formatOf policy) xs (vetLater es)) ≡ passed (placed (2 + 4 * length xs) xs (vetLater es)) (vetLater es) ls
 rewritten-passes policy xs es ls h k t short =
     let a = policy-accepted policy xs es ls h in
     let l : length xs ≡ length (vetLater es) = accepted-lengths (a .definitions) ∙ sym (later-lengths es) in
     accepted-passes _ _ _ ls (record {
       listed = table-read policy xs (vetLater es) (table-sound policy xs (a .listed)) l short;
-      definitions = first-passes policy _ xs es ls (a .definitions) k t (2 + 4 * length xs) (parts-at (getD policy 0 0) xs (vetLater es) l);
+      definitions = first-passes policy _ xs es ls (a .definitions) k t (2 + 4 * length xs) (parts-at (formatOf policy) xs (vetLater es) l);
     })
+
+-- it is of the policy's format
+pub output-format : (policy : List ℕ) (xs : List Entry) (es : List Expr) → formatOf (output policy xs es) ≡ formatOf policy
+unfolding output policyWords
+output-format policy xs es = go (split (keysListed xs))
+  where
+    go : Case (keysListed xs) → formatOf (output policy xs es) ≡ formatOf policy
+    go (isTrue k) = rw (k, output)
+    go (isFalse k) = rw (k, output)

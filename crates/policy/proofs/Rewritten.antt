@@ -10,6 +10,7 @@ table = record {
   later = (refl, refl, refl, refl);
   elsewhere = (refl, refl, refl);
   withoutKeys = (refl, refl, refl, refl);
+  formats = (refl, refl, (refl, refl), refl, refl, refl, refl, refl, refl);
   minusElsewhere = (refl, refl, refl, refl, refl, refl);
   differences = (refl, refl, refl, refl, refl);
   absentGuards = (refl, refl, refl, refl);

@@ -5,16 +5,15 @@ use mathlib.Core.List.{List, [], _∷_, _++_}
 use native.Mathlib.Omega.{arith}
 use lib.Dec.{leb→le}
 use lib.ListN.{length, getD}
-use borrow.Author.Tests.{eqb-true}
 use Rattle.rows.specs.Word.{All, IsWord, Words}
 use Rattle.rows.specs.Name.{plus, minus}
-use Rattle.rows.proofs.Case.{true-T}
-use Rattle.rows.proofs.Lists.{all-left, all-right, all-both}
+use Rattle.rows.proofs.Lists.{all-at, all-left, all-right, all-both}
 use Rattle.policy.specs.Terms.{termWords, termRowWords}
 use Rattle.policy.specs.Leaf.{Leaf, finite, cofinite, definition, listed, vetted, leafWords}
 use Rattle.policy.specs.Syntax.{Expr, leaf, union, difference, comprehension, Body, head, draw, same, different, absent}
 use Rattle.policy.specs.Words.{slotWords, fresh, guardCount, each, exprWords, bodyWords}
 use Rattle.policy.specs.Polarity.{Known}
+use Rattle.policy.specs.Format.{formatOf}
 use Rattle.policy.specs.Table.{Entry, entryWords}
 use Rattle.policy.specs.Definitions.{passed, checkPolicy}
 use Rattle.policy.specs.External.{vetLeaf, eachLeaf, vet, vetBody, vetAll, vetLater, placed, entryFour, parts, policyWords}
@@ -103,14 +102,14 @@ cells-words due policy at was earlier (x ∷ xs) (e ∷ es) fine short =
     (omega arith, (omega arith, (omega arith, (omega arith, rest))))
 
 pub rewritten-words : (policy : List ℕ) (xs : List Entry) (es : List Expr) (ls : List Known) → checkPolicy policy ≡ passed xs es ls →
-    length (policyWords (getD policy 0 0) xs (vetLater es)) ≤ 8192 → Words policy → Words (policyWords (getD policy 0 0) xs (vetLater es))
+    length (policyWords (formatOf policy) xs (vetLater es)) ≤ 8192 → Words policy → Words (policyWords (formatOf policy) xs (vetLater es))
 unfolding All policyWords
 rewritten-words policy xs es ls h short w =
     let a = policy-accepted policy xs es ls h in
     let sound = table-sound policy xs (a .listed) in
     let few : length xs ≤ 16 = omega (arith, sound .count, sound .header .count) in
-    let format = eqb-true (getD policy 0 0) 1 (true-T _ (sound .header .format)) in
-    let size = policy-length (getD policy 0 0) xs (vetLater es) (accepted-lengths (a .definitions) ∙ sym (later-lengths es)) in
+    let format = all-at IsWord policy w 0 0 (omega (arith, sound .header .two)) in
+    let size = policy-length (formatOf policy) xs (vetLater es) (accepted-lengths (a .definitions) ∙ sym (later-lengths es)) in
     let cells = cells-words (2 + 4 * length xs) policy 2 (2 + 4 * getD policy 1 0) [] xs (vetLater es) (sound .entries) (omega arith) in
     let rest = parts-words (vetLater es) (vetted-words es (accepted-words policy w (a .definitions))) in
-    (omega arith, (omega arith, all-both IsWord (each entryFour (placed (2 + 4 * length xs) xs (vetLater es))) (parts (vetLater es)) cells rest))
+    (format, (omega arith, all-both IsWord (each entryFour (placed (2 + 4 * length xs) xs (vetLater es))) (parts (vetLater es)) cells rest))

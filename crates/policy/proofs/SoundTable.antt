@@ -9,13 +9,14 @@ use borrow.Author.Tests.{leb-true, eqb-true}
 use Rattle.refusals.specs.RefusalTable.{badHeader, badTable}
 use Rattle.rows.specs.Name.{isName, isPolarity}
 use Rattle.rows.proofs.Case.{Case, isTrue, isFalse, split, T-true, and-true}
+use Rattle.policy.specs.Format.{isFormat, formatOf}
 use Rattle.policy.specs.Table.{Entry, entryAt, Table, table, refused, named, soundEntry, pushEntry, entries, soundHeader, readTable}
 use Rattle.policy.proofs.Basics.{impossible}
 
 pub record Header (p : List ℕ) : Type 0 where
   pub two : 2 ≤ length p
   pub most : length p ≤ 8192
-  pub format : T (eqb (getD p 0 0) 1)
+  pub format : T (isFormat (formatOf p))
   pub count : getD p 1 0 ≤ 16
   pub fits : 2 + 4 * getD p 1 0 ≤ length p
 
@@ -24,7 +25,7 @@ unfolding soundHeader
 header-of p e =
     let a = and-true (leb 2 (length p)) _ e in
     let b = and-true (leb (length p) 8192) _ (a .1) in
-    let c = and-true (eqb (getD p 0 0) 1) _ (b .1) in
+    let c = and-true (isFormat (formatOf p)) _ (b .1) in
     let d = and-true (leb (getD p 1 0) 16) (leb (2 + 4 * getD p 1 0) (length p)) (c .1) in
     record {
       two = leb-true 2 (length p) (a .0);

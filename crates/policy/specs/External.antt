@@ -4,12 +4,13 @@ use Prim.Native.Nat.{ℕ, _+_, _*_}
 use mathlib.Core.Bool.{Bool, true, false, _&&_}
 use mathlib.Core.List.{List, [], _∷_, _++_}
 use lib.Dec.{leb, eqb}
-use lib.ListN.{length, getD, drop}
+use lib.ListN.{length, drop}
 use Rattle.refusals.specs.RefusalTable.{shortArea, notExternal, noPart}
 use Rattle.rows.specs.Name.{Polarity, plus, minus, samePolarity}
 use Rattle.policy.specs.Leaf.{Leaf, finite, cofinite, definition, listed, vetted}
 use Rattle.policy.specs.Syntax.{Expr, leaf, union, difference, comprehension, Body, head, draw, same, different, absent}
 use Rattle.policy.specs.Words.{each, exprWords}
+use Rattle.policy.specs.Format.{formatOf}
 use Rattle.policy.specs.Table.{Entry}
 use Rattle.policy.specs.Definitions.{passed, checkPolicy}
 use Rattle.policy.specs.Definitions as Definitions
@@ -133,10 +134,10 @@ unfoldable pub policyWords : ℕ → List Entry → List Expr → List ℕ
 unfolding each entryFour placed parts
 policyWords format xs es = format ∷ length xs ∷ (each entryFour (placed (2 + 4 * length xs) xs es) ++ parts es)
 
--- "Without a definition of name 0 −, the output equals the input."
+-- "Without a definition of name 0 −, the output equals the input." With one it keeps the input's format (N6), for its patterns are to match as before.
 unfoldable pub output : List ℕ → List Entry → List Expr → List ℕ
 unfolding keysListed policyWords vetLater
-output policy xs es = elim (keysListed xs) [ true ↦ policyWords (getD policy 0 0) xs (vetLater es) | false ↦ policy ]
+output policy xs es = elim (keysListed xs) [ true ↦ policyWords (formatOf policy) xs (vetLater es) | false ↦ policy ]
 
 -- ---- the refusals
 

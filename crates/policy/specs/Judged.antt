@@ -1,10 +1,11 @@
--- Policies and queries with the reply that they get: document 01's rules of refusals 1 to 7 and of verdicts by example.
+-- Policies and queries with the reply that they get: document 01's rules of refusals 1 to 7 and of verdicts by example, as document 02 changes them.
 use Prim.Native.Nat.{ℕ, _+_}
 use mathlib.Core.Path.{_≡_}
 use mathlib.Core.List.{List, [], _∷_, _++_}
-use lib.ListN.{length, replicate}
+use lib.ListN.{length, drop, replicate}
 use Rattle.refusals.specs.RefusalTable.{badHeader, badTable, badWord, notInScope, tooDeep, noPolarity, openDraw, queryPart, noPart}
 use Rattle.policy.specs.Polarity.{exact, lower, upper}
+use Rattle.policy.specs.Format.{widerRows}
 use Rattle.policy.specs.Judgement.{JudgementReply, verdict, refused, judge}
 use Rattle.policy.specs.Decoded.{again, unions}
 
@@ -26,6 +27,10 @@ Q = 3 ∷ 0 ∷ []
 -- the policy of the cases from f on
 abbrev pub noDefinitions : List ℕ
 noDefinitions = 1 ∷ 0 ∷ []
+
+-- a policy in another format: those written here are of format 1
+abbrev pub inFormat : ℕ → List ℕ → List ℕ
+inFormat format policy = format ∷ drop 1 policy
 
 -- name 10 with a polarity, and its expression
 abbrev pub one : ℕ → List ℕ → List ℕ
@@ -85,14 +90,23 @@ pub record AllHold : Type 0 where
       × Judges noDefinitions (7 ∷ 2 ∷ 1 ∷ 1 ∷ 1 ∷ 1 ∷ 0 ∷ 5 ∷ 1 ∷ 2 ∷ 0 ∷ 1 ∷ 4 ∷ 1 ∷ 0 ∷ 1 ∷ 0 ∷ 1 ∷ 2 ∷ 1 ∷ 1 ∷ 1 ∷ 1 ∷ []) (verdict lower)  -- l
       × Judges noDefinitions (unions 14 (1 ∷ 0 ∷ [])) (verdict exact)
       × Judges noDefinitions (unions 15 (1 ∷ 0 ∷ [])) (refused tooDeep queryPart)
-  -- 1: under 2 or over 8,192 words, format, n, table cut short
+  -- 1: under 2 or over 8,192 words, n, table cut short
   pub header :
       Judges [] Q (refused badHeader noPart)
       × Judges (1 ∷ []) Q (refused badHeader noPart)
-      × Judges (2 ∷ 0 ∷ []) Q (refused badHeader noPart)
       × Judges (1 ∷ 17 ∷ replicate 100 0) Q (refused badHeader noPart)
       × Judges (1 ∷ 1 ∷ 10 ∷ 0 ∷ 6 ∷ []) Q (refused badHeader noPart)
       × Judges (1 ∷ 0 ∷ replicate 8191 0) Q (refused badHeader noPart)
+  -- 1: the format; document 02, N6: "Refusal 1 now lets formats 1 and 2 pass." All else is judged alike.
+  pub formats :
+      Judges (inFormat 0 noDefinitions) seven (refused badHeader noPart)
+      × Judges (inFormat 3 noDefinitions) seven (refused badHeader noPart)
+      × Judges (inFormat 0 P) Q (refused badHeader noPart)
+      × Judges (inFormat 3 P) Q (refused badHeader noPart)
+      × Judges (inFormat widerRows noDefinitions) seven (verdict exact)
+      × Judges (inFormat widerRows P) Q (verdict lower)
+      × Judges (inFormat widerRows (one 0 allowed)) Q (refused noPolarity 0)
+      × Judges (inFormat widerRows noDefinitions) (drawAll allowed) (refused openDraw queryPart)
   -- 2: the parts don't end with the policy; name, polarity, offset, length; a name and polarity given twice
   pub entries :
       Judges (1 ∷ 0 ∷ replicate 8190 0) Q (refused badTable noPart)

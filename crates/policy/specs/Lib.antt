@@ -9,6 +9,7 @@ pub mod Parse
 pub mod Parsing
 pub mod Decoded
 pub mod Polarity
+pub mod Format
 pub mod Table
 pub mod Definitions
 pub mod Checking

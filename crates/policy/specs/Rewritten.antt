@@ -1,11 +1,12 @@
--- External policies with what they are rewritten into, or the refusal: document 02's N2 by example.
+-- External policies with what they are rewritten into, or the refusal: document 02's N2 by example, with the formats of N6.
 use Prim.Native.Nat.{ℕ, _+_}
 use mathlib.Core.Path.{_≡_}
 use mathlib.Core.List.{List, [], _∷_, _++_}
 use lib.ListN.{length, replicate}
 use Rattle.refusals.specs.RefusalTable.{badHeader, badTable, badWord, noPolarity, openDraw, shortArea, notExternal, noPart}
+use Rattle.policy.specs.Format.{widerRows}
 use Rattle.policy.specs.Decoded.{again}
-use Rattle.policy.specs.Judged.{k1, P, noDefinitions, one, two, twoOf, released, allowed, seven, notSeven, vetted, absent7, drawAll, literal}
+use Rattle.policy.specs.Judged.{k1, P, noDefinitions, inFormat, one, two, twoOf, released, allowed, seven, notSeven, vetted, absent7, drawAll, literal}
 use Rattle.policy.specs.External.{Rewriting, rewritten, refused, rewrite, rewriteInto, areaAfter}
 
 unfoldable pub Rewrites : List ℕ → Rewriting → Type 0
@@ -83,6 +84,17 @@ pub record AllHold : Type 0 where
       × Stays (one 0 released)
       × Stays (two byVariable (3 ∷ 0 ∷ []))
       × Stays (1 ∷ 2 ∷ 0 ∷ 0 ∷ 10 ∷ 5 ∷ 10 ∷ 0 ∷ 15 ∷ 5 ∷ 4 ∷ 0 ∷ k1 ∷ 0 ∷ 0 ∷ 4 ∷ 0 ∷ k2 ∷ 1 ∷ 0 ∷ [])
+  -- a policy of format 2 stays one, with a definition of name 0 − or without; 3 is no format
+  pub formats :
+      Rewrites (inFormat widerRows delegating) (rewritten (inFormat widerRows delegatingOut))
+      × Rewrites (inFormat widerRows (keysThen delegated 0 byVariable)) (rewritten (inFormat widerRows (keysThen delegated 0 byVariableOut)))
+      × RewritesInto (inFormat widerRows delegating) (replicate 21 9) (rewritten (inFormat widerRows delegatingOut)) (inFormat widerRows delegatingOut)
+      × Stays (inFormat widerRows (1 ∷ 1 ∷ 0 ∷ 1 ∷ 6 ∷ 5 ∷ delegated))
+      × Stays (inFormat widerRows noDefinitions)
+      × Stays (inFormat widerRows (two byVariable (3 ∷ 0 ∷ [])))
+      × Rewrites (inFormat widerRows P) (refused notExternal noPart)
+      × Rewrites (inFormat 3 delegating) (refused badHeader noPart)
+      × Rewrites (inFormat 3 noDefinitions) (refused badHeader noPart)
   -- "definition 0 may be the negative name 0"; "every other one is +"
   pub minusElsewhere :
       Rewrites (one 1 allowed) (refused notExternal noPart)

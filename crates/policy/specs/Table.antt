@@ -1,4 +1,4 @@
--- Document 01, "Policy words": the policy's table, with refusals 1 and 2.
+-- Document 01, "Policy words": the policy's table, with refusals 1 and 2; its format by document 02, N6.
 use Prim.Native.Nat.{ℕ, zero, suc, _+_, _*_}
 use mathlib.Core.Bool.{Bool, true, false, not, _&&_, _||_}
 use mathlib.Core.List.{List, [], _∷_}
@@ -6,6 +6,7 @@ use lib.Dec.{leb, eqb}
 use lib.ListN.{length, getD, take, drop}
 use Rattle.refusals.specs.RefusalTable.{badHeader, badTable}
 use Rattle.rows.specs.Name.{isName, isPolarity}
+use Rattle.policy.specs.Format.{isFormat, formatOf}
 
 -- "four words each: name, polarity, offset, length"
 pub record Entry : Type 0 where
@@ -48,10 +49,12 @@ entries (suc n) policy at due earlier =
     let x = entryAt policy at in
     elim (soundEntry policy due earlier x) [ true ↦ pushEntry x (entries n policy (at + 4) (x .offset + x .size) (x ∷ earlier)) | false ↦ refused badTable ]
 
--- "Word 0 is 1 (the format), word 1 is n, the count of definitions, 0 to 16." "The first offset is 2 + 4n." "At most 8,192 words."
+-- Document 01: "Word 0 is 1 (the format), word 1 is n, the count of definitions, 0 to 16." "The first offset is 2 + 4n." "At most 8,192 words."
+-- Document 02, N6: "Refusal 1 now lets formats 1 and 2 pass."
 unfoldable pub soundHeader : List ℕ → Bool
+unfolding isFormat
 soundHeader policy =
-    leb 2 (length policy) && (leb (length policy) 8192 && (eqb (getD policy 0 0) 1 && (leb (getD policy 1 0) 16 && leb (2 + 4 * getD policy 1 0) (length policy))))
+    leb 2 (length policy) && (leb (length policy) 8192 && (isFormat (formatOf policy) && (leb (getD policy 1 0) 16 && leb (2 + 4 * getD policy 1 0) (length policy))))
 
 unfoldable pub readTable : List ℕ → Table
 unfolding soundHeader entries

@@ -3,6 +3,11 @@
 ghost use mathlib.Core.Path.{_≡_};
 ghost use Rattle.policy.specs.Decode.{isNode};
 
+// A policy's word 0: patterns match rows of their own width, or by the first atoms of rows of at least their width.
+pub const EQUAL_WIDTHS: u32 = 1;
+
+pub const WIDER_ROWS: u32 = 2;
+
 // The codes of expressions. 1 to 4 and 8 are those of the leaves, which hold no other expression.
 pub const CODE_FINITE: u32 = 1;
 

@@ -15,6 +15,7 @@ use Rattle.policy.specs.Syntax.{Expr}
 use Rattle.policy.specs.Words.{each, exprWords}
 use Rattle.policy.specs.Parse.{parsed, parse}
 use Rattle.policy.specs.Polarity.{Known}
+use Rattle.policy.specs.Format.{formatOf}
 use Rattle.policy.specs.Table.{Entry, entryAt, entryWords}
 use Rattle.policy.specs.Definitions.{knownOf, passed, checkPolicy}
 use Rattle.policy.specs.External.{externalExpr, listsKeys, keysListed, allPlus, isExternal, vetAll, vetLater, moved, placed, entryFour, parts, policyWords, output}
@@ -27,12 +28,12 @@ use Rattle.policy.proofs.Decoding.{parse-words}
 use Rattle.policy_table.specs.Entries.{entryPlace}
 use Rattle.policy_rewriting.specs.Laid.{laid}
 use Rattle.policy_rewriting.specs.Walks.{vets, outLeaf, out, Answered, Walked, Roomy}
-use Rattle.policy_rewriting.specs.Output.{Passing, SayKeys, mayBe, sign, AskDefinition, WalkedDefinition, MeasuredAs, SayWords}
+use Rattle.policy_rewriting.specs.Output.{Passing, SayKeys, mayBe, sign, AskDefinition, WalkedDefinition, headerOf, MeasuredAs, SayWords}
 use Rattle.policy_rewriting.specs.declared.vetting.Vetted.{Vetted}
 use Rattle.policy_rewriting.specs.declared.vetting.Vetted.the-variants as vetted
 use Rattle.policy_rewriting.specs.declared.Measured.the-variants.{Words, Broken}
 use Rattle.policy_rewriting.proofs.Laid.{laid-none, laid-length, laid-append, laid-apart}
-use Rattle.policy_rewriting.proofs.Entries.{word-first, two-words}
+use Rattle.policy_rewriting.proofs.Entries.{word-first}
 use Rattle.policy_rewriting.proofs.Walks.{answer-told}
 
 -- ---- the rules and the output, definition by definition
@@ -170,7 +171,7 @@ module _ (p : List ℕ) where
       ∙ ap (λ (ws : List ℕ). ws ++ drop (x .size) (drop (x .offset) p)) (entry-spelled p (h .1) a)
       ∙ ap (λ (ws : List ℕ). exprWords e 0 ++ ws) (drop-drop (x .size) (x .offset) p ∙ parts-same (at + 4) (x .offset + x .size) (x ∷ earlier) (h .2) rest)
 
-  policy-same : (xs : List Entry) (es : List Expr) (ks : List Known) → checkPolicy p ≡ passed xs es ks → policyWords (getD p 0 0) xs es ≡ p
+  policy-same : (xs : List Entry) (es : List Expr) (ks : List Known) → checkPolicy p ≡ passed xs es ks → policyWords (formatOf p) xs es ≡ p
   unfolding policyWords
   policy-same xs es ks h =
       let a = policy-accepted p xs es ks h in
@@ -184,22 +185,22 @@ module _ (p : List ℕ) where
       ∙ ap (λ (ws : List ℕ). each entryFour xs ++ ws) (parts-same 2 (2 + 4 * getD p 1 0) [] here (a .definitions)) in
       let places : placed (2 + 4 * length xs) xs es ≡ xs = ap (λ (n : ℕ). placed n xs es) due ∙ placed-same 2 (2 + 4 * getD p 1 0) [] here (a .definitions) in
       let two = t .header .two in
-      ap (λ (ys : List Entry). getD p 0 0 ∷ length xs ∷ (each entryFour ys ++ parts es)) places ∙ ap (λ (n : ℕ). getD p 0 0 ∷ n ∷ (each entryFour xs ++ parts es)) count
-      ∙ ap (λ (ws : List ℕ). getD p 0 0 ∷ getD p 1 0 ∷ ws) (sym table)
-      ∙ ap (λ (ws : List ℕ). getD p 0 0 ∷ ws) (sym (drop-cons p 1 0 (omega arith))) ∙ sym (drop-cons p 0 0 (omega arith))
+      ap (λ (ys : List Entry). formatOf p ∷ length xs ∷ (each entryFour ys ++ parts es)) places ∙ ap (λ (n : ℕ). formatOf p ∷ n ∷ (each entryFour xs ++ parts es)) count
+      ∙ ap (λ (ws : List ℕ). formatOf p ∷ getD p 1 0 ∷ ws) (sym table)
+      ∙ ap (λ (ws : List ℕ). formatOf p ∷ ws) (sym (drop-cons p 1 0 (omega arith))) ∙ sym (drop-cons p 0 0 (omega arith))
 
 -- what is laid for an external policy is its output
 output-is : (policy : List ℕ) (keys : Bool) (xs : List Entry) (es : List Expr) (ks : List Known) → checkPolicy policy ≡ passed xs es ks → keys ≡ keysListed xs → isExternal xs es ≡ true →
-    policyWords (getD policy 0 0) xs (outs keys xs es) ≡ output policy xs es
+    policyWords (formatOf policy) xs (outs keys xs es) ≡ output policy xs es
 unfolding output
 output-is policy keys xs es ks h k ext = go keys k
   where
     lengths : length xs ≡ length es
     lengths = accepted-lengths (policy-accepted policy xs es ks h .definitions)
 
-    go : (b : Bool) → b ≡ keysListed xs → policyWords (getD policy 0 0) xs (outs b xs es) ≡ (elim (keysListed xs) as (λ c. List ℕ) [ true ↦ policyWords (getD policy 0 0) xs (vetLater es) | false ↦ policy ])
-    go true b = rw (← b) (ap (policyWords (getD policy 0 0) xs) (keys-outs xs es lengths (sym b) ext))
-    go false b = rw (← b) (ap (policyWords (getD policy 0 0) xs) (plain-outs xs es lengths) ∙ policy-same policy xs es ks h)
+    go : (b : Bool) → b ≡ keysListed xs → policyWords (formatOf policy) xs (outs b xs es) ≡ (elim (keysListed xs) as (λ c. List ℕ) [ true ↦ policyWords (formatOf policy) xs (vetLater es) | false ↦ policy ])
+    go true b = rw (← b) (ap (policyWords (formatOf policy) xs) (keys-outs xs es lengths (sym b) ext))
+    go false b = rw (← b) (ap (policyWords (formatOf policy) xs) (plain-outs xs es lengths) ∙ policy-same policy xs es ks h)
 
 -- ---- definition by definition
 
@@ -256,7 +257,7 @@ pub record OutputLeft (policy before : List ℕ) (keys : Bool) (i to : ℕ) (are
   pub room : to ≤ 2 * due
   pub rules : isExternal allEntries allExprs ≡ rulesFrom keys i entries exprs
   pub size : length area ≡ length before
-  pub goes : Goes keys (entryPlace i) to area (AllBut (take 2 (drop 0 policy)) (policyWords (getD policy 0 0) allEntries (outs keys allEntries allExprs)) before) entries exprs
+  pub goes : Goes keys (entryPlace i) to area (AllBut (headerOf policy) (policyWords (formatOf policy) allEntries (outs keys allEntries allExprs)) before) entries exprs
 
 -- the header goes before the entries and the parts
 whole-laid : (f : ℕ) (xs : List Entry) (os : List Expr) (before : List ℕ) → length xs ≡ length os → (end : ℕ) (after : List ℕ) → end ≡ 2 + 4 * length xs + length (parts os) →
@@ -286,7 +287,7 @@ module _ (policy before : List ℕ) {keys : Bool} (k : SayKeys policy keys) (g :
       let os = outs keys xs es in
       let count = t .count in
       let start : to ≡ 2 + 4 * length xs = omega arith in
-      let header : take 2 (drop 0 policy) ≡ getD policy 0 0 ∷ length xs ∷ [] = two-words policy 0 (t .header .two) ∙ ap (λ (n : ℕ). getD policy 0 0 ∷ n ∷ []) (sym count) in
+      let header : headerOf policy ≡ formatOf policy ∷ length xs ∷ [] = ap (λ (n : ℕ). formatOf policy ∷ n ∷ []) (sym count) in
       record {
         allEntries = xs;
         allExprs = es;
@@ -307,7 +308,7 @@ module _ (policy before : List ℕ) {keys : Bool} (k : SayKeys policy keys) (g :
         rules = rules-external keys xs es keysAre;
         size = refl;
         goes = λ end after h w.
-            let all = whole-laid (getD policy 0 0) xs os before (outs-length keys xs es (accepted-lengths (a .definitions))) end after (h ∙ ap (λ (n : ℕ). n + length (parts os)) start)
+            let all = whole-laid (formatOf policy) xs os before (outs-length keys xs es (accepted-lengths (a .definitions))) end after (h ∙ ap (λ (n : ℕ). n + length (parts os)) start)
             (w ∙ ap (λ (n : ℕ). laid n (parts os) (laid 2 (each entryFour (placed n xs os)) before)) start) in
             (all .0, ap (λ (ws : List ℕ). laid 0 ws after) header ∙ all .1);
       }
@@ -423,7 +424,7 @@ module _ {policy before : List ℕ} {keys : Bool} {i to : ℕ} {area : List ℕ}
             let one : i + 1 ≡ suc i = omega arith in
             let place : entryPlace i + 4 ≡ entryPlace (i + 1) = omega arith in
             let left : length (o .entries) ≡ suc (length (n .xs)) = ap length (n .entriesAre) in
-            let All = AllBut (take 2 (drop 0 policy)) (policyWords (getD policy 0 0) (o .allEntries) (outs keys (o .allEntries) (o .allExprs))) before in
+            let All = AllBut (headerOf policy) (policyWords (formatOf policy) (o .allEntries) (outs keys (o .allEntries) (o .allExprs))) before in
             let moving : after ≡ laid (entryPlace i) (entryFour (moved x to (length ws))) mid =
             l ∙ ap (λ (y : Entry). laid (entryPlace i) (entryFour (moved y to (end - to))) mid) (sym (n .is))
             ∙ ap (λ (k : ℕ). laid (entryPlace i) (entryFour (moved x to k)) mid) (let k : end - to ≡ length ws = omega arith in k) in
@@ -454,13 +455,13 @@ module _ {policy before : List ℕ} {keys : Bool} {i to : ℕ} {area : List ℕ}
             }
 
   -- after the last
-  pub all-laid : {after : List ℕ} → getD policy 1 0 ≤ i → after ≡ laid 0 (take 2 (drop 0 policy)) area → SayWords policy before (Words to) after
+  pub all-laid : {after : List ℕ} → getD policy 1 0 ≤ i → after ≡ laid 0 (headerOf policy) area → SayWords policy before (Words to) after
   unfolding MeasuredAs rulesFrom outs parts each placed
   all-laid {after} done l =
       let none : o .entries ≡ [] = no-elements (o .entries) (omega (arith, o .count)) in
       let external : isExternal (o .allEntries) (o .allExprs) ≡ true = o .rules ∙ ap (λ (ys : List Entry). rulesFrom keys i ys (o .exprs)) none in
-      let whole = policyWords (getD policy 0 0) (o .allEntries) (outs keys (o .allEntries) (o .allExprs)) in
-      let All = AllBut (take 2 (drop 0 policy)) whole before in
+      let whole = policyWords (formatOf policy) (o .allEntries) (outs keys (o .allEntries) (o .allExprs)) in
+      let All = AllBut (headerOf policy) whole before in
       let g = subst (λ (ys : List Entry). Goes keys (entryPlace i) to area All ys (o .exprs)) none (o .goes) to area (omega arith) (sym (laid-none to _ ∙ laid-none (entryPlace i) area)) in
       let same = output-is policy keys (o .allEntries) (o .allExprs) (o .allKnown) (o .passes) (o .keysAre) external in
       record {

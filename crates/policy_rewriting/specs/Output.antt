@@ -2,13 +2,14 @@
 use Prim.Native.Nat.{ℕ, zero, suc, _+_, _≤_}
 use mathlib.Core.Path.{_≡_}
 use mathlib.Core.Bool.{Bool, true, false, _&&_}
-use mathlib.Core.List.{List}
-use lib.ListN.{length}
+use mathlib.Core.List.{List, [], _∷_}
+use lib.ListN.{length, getD}
 use Rattle.rows.specs.Name.{Polarity, plus, minus, polarityOf}
 use Rattle.policy.specs.Syntax.{Expr}
 use Rattle.policy.specs.Words.{exprWords}
 use Rattle.policy.specs.Parse.{parsed, parse}
 use Rattle.policy.specs.Polarity.{Known}
+use Rattle.policy.specs.Format.{formatOf}
 use Rattle.policy.specs.Table.{Entry, entryAt, entryWords}
 use Rattle.policy.specs.Definitions.{passed, checkPolicy}
 use Rattle.policy.specs.External.{externalExpr, keysListed, isExternal, output, Rewriting, rewritten, refused}
@@ -55,6 +56,10 @@ pub record WalkedDefinition (keys : Bool) (policy : List ℕ) (i to : ℕ) (befo
   pub walked : (m : ℕ) (e : Expr) → parse m (entryWords policy (entryAt policy (entryPlace i))) ≡ parsed e →
       let p = sign (entryAt policy (entryPlace i)) in
       Walked (mayBe keys i p && externalExpr p e) 0 (length (exprWords e 0)) to (exprWords (out keys p e) 0) before r after
+
+-- a policy's first two words, which its output keeps: the format, and the count of definitions
+abbrev pub headerOf : List ℕ → List ℕ
+headerOf policy = formatOf policy ∷ getD policy 1 0 ∷ []
 
 -- the output's length, the output being laid from the first word on; or the policy is not external
 unfoldable pub MeasuredAs : Bool → List ℕ → List ℕ → Measured → List ℕ → Type 0

@@ -11,7 +11,7 @@ ghost use Rattle.policy.specs.External.{moved, entryFour, rewriteInto, areaAfte
 ghost use Rattle.policy_table.specs.Entries.{entryPlace};
 ghost use Rattle.policy_rewriting.specs.Laid.{laid};
 ghost use Rattle.policy_rewriting.specs.Walks.{signOf};
-ghost use Rattle.policy_rewriting.specs.Output.{Passing, SayKeys, mayBe, AskDefinition, WalkedDefinition, SayWords, rewrittenFor};
+ghost use Rattle.policy_rewriting.specs.Output.{Passing, SayKeys, mayBe, AskDefinition, WalkedDefinition, headerOf, SayWords, rewrittenFor};
 use judging::PolicyJudgement;
 use judging::judge_policy;
 use laying::lay;
@@ -83,6 +83,17 @@ fn lay_entry(policy: &[u32], i: usize, area: &mut [u32], to: usize, end: usize)
     lay(area, offset + 1, (end - to) as u32);
 }
 
+// The output's first two words: it keeps the policy's format, and has as many definitions.
+fn lay_header(policy: &[u32], area: &mut [u32])
+    requires { ⌜ 2 ≤ length (now policy) ⌝ }
+    ensures { λ _. ⌜ now (area .exit) ≡ laid 0 (headerOf (now (policy .entry))) (now (area .entry)) ⌝ }
+{
+    let format = policy[0];
+    let count = policy[1];
+    lay(area, 0, format);
+    lay(area, 1, count);
+}
+
 // The output, as far as the area goes.
 fn lay_output(policy: &[u32], keys: bool, area: &mut [u32]) -> Measured
     requires { ⌜ Passing (now policy) × SayKeys (now policy) keys ⌝ }
@@ -99,7 +110,7 @@ fn lay_output(policy: &[u32], keys: bool, area: &mut [u32]) -> Measured
         to = end;
         i += 1;
     }
-    lay_words(policy, 0, 2, area, 0);
+    lay_header(policy, area);
     Measured::Words(to)
 }
 

@@ -8,6 +8,7 @@ use lib.Dec.{leb, eqb}
 use lib.ListN.{length, getD, take, drop}
 use borrow.Author.Tests.{le-leb, lt-leb, eq-eqb, ne-eqb}
 use Rattle.refusals.specs.RefusalTable.{badHeader, badTable}
+use Rattle.policy.specs.Format.{isFormat, formatOf}
 use Rattle.policy.specs.Table.{Entry, entryAt, entryWords, Table, table, refused, named, soundEntry, pushEntry, entries, soundHeader, readTable}
 use Rattle.policy.proofs.SoundTable.{header-of, sound-of}
 use Rattle.policy_table.specs.Entries.{entryPlace, entriesFrom, entriesBefore, tableIs}
@@ -25,18 +26,18 @@ module _ (p : List ℕ) where
     long-header-unsound h = rw (le-leb 2 (length p) two, lt-leb (length p) 8192 h)
 
     module _ (few : length p ≤ 8192) where
-      pub other-format-unsound : (getD p 0 0 ≡ 1 → ⊥) → false ≡ soundHeader p
+      pub other-format-unsound : isFormat (formatOf p) ≡ false → false ≡ soundHeader p
       unfolding soundHeader
-      other-format-unsound h = rw (le-leb 2 (length p) two, le-leb (length p) 8192 few, ne-eqb (getD p 0 0) 1 h)
+      other-format-unsound h = rw (le-leb 2 (length p) two, le-leb (length p) 8192 few, h)
 
-      module _ (one : getD p 0 0 ≡ 1) where
+      module _ (format : isFormat (formatOf p) ≡ true) where
         pub many-definitions-unsound : 16 < getD p 1 0 → false ≡ soundHeader p
         unfolding soundHeader
-        many-definitions-unsound h = rw (le-leb 2 (length p) two, le-leb (length p) 8192 few, eq-eqb (getD p 0 0) 1 one, lt-leb (getD p 1 0) 16 h)
+        many-definitions-unsound h = rw (le-leb 2 (length p) two, le-leb (length p) 8192 few, format, lt-leb (getD p 1 0) 16 h)
 
         pub header-sound-if-table-fits : {at : ℕ} → getD p 1 0 ≤ 16 → at ≡ entryPlace (getD p 1 0) → leb at (length p) ≡ soundHeader p
         unfolding soundHeader
-        header-sound-if-table-fits h e = rw (le-leb 2 (length p) two, le-leb (length p) 8192 few, eq-eqb (getD p 0 0) 1 one, le-leb (getD p 1 0) 16 h) (ap (λ a. leb a (length p)) e)
+        header-sound-if-table-fits h e = rw (le-leb 2 (length p) two, le-leb (length p) 8192 few, format, le-leb (getD p 1 0) 16 h) (ap (λ a. leb a (length p)) e)
 
 -- an entry among those before it, the last of which is entry j - 1
 module _ (p : List ℕ) (i j : ℕ) (some : 0 < j) {at other : ℕ} (a : at ≡ entryPlace i) (o : other ≡ entryPlace (j - 1)) where

@@ -4,12 +4,13 @@ pub mod parts;
 ghost use Prim.Native.Nat.{_+_, _*_, _≤_};
 ghost use mathlib.Core.Path.{_≡_};
 ghost use lib.ListN.{length};
+ghost use Rattle.policy.specs.Format.{isFormat};
 ghost use Rattle.policy.specs.Table.{entryAt, entryWords, named, soundEntry, soundHeader, readTable};
 ghost use Rattle.policy_table.specs.Entries.{entryPlace, entriesBefore, tableIs};
+use policy::EQUAL_WIDTHS;
+use policy::WIDER_ROWS;
 use row_words::wide;
 use rows::LAST_NAME;
-
-const FORMAT: u32 = 1;
 
 pub const MOST_WORDS: usize = 8192;
 
@@ -29,6 +30,13 @@ pub fn entry_place(i: usize) -> usize
     2 + 4 * i
 }
 
+// May a policy's word 0 be this?
+fn is_format(word: u32) -> bool
+    ensures { λ r. ⌜ r ≡ isFormat word ⌝ }
+{
+    word == EQUAL_WIDTHS || word == WIDER_ROWS
+}
+
 fn sound_header(policy: &[u32]) -> bool
     ensures { λ r. ⌜ r ≡ soundHeader (now (policy .entry)) ⌝ }
 {
@@ -38,7 +46,7 @@ fn sound_header(policy: &[u32]) -> bool
     if MOST_WORDS < policy.len() {
         return false;
     }
-    if policy[0] != FORMAT {
+    if !is_format(policy[0]) {
         return false;
     }
     if MOST_DEFINITIONS < policy[1] {

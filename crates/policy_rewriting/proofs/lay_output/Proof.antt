@@ -71,17 +71,15 @@ loop-again c =
     let inv = again w .before .loop .inv in
     (inv .0, next-laid (inv .1) (listed (again w)) (w .vet-definition .ensures) (next .next .given .1) (entry .lay-entry .ensures))
 
-lay-words-requires : tie.Need-lay-words-requires Inv-loop μ-loop
-lay-words-requires c κs =
-    let two = table-of (start (c .before .before .before .before) .pre .0) .header .two in
-    (omega arith, omega arith, omega arith)
+lay-header-requires : tie.Need-lay-header-requires Inv-loop μ-loop
+lay-header-requires c κs = table-of (start (c .before .before .before .before) .pre .0) .header .two
 
 returns-2 : tie.Need-returns-2 Inv-loop μ-loop
 returns-2 c =
     let header = c .before .before in
     let end = header .before .before in
     let inv = end .before .loop .inv in
-    all-laid (inv .1) (omega (arith, end .loop-test .left, inv .0)) (header .lay-words .ensures .1)
+    all-laid (inv .1) (omega (arith, end .loop-test .left, inv .0)) (header .lay-header .ensures)
 
 pub lay-output-spec : {M : Type 1} → statement M
 lay-output-spec =
@@ -102,6 +100,6 @@ lay-output-spec =
     (λ c. search needs)
     (λ c. search needs)
     loop-again
-    lay-words-requires
+    lay-header-requires
     (λ c. search needs)
     returns-2)
