@@ -1,6 +1,6 @@
 -- The portal cases hold, by computation.
 use mathlib.Core.Path.{refl}
-use Rattle.demands.specs.Cases.{Holds, cases, AllHold, terms, TermsHold, links, LinksHold}
+use Rattle.demands.specs.Cases.{Holds, cases, AllHold, terms, TermsHold, links, LinksHold, formats, FormatsHold}
 use Rattle.rows.specs.Word.{All}
 use Rattle.certificates.specs.Stores.{storesAt}
 use Rattle.demands.specs.Query.{queryCall}
@@ -16,3 +16,7 @@ terms-hold = (refl, (refl, (refl, (refl, (refl, (refl, (refl, (refl, tt))))))))
 pub links-hold : LinksHold
 unfolding Holds links All storesAt queryCall
 links-hold = (refl, (refl, (refl, (refl, (refl, (refl, (refl, (refl, (refl, (refl, (refl, (refl, (refl, (refl, (refl, (refl, (refl, (refl, tt))))))))))))))))))
+
+pub formats-hold : FormatsHold
+unfolding Holds formats All storesAt queryCall
+formats-hold = (refl, (refl, (refl, (refl, (refl, (refl, (refl, (refl, (refl, (refl, (refl, (refl, (refl, (refl, (refl, (refl, (refl, (refl, (refl, (refl, (refl, (refl, (refl, (refl, (refl, (refl, (refl, (refl, tt))))))))))))))))))))))))))))

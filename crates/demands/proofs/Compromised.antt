@@ -1,4 +1,4 @@
--- A row that compromised keys alone would bring in is in no lower answer.
+-- A row that compromised keys alone would bring in is in no lower answer, under a policy of either format.
 use Prim.Native.Nat.{ℕ, zero, suc, _+_, _<_}
 use mathlib.Core.Path.{_≡_, refl, sym, _∙_, ap, subst}
 use mathlib.Core.Bool.{Bool, true, false, _&&_}
@@ -12,6 +12,7 @@ use Rattle.rows.specs.Sets.{RowSet, has}
 use Rattle.rows.proofs.Case.{T-true, true-T, T-left, T-right}
 use Rattle.rows.proofs.Lists.{length-snoc}
 use Rattle.certificates.specs.Stores.{heldAfter}
+use Rattle.policy.specs.Format.{formatOf}
 use Rattle.policy.specs.Leaf.{Leaf, finite, cofinite, definition, listed, vetted, leafWords}
 use Rattle.policy.specs.Syntax.{atom, Expr, leaf, union, difference, comprehension}
 use Rattle.policy.specs.Words.{exprWords}
@@ -48,18 +49,20 @@ definition-words d (difference a b) h = impossible cc
 definition-words d (comprehension b) h = impossible cc
 
 asks-definition : (c : Call) (d : ℕ) → c .query ≡ 3 ∷ d ∷ [] → (places : List Entry) (target : List Expr) (known : List Known) → checkPolicy (c .policy) ≡ passed places target known →
-    (es : List Expr) (q : Expr) (v : Verdict) → check (c .policy) (c .query) ≡ checked es q v → (W : World) (r : Row) → InQuery c W r → getD (meanings W target []) d (λ x. ⊥) r
+    (es : List Expr) (q : Expr) (v : Verdict) → check (c .policy) (c .query) ≡ checked es q v → (W : World) (r : Row) → InQuery c W r →
+    getD (meanings (formatOf (c .policy)) W target []) d (λ x. ⊥) r
 unfolding BelongsTo BelongsBy
 asks-definition c d isDefinition places target known p es q v f W r i =
     let a = check-accepted (c .policy) (c .query) es q v f in
     let e = passed-once (c .policy) (accepted-passes (c .policy) (a .entries) es (a .known) (record { listed = a .listed; definitions = a .definitions })) p .1 in
     let g = definition-words d q (sym isDefinition ∙ parse-words (length (a .known)) (c .query) q (a .asked .parses)) in
-    let b : BelongsTo W es q r = rw (← (in-query c es q v f W r)) i in
-    subst (λ (fs : List Expr). BelongsTo W fs (leaf (definition d)) r) e (subst (λ (x : Expr). BelongsTo W es x r) g b)
+    let format = formatOf (c .policy) in
+    let b : BelongsTo format W es q r = rw (← (in-query c es q v f W r)) i in
+    subst (λ (fs : List Expr). BelongsTo format W fs (leaf (definition d)) r) e (subst (λ (x : Expr). BelongsTo format W es x r) g b)
 
 -- each row of a lower answer belongs to the source's transformation
 lower-rows : (policy : List ℕ) (entries : List Entry) (source : List Expr) (known : List Known) → checkPolicy policy ≡ passed entries source known → (d : ℕ) (S : RowSet) (a : LowerAnswer policy d S) →
-    (W : World) → AllTrue W (heldAfter (a .call .minute) (a .point .passed)) → (r : Row) → IsRow r → T (has S r) → getD (transformed W entries source) d (λ x. ⊥) r
+    (W : World) → AllTrue W (heldAfter (a .call .minute) (a .point .passed)) → (r : Row) → IsRow r → T (has S r) → getD (transformed (formatOf policy) W entries source) d (λ x. ⊥) r
 lower-rows policy entries source known c d S a W allowed r i h =
     let m = theorem policy (a .out) (a .rewrites) in
     let all = demand-3 (a .stores) (a .empty) (a .filings) in
@@ -68,17 +71,10 @@ lower-rows policy entries source known c d S a W allowed r i h =
     let belongs = asks-definition (a .call) d (a .queryIs) (m .places) (m .target) (m .known) (subst (λ (ws : List ℕ). checkPolicy ws ≡ passed (m .places) (m .target) (m .known)) (sym (a .policyIs)) (m .passes))
     (read .0) (read .1) lower (read .2) W r inQuery in
     let e = passed-once policy (m .checks) c in
-    subst (λ (xs : List Entry). getD (transformed W xs source) d (λ x. ⊥) r) (e .0)
-    (subst (λ (es : List Expr). getD (transformed W (m .entries) es) d (λ x. ⊥) r) (e .1) (m .same W d r .0 belongs))
-
--- definitions that stand first stay as they are
-first-kept : (lists : Lists) (es : List Expr) (D : Meanings) (d : ℕ) → d < length D → (r : Row) → getD (meaningsBy lists es D) d (λ x. ⊥) r → getD D d (λ x. ⊥) r
-unfolding meaningsBy
-first-kept lists [] D d l r h = h
-first-kept lists (e ∷ es) D d l r h =
-    let P = BelongsBy lists D e [] in
-    let m = length-snoc D P in
-    subst (λ (X : Row → Type 0). X r) (List·getD-append D (P ∷ []) (λ x. ⊥) d l) (first-kept lists es (D ++ (P ∷ [])) d (omega arith) r h)
+    let format = formatOf policy in
+    subst (λ (xs : List Entry). getD (transformed format W xs source) d (λ x. ⊥) r) (e .0)
+    (subst (λ (es : List Expr). getD (transformed format W (m .entries) es) d (λ x. ⊥) r) (e .1)
+    (m .same W d r .0 (subst (λ (ws : List ℕ). getD (meanings (formatOf ws) W (m .target) []) d (λ x. ⊥) r) (a .policyIs) belongs)))
 
 last-is : (D : Meanings) (P : Row → Type 0) (d : ℕ) → d ≡ length D → (r : Row) → getD (D ++ (P ∷ [])) d (λ x. ⊥) r → P r
 last-is [] P zero l r h = h
@@ -86,26 +82,36 @@ last-is [] P (suc d) l r h = absurd (omega arith)
 last-is (x ∷ D) P zero l r h = absurd (omega arith)
 last-is (x ∷ D) P (suc d) l r h = last-is D P d (omega arith) r h
 
--- a definition that is a key's name has what is in that key's list
-name-has : (lists : Lists) (key n : ℕ) (es : List Expr) (D : Meanings) (i d : ℕ) → d ≡ length D + i → getD es i (leaf (finite [])) ≡ leaf (listed (atom key) n plus) → (r : Row) →
-    getD (meaningsBy lists es D) d (λ x. ⊥) r → lists key n plus r
-unfolding meaningsBy BelongsBy BelongsLeaf value
-name-has lists key n [] D i d l e r h = impossible cc
-name-has lists key n (x ∷ es) D zero d l e r h =
-    let P = BelongsBy lists D x [] in
-    let m = length-snoc D P in
-    subst (λ (y : Expr). BelongsBy lists D y [] r) e (last-is D P d (omega arith) r (first-kept lists es (D ++ (P ∷ [])) d (omega arith) r h))
-name-has lists key n (x ∷ es) D (suc i) d l e r h =
-    let P = BelongsBy lists D x [] in
-    let m = length-snoc D P in
-    name-has lists key n es (D ++ (P ∷ [])) i d (omega arith) e r h
+module _ (format : ℕ) (lists : Lists) where
+  -- definitions that stand first stay as they are
+  first-kept : (es : List Expr) (D : Meanings) (d : ℕ) → d < length D → (r : Row) → getD (meaningsBy format lists es D) d (λ x. ⊥) r → getD D d (λ x. ⊥) r
+  unfolding meaningsBy
+  first-kept [] D d l r h = h
+  first-kept (e ∷ es) D d l r h =
+      let P = BelongsBy format lists D e [] in
+      let m = length-snoc D P in
+      subst (λ (X : Row → Type 0). X r) (List·getD-append D (P ∷ []) (λ x. ⊥) d l) (first-kept es (D ++ (P ∷ [])) d (omega arith) r h)
+
+  -- a definition that is a key's name has what is in that key's list
+  name-has : (key n : ℕ) (es : List Expr) (D : Meanings) (i d : ℕ) → d ≡ length D + i → getD es i (leaf (finite [])) ≡ leaf (listed (atom key) n plus) → (r : Row) →
+      getD (meaningsBy format lists es D) d (λ x. ⊥) r → lists key n plus r
+  unfolding meaningsBy BelongsBy BelongsLeaf value
+  name-has key n [] D i d l e r h = impossible cc
+  name-has key n (x ∷ es) D zero d l e r h =
+      let P = BelongsBy format lists D x [] in
+      let m = length-snoc D P in
+      subst (λ (y : Expr). BelongsBy format lists D y [] r) e (last-is D P d (omega arith) r (first-kept es (D ++ (P ∷ [])) d (omega arith) r h))
+  name-has key n (x ∷ es) D (suc i) d l e r h =
+      let P = BelongsBy format lists D x [] in
+      let m = length-snoc D P in
+      name-has key n es (D ++ (P ∷ [])) i d (omega arith) e r h
 
 -- from the source's transformation to the definitions without a compromised key's lists
 
 abbrev Within : Meanings → Meanings → Type 0
 Within = Related (λ A B. A → B)
 
-module _ (lists : Lists) (C : Row → Type 0) (key : ℕ) (compromised : C (key ∷ [])) where
+module _ (format : ℕ) (lists : Lists) (C : Row → Type 0) (key : ℕ) (compromised : C (key ∷ [])) where
   leaf-without : (D E : Meanings) → Within D E → (x : Leaf) → T (externalLeaf plus x) → (vs : Values) (r : Row) →
       BelongsLeaf (uncompromised C lists) D x vs r → BelongsLeaf (without key lists) E x vs r
   unfolding externalLeaf BelongsLeaf uncompromised without
@@ -116,58 +122,60 @@ module _ (lists : Lists) (C : Row → Type 0) (key : ℕ) (compromised : C (key 
   leaf-without D E s (listed i n minus) t vs r h = absurd t
   leaf-without D E s (vetted i n d) t vs r h = absurd t
 
-  expr-without : (D E : Meanings) → Within D E → (e : Expr) → T (externalExpr plus e) → (r : Row) → BelongsBy (uncompromised C lists) D e [] r → BelongsBy (without key lists) E e [] r
+  expr-without : (D E : Meanings) → Within D E → (e : Expr) → T (externalExpr plus e) → (r : Row) → BelongsBy format (uncompromised C lists) D e [] r → BelongsBy format (without key lists) E e [] r
   expr-without D E s e t r =
-      subst (λ (x : Expr). BelongsBy (uncompromised C lists) D x [] r → BelongsBy (without key lists) E x [] r) (each-same e)
-      (expr-carried (uncompromised C lists) (without key lists) D E (λ x. x) (λ x. x) (leaf-without D E s) e t [] r)
+      subst (λ (x : Expr). BelongsBy format (uncompromised C lists) D x [] r → BelongsBy format (without key lists) E x [] r) (each-same e)
+      (expr-carried format (uncompromised C lists) (without key lists) D E (λ x. x) (λ x. x) (leaf-without D E s) e t [] r)
 
   all-without : (xs : List Entry) (es : List Expr) → length xs ≡ length es → T (allPlus xs es) → (D E : Meanings) → length D ≡ length E → Within D E →
-      Within (meaningsBy (uncompromised C lists) es D) (meaningsBy (without key lists) es E)
+      Within (meaningsBy format (uncompromised C lists) es D) (meaningsBy format (without key lists) es E)
   unfolding allPlus meaningsBy
   all-without xs [] l t D E m s = s
   all-without [] (e ∷ es) l t D E m s = absurd (omega arith)
   all-without (x ∷ xs) (e ∷ es) l t D E m s =
-      let P = BelongsBy (uncompromised C lists) D e [] in
-      let Q = BelongsBy (without key lists) E e [] in
+      let P = BelongsBy format (uncompromised C lists) D e [] in
+      let Q = BelongsBy format (without key lists) E e [] in
       let u = T-right (eqb (x .polarity) 0) (externalExpr plus e) (T-left (eqb (x .polarity) 0 && externalExpr plus e) (allPlus xs es) t) in
       let a = length-snoc D P in
       let b = length-snoc E Q in
       all-without xs es (omega arith) (T-right (eqb (x .polarity) 0 && externalExpr plus e) (allPlus xs es) t) (D ++ (P ∷ [])) (E ++ (Q ∷ [])) (omega arith)
       (related-snoc (λ A B. A → B) (λ z. z) D E m s P Q (expr-without D E s e u))
 
-transformed-without : (W : World) (key : ℕ) (xs : List Entry) (es : List Expr) → length xs ≡ length es → T (keysListed xs) → T (isExternal xs es) →
-    getD (meanings W es []) 0 (λ x. ⊥) (key ∷ []) → Within (transformed W xs es) (withoutKey key W es)
-unfolding keysListed transformed withoutKey meaningsBy
-transformed-without W key [] es l k t c = absurd k
-transformed-without W key (x ∷ xs) [] l k t c = absurd (omega arith)
-transformed-without W key (x ∷ xs) (e ∷ es) l k t c =
-    let C = Belongs W [] e [] in
-    subst (λ (b : Bool). Within (elim b as (λ c. Meanings) [
-      | true ↦ meaningsBy (uncompromised C (InList W)) es (C ∷ [])
-      | false ↦ meanings W (e ∷ es) []
-    ]) (meaningsBy (without key (InList W)) es (C ∷ []))) (sym (true-T (listsKeys x) k))
-    (all-without (InList W) C key (first-kept (InList W) es (C ∷ []) 0 (omega arith) (key ∷ []) c) xs es (omega arith) (later-plus x xs e es k t)
-    (C ∷ []) (C ∷ []) refl (λ d r h. h))
+module _ (format : ℕ) (W : World) (key : ℕ) where
+  transformed-without : (xs : List Entry) (es : List Expr) → length xs ≡ length es → T (keysListed xs) → T (isExternal xs es) →
+      getD (meanings format W es []) 0 (λ x. ⊥) (key ∷ []) → Within (transformed format W xs es) (withoutKey format key W es)
+  unfolding keysListed transformed withoutKey meaningsBy
+  transformed-without [] es l k t c = absurd k
+  transformed-without (x ∷ xs) [] l k t c = absurd (omega arith)
+  transformed-without (x ∷ xs) (e ∷ es) l k t c =
+      let C = Belongs format W [] e [] in
+      subst (λ (b : Bool). Within (elim b as (λ c. Meanings) [
+        | true ↦ meaningsBy format (uncompromised C (InList W)) es (C ∷ [])
+        | false ↦ meanings format W (e ∷ es) []
+      ]) (meaningsBy format (without key (InList W)) es (C ∷ []))) (sym (true-T (listsKeys x) k))
+      (all-without format (InList W) C key (first-kept format (InList W) es (C ∷ []) 0 (omega arith) (key ∷ []) c) xs es (omega arith) (later-plus x xs e es k t)
+      (C ∷ []) (C ∷ []) refl (λ d r h. h))
 
-name-without : (W : World) (key n : ℕ) (es : List Expr) (d : ℕ) → 0 < d → getD es d (leaf (finite [])) ≡ leaf (listed (atom key) n plus) → (r : Row) →
-    ¬ getD (withoutKey key W es) d (λ x. ⊥) r
-unfolding withoutKey without
-name-without W key n [] d l e r h = h
-name-without W key n (x ∷ es) zero l e r h = absurd (omega arith)
-name-without W key n (x ∷ es) (suc d) l e r h = name-has (without key (InList W)) key n es (Belongs W [] x [] ∷ []) d (suc d) (omega arith) e r h .0 refl
+  name-without : (n : ℕ) (es : List Expr) (d : ℕ) → 0 < d → getD es d (leaf (finite [])) ≡ leaf (listed (atom key) n plus) → (r : Row) →
+      ¬ getD (withoutKey format key W es) d (λ x. ⊥) r
+  unfolding withoutKey without
+  name-without n [] d l e r h = h
+  name-without n (x ∷ es) zero l e r h = absurd (omega arith)
+  name-without n (x ∷ es) (suc d) l e r h =
+      name-has format (without key (InList W)) key n es (Belongs format W [] x [] ∷ []) d (suc d) (omega arith) e r h .0 refl
 
 pub not-relied-on : NotReliedOn
 not-relied-on policy entries source known c d S a = record {
   rows = lower-rows policy entries source known c d S a;
   notByKey = not-by-key;
-  noRow = λ k W allowed key compromised n l e r i h. name-without W key n source d l e r (not-by-key k W allowed key compromised r i h);
+  noRow = λ k W allowed key compromised n l e r i h. name-without (formatOf policy) W key n source d l e r (not-by-key k W allowed key compromised r i h);
 }
   where
-    not-by-key : keysListed entries ≡ true → (W : World) → AllTrue W (heldAfter (a .call .minute) (a .point .passed)) → (key : ℕ) → getD (meanings W source []) 0 (λ x. ⊥) (key ∷ []) →
-        (r : Row) → IsRow r → T (has S r) → getD (withoutKey key W source) d (λ x. ⊥) r
+    not-by-key : keysListed entries ≡ true → (W : World) → AllTrue W (heldAfter (a .call .minute) (a .point .passed)) → (key : ℕ) → getD (meanings (formatOf policy) W source []) 0 (λ x. ⊥) (key ∷ []) →
+        (r : Row) → IsRow r → T (has S r) → getD (withoutKey (formatOf policy) key W source) d (λ x. ⊥) r
     not-by-key k W allowed key compromised r i h =
         let t = rewritten-from policy (a .out) (a .rewrites) in
         let e = passed-once policy (t .checks) c in
         let external = subst (λ (es : List Expr). T (isExternal entries es)) (e .1) (subst (λ (xs : List Entry). T (isExternal xs (t .source))) (e .0) (t .external)) in
-        transformed-without W key entries source (accepted-lengths (policy-accepted policy entries source known c .definitions)) (T-true k) external compromised d r
+        transformed-without (formatOf policy) W key entries source (accepted-lengths (policy-accepted policy entries source known c .definitions)) (T-true k) external compromised d r
         (lower-rows policy entries source known c d S a W allowed r i h)

@@ -1,5 +1,5 @@
--- Checked definitions, one after the other: the sets read for them are tidy and have what the definitions mean, their meanings follow their declared
--- polarities from world to world, and 12 is not met.
+-- Checked definitions, one after the other, in a policy of either format: the sets read for them are tidy and have what the definitions mean, their meanings
+-- follow their declared polarities from world to world, and 12 is not met.
 use Prim.Native.Nat.{ℕ, zero, suc}
 use mathlib.Core.Path.{_≡_, refl, sym, _∙_, ap, subst}
 use mathlib.Core.Logic.{_↔_}
@@ -80,21 +80,24 @@ ways-snoc (l ∷ ks) (x ∷ D) (y ∷ E) m n w k P Q a zero r = w zero r
 ways-snoc (l ∷ ks) (x ∷ D) (y ∷ E) m n w k P Q a (suc d) r = ways-snoc ks D E (omega arith) (omega arith) (λ c q. w (suc c) q) k P Q a d r
 
 -- from world to world, through the definitions
-pub ways : (W U : World) → Below W U → {policy : List ℕ} {xs : List Entry} {ks ls : List Known} {es : List Expr} → Accepted policy xs ks es ls →
-    (D E : Meanings) → length ks ≡ length D → length ks ≡ length E → Ways ks D E → Ways ls (meanings W es D) (meanings U es E)
-unfolding meaningsBy
-ways W U b none D E m n w = w
-ways W U b (one {x = x} {ks = ks} {e = e} a rest) D E m n w =
-    ways W U b rest (D ++ (Belongs W D e [] ∷ [])) (E ++ (Belongs U E e [] ∷ []))
-    (length-snoc ks (knownOf x e ks) ∙ ap suc m ∙ sym (length-snoc D (Belongs W D e [])))
-    (length-snoc ks (knownOf x e ks) ∙ ap suc n ∙ sym (length-snoc E (Belongs U E e [])))
-    (ways-snoc ks D E m n w (knownOf x e ks) (Belongs W D e []) (Belongs U E e []) (λ r. monotone W U b ks D E w e (knownOf x e ks .declared) (a .has) [] r))
+module _ (format : ℕ) (W U : World) (b : Below W U) where
+  pub ways : {policy : List ℕ} {xs : List Entry} {ks ls : List Known} {es : List Expr} → Accepted policy xs ks es ls →
+      (D E : Meanings) → length ks ≡ length D → length ks ≡ length E → Ways ks D E → Ways ls (meanings format W es D) (meanings format U es E)
+  unfolding meaningsBy
+  ways none D E m n w = w
+  ways (one {x = x} {ks = ks} {e = e} a rest) D E m n w =
+      let P = Belongs format W D e [] in
+      let Q = Belongs format U E e [] in
+      ways rest (D ++ (P ∷ [])) (E ++ (Q ∷ []))
+      (length-snoc ks (knownOf x e ks) ∙ ap suc m ∙ sym (length-snoc D P))
+      (length-snoc ks (knownOf x e ks) ∙ ap suc n ∙ sym (length-snoc E Q))
+      (ways-snoc ks D E m n w (knownOf x e ks) P Q (λ r. monotone format W U b ks D E w e (knownOf x e ks .declared) (a .has) [] r))
 
 -- an answered call read the query, last, from sets that have what the definitions mean
-pub record Reached (names : Evidence) (D : Meanings) (q : Expr) (S : RowSet) (j : ℕ) : Type 1 where
+pub record Reached (format : ℕ) (names : Evidence) (D : Meanings) (q : Expr) (S : RowSet) (j : ℕ) : Type 1 where
   pub sets : List RowSet
   pub draws : ℕ
-  pub last : read names sets q [] draws ≡ done S j
+  pub last : read format names sets q [] draws ≡ done S j
   pub agree : Agree sets D
   pub tidy : TidySets sets
 
@@ -103,23 +106,24 @@ end-reached : (v w : Verdict) (j : ℕ) (S : RowSet) (a : Result RowSet) →
 end-reached v w j S (done s k) e = cc
 end-reached v w j S (refused n) e = let z : _≡_ {A = ℕ} 0 1 = cc in absurd (omega arith)
 
-module _ (names : Evidence) (W : World) (shows : Shows names W) (proper : ProperNames names) (policy : List ℕ) (words : Words policy) (q : Expr) (v : Verdict) where
+module _ (format : ℕ) (names : Evidence) (W : World) (shows : Shows names W) (proper : ProperNames names) (policy : List ℕ) (words : Words policy) (q : Expr) (v : Verdict) where
   pub reached : {xs : List Entry} {ks ls : List Known} {es : List Expr} → Accepted policy xs ks es ls → (sets : List RowSet) (D : Meanings) (k : ℕ) → length sets ≡ length D →
-      Agree sets D → TidySets sets → (w : Verdict) (j : ℕ) (S : RowSet) → readFrom names es q v sets k ≡ answered w j S → Reached names (meanings W es D) q S j
+      Agree sets D → TidySets sets → (w : Verdict) (j : ℕ) (S : RowSet) → readFrom format names es q v sets k ≡ answered w j S → Reached format names (meanings format W es D) q S j
   unfolding readFrom meaningsBy
   reached none sets D k m g t w j S h =
-      record { sets = sets; draws = k; last = end-reached v w j S (read names sets q [] k) h; agree = g; tidy = t }
+      record { sets = sets; draws = k; last = end-reached v w j S (read format names sets q [] k) h; agree = g; tidy = t }
   reached (one {x = x} {ks = ks} {e = e} {es = es} a rest) sets D k m g t w j S h =
-      go (λ s i l g′ t′ f. reached rest (sets ++ (s ∷ [])) (D ++ (Belongs W D e [] ∷ [])) i l g′ t′ w j S f) (read names sets e [] k) refl
+      go (λ s i l g′ t′ f. reached rest (sets ++ (s ∷ [])) (D ++ (Belongs format W D e [] ∷ [])) i l g′ t′ w j S f) (read format names sets e [] k) refl
     where
-      go : ((s : RowSet) (i : ℕ) → length (sets ++ (s ∷ [])) ≡ length (D ++ (Belongs W D e [] ∷ [])) → Agree (sets ++ (s ∷ [])) (D ++ (Belongs W D e [] ∷ [])) →
-          TidySets (sets ++ (s ∷ [])) → readFrom names es q v (sets ++ (s ∷ [])) i ≡ answered w j S → Reached names (meanings W es (D ++ (Belongs W D e [] ∷ []))) q S j) →
-          (b : Result RowSet) → read names sets e [] k ≡ b → Reached names (meanings W es (D ++ (Belongs W D e [] ∷ []))) q S j
+      go : ((s : RowSet) (i : ℕ) → length (sets ++ (s ∷ [])) ≡ length (D ++ (Belongs format W D e [] ∷ [])) → Agree (sets ++ (s ∷ [])) (D ++ (Belongs format W D e [] ∷ [])) →
+          TidySets (sets ++ (s ∷ [])) → readFrom format names es q v (sets ++ (s ∷ [])) i ≡ answered w j S →
+          Reached format names (meanings format W es (D ++ (Belongs format W D e [] ∷ []))) q S j) →
+          (b : Result RowSet) → read format names sets e [] k ≡ b → Reached format names (meanings format W es (D ++ (Belongs format W D e [] ∷ []))) q S j
       go ih (done s i) f =
           let o = parsed-sound (length ks) (entryWords policy x) e (a .parses) (entry-words policy x words) in
-          ih s i (length-snoc sets s ∙ ap suc m ∙ sym (length-snoc D (Belongs W D e [])))
-          (agree-snoc sets D m g s (Belongs W D e []) (λ r z. read-rows names W shows proper sets D g t e (length ks) 0 (o .fit) (o .words) [] no-values k s i f r z))
-          (tidy-snoc sets t s (read-tidy names sets proper t e (length ks) 0 (o .fit) (o .words) [] no-values k s i f))
+          ih s i (length-snoc sets s ∙ ap suc m ∙ sym (length-snoc D (Belongs format W D e [])))
+          (agree-snoc sets D m g s (Belongs format W D e []) (λ r z. read-rows format names W shows proper sets D g t e (length ks) 0 (o .fit) (o .words) [] no-values k s i f r z))
+          (tidy-snoc sets t s (read-tidy format names sets proper t e (length ks) 0 (o .fit) (o .words) [] no-values k s i f))
           (rw (f, readFrom) at h)
       go ih (refused n) f =
           let g : Query.refused n (length sets) ≡ answered w j S = rw (f, readFrom) at h in
@@ -135,24 +139,24 @@ finite-snoc (x ∷ ks) (y ∷ sets) m f k s h zero t = f zero t
 finite-snoc (x ∷ ks) (y ∷ sets) m f k s h (suc d) t = finite-snoc ks sets (omega arith) (λ c u. f (suc c) u) k s h d t
 
 -- the definitions, then the query, draw from nothing open: 12 is not met in any of them
-module _ (names : Evidence) (finite : FiniteNames names) (policy : List ℕ) (q : Expr) (v : Verdict) (part : ℕ) where
+module _ (format : ℕ) (names : Evidence) (finite : FiniteNames names) (policy : List ℕ) (q : Expr) (v : Verdict) (part : ℕ) where
   pub reads-not-12 : {xs : List Entry} {ks ls : List Known} {es : List Expr} → Accepted policy xs ks es ls → T (drawsClosed q ls) → (sets : List RowSet) (k : ℕ) →
-      length ks ≡ length sets → FiniteSets ks sets → ¬ (readFrom names es q v sets k ≡ Query.refused complementDrawn part)
+      length ks ≡ length sets → FiniteSets ks sets → ¬ (readFrom format names es q v sets k ≡ Query.refused complementDrawn part)
   unfolding readFrom knownOf
-  reads-not-12 (none {ks = ks}) closed sets k m f h = go (read names sets q [] k) refl h
+  reads-not-12 (none {ks = ks}) closed sets k m f h = go (read format names sets q [] k) refl h
     where
-      go : (a : Result RowSet) → read names sets q [] k ≡ a →
+      go : (a : Result RowSet) → read format names sets q [] k ≡ a →
           (elim a as (λ c. Outcome) [ done s j ↦ answered v j s | refused n ↦ Query.refused n 16 ]) ≡ Query.refused complementDrawn part → ⊥
       go (done s j) e g = let z : _≡_ {A = ℕ} 0 1 = cc in absurd (omega arith)
-      go (refused n) e g = let z : n ≡ complementDrawn = cc in never-12 names finite sets ks f q closed [] k (e ∙ ap refused z)
+      go (refused n) e g = let z : n ≡ complementDrawn = cc in never-12 format names finite sets ks f q closed [] k (e ∙ ap refused z)
   reads-not-12 (one {x = x} {ks = ks} {e = e} {es = es} a rest) closed sets k m f h =
-      go (λ s i g l. reads-not-12 rest closed (sets ++ (s ∷ [])) i (length-snoc ks (knownOf x e ks) ∙ ap suc m ∙ sym (length-snoc sets s)) g l) (read names sets e [] k) refl h
+      go (λ s i g l. reads-not-12 rest closed (sets ++ (s ∷ [])) i (length-snoc ks (knownOf x e ks) ∙ ap suc m ∙ sym (length-snoc sets s)) g l) (read format names sets e [] k) refl h
     where
-      go : ((s : RowSet) (i : ℕ) → FiniteSets (ks ++ (knownOf x e ks ∷ [])) (sets ++ (s ∷ [])) → ¬ (readFrom names es q v (sets ++ (s ∷ [])) i ≡ Query.refused complementDrawn part)) →
-          (b : Result RowSet) → read names sets e [] k ≡ b →
-          (elim b as (λ c. Outcome) [ done s i ↦ readFrom names es q v (sets ++ (s ∷ [])) i | refused n ↦ Query.refused n (length sets) ]) ≡ Query.refused complementDrawn part → ⊥
-      go ih (done s i) d l = ih s i (finite-snoc ks sets m f (knownOf x e ks) s (λ t. closed-finite names finite sets ks f e t [] k s i d)) l
-      go ih (refused n) d l = let z : n ≡ complementDrawn = cc in never-12 names finite sets ks f e (a .closed) [] k (d ∙ ap refused z)
+      go : ((s : RowSet) (i : ℕ) → FiniteSets (ks ++ (knownOf x e ks ∷ [])) (sets ++ (s ∷ [])) → ¬ (readFrom format names es q v (sets ++ (s ∷ [])) i ≡ Query.refused complementDrawn part)) →
+          (b : Result RowSet) → read format names sets e [] k ≡ b →
+          (elim b as (λ c. Outcome) [ done s i ↦ readFrom format names es q v (sets ++ (s ∷ [])) i | refused n ↦ Query.refused n (length sets) ]) ≡ Query.refused complementDrawn part → ⊥
+      go ih (done s i) d l = ih s i (finite-snoc ks sets m f (knownOf x e ks) s (λ t. closed-finite format names finite sets ks f e t [] k s i d)) l
+      go ih (refused n) d l = let z : n ≡ complementDrawn = cc in never-12 format names finite sets ks f e (a .closed) [] k (d ∙ ap refused z)
 
 -- before the first definition
 pub none-agree : Agree [] []

@@ -19,6 +19,7 @@ use Rattle.certificates.specs.Stores.{Stores}
 use Rattle.certificates.proofs.Filings.{Lawful, listed, Replied, unsound, known, full, new, replied, sound-in}
 use Rattle.certificates.proofs.Sound.{certificate-laws}
 use Rattle.certificates.proofs.Links.{link-laws}
+use Rattle.policy.specs.Format.{formatOf}
 use Rattle.policy.proofs.Basics.{impossible}
 use Rattle.policy.proofs.Judging.{check-accepted}
 use Rattle.meaning.specs.Evidence.{namesHeld}
@@ -124,7 +125,7 @@ demand-1 = record {
   noDraws = λ s c n part e. ap drawsOf e;
   never12 = λ policy query es q v passes h part.
       let a = check-accepted policy query es q v passes in
-      reads-not-12 (namesHeld h) (held-finite h) policy q v part (a .definitions) (a .asked .closed) [] 0 refl none-finite;
+      reads-not-12 (formatOf policy) (namesHeld h) (held-finite h) policy q v part (a .definitions) (a .asked .closed) [] 0 refl none-finite;
   earlierWords = λ s c d a.
       let e = call-alike s c d (a .policy) (a .query) (a .minute) (a .room) in
       (e, ap (λ (o : Outcome). answerArea o (c .answer)) e ∙ ap (answerArea (queryCall s d)) (a .answer));

@@ -11,6 +11,7 @@ use Rattle.certificates.specs.Stores.{AnyFiling, certificate, link, Stores, sto
 use Rattle.certificates.proofs.Filings.{accepted-sound, accepted-words}
 use Rattle.certificates.proofs.Sound.{certificate-laws}
 use Rattle.certificates.proofs.Both.{BothKeep, both-keep, reply-both, Within, held-accepted, accepted-held, held-stays}
+use Rattle.policy.specs.Format.{formatOf}
 use Rattle.policy.specs.Syntax.{Expr}
 use Rattle.policy.specs.Polarity.{Verdict}
 use Rattle.policy.specs.Checking.{check, checked}
@@ -86,10 +87,12 @@ module _ (s : Stores) (empty : EmptyStores s) (filings : List AnyFiling) where
         let es : b .es ≡ a .es = cc in
         let qs : b .q ≡ a .q = cc in
         let vs : v′ ≡ v = cc in
-        let later : readFrom (namesHeld second) (a .es) (a .q) v [] 0 ≡ answered v′ k′ S′ =
-        subst (λ (u : Verdict). readFrom (namesHeld second) (a .es) (a .q) u [] 0 ≡ answered v′ k′ S′) vs
-        (subst (λ (x : Expr). readFrom (namesHeld second) (a .es) x v′ [] 0 ≡ answered v′ k′ S′) qs
-        (subst (λ (xs : List Expr). readFrom (namesHeld second) xs (b .q) v′ [] 0 ≡ answered v′ k′ S′) es (b .reads))) in
+        let format = formatOf (c .policy) in
+        let later : readFrom format (namesHeld second) (a .es) (a .q) v [] 0 ≡ answered v′ k′ S′ =
+        subst (λ (u : Verdict). readFrom format (namesHeld second) (a .es) (a .q) u [] 0 ≡ answered v′ k′ S′) vs
+        (subst (λ (x : Expr). readFrom format (namesHeld second) (a .es) x v′ [] 0 ≡ answered v′ k′ S′) qs
+        (subst (λ (xs : List Expr). readFrom format (namesHeld second) xs (b .q) v′ [] 0 ≡ answered v′ k′ S′) es
+        (subst (λ (policy : List ℕ). readFrom (formatOf policy) (namesHeld second) (b .es) (b .q) v′ [] 0 ≡ answered v′ k′ S′) (sym same-policy) (b .reads)))) in
         record {
           sameVerdict = sym vs;
           lowerGrows = lower-grows c w (a .es) (a .q) v (a .passes) first second (about words m p) (about words m q) (still-held m p q e) v v′ k k′ S S′ (a .reads) later;

@@ -1,4 +1,4 @@
--- The rewritten policy means what the source's transformation means.
+-- The rewritten policy means what the source's transformation means, in the policy's format.
 use Prim.Native.Nat.{ℕ, zero, suc, _+_, _*_, _<_, _≤_}
 use mathlib.Core.Path.{_≡_, refl, sym, _∙_, ap, subst}
 use mathlib.Core.Logic.{inl, inr, _↔_}
@@ -13,6 +13,7 @@ use Rattle.rows.specs.Row.{Row}
 use Rattle.rows.specs.Name.{plus, minus}
 use Rattle.rows.proofs.Case.{T-true, true-T, T-left, T-right, T-eqb, iff-refl, both-not}
 use Rattle.rows.proofs.Lists.{length-snoc}
+use Rattle.policy.specs.Format.{formatOf}
 use Rattle.policy.specs.Leaf.{Leaf, finite, cofinite, definition, listed, vetted}
 use Rattle.policy.specs.Syntax.{Expr, leaf, union, difference, comprehension, Body, head, draw, same, different, absent}
 use Rattle.policy.specs.Words.{exprWords}
@@ -25,7 +26,7 @@ use Rattle.policy.specs.External.{output, Rewriting, rewritten, refused, rewrit
 use Rattle.policy.proofs.Basics.{impossible}
 use Rattle.policy.proofs.Judging.{policy-accepted}
 use Rattle.policy.proofs.Vetting.{each-same}
-use Rattle.policy.proofs.Rewriting.{accepted-lengths, later-lengths, later-plus, rewritten-passes}
+use Rattle.policy.proofs.Rewriting.{accepted-lengths, later-lengths, later-plus, rewritten-passes, output-format}
 use Rattle.policy.proofs.RewrittenWords.{rewritten-words}
 use Rattle.meaning.specs.Values.{Values, value}
 use Rattle.meaning.specs.World.{World}
@@ -51,12 +52,12 @@ Same = Related (λ A B. A ↔ B)
 
 -- what belongs to an external + expression, its leaves changed in one way, belongs to it, its leaves changed in another and read from other lists and
 -- definitions, where that is so of each leaf
-module _ (lists others : Lists) (D E : Meanings) (f g : Leaf → Leaf)
+module _ (format : ℕ) (lists others : Lists) (D E : Meanings) (f g : Leaf → Leaf)
     (leaves : (x : Leaf) → T (externalLeaf plus x) → (vs : Values) (r : Row) → BelongsLeaf lists D (f x) vs r → BelongsLeaf others E (g x) vs r) where
   mutual
     unfolding externalExpr eachLeaf BelongsBy
 
-    pub expr-carried : (e : Expr) → T (externalExpr plus e) → (vs : Values) (r : Row) → BelongsBy lists D (eachLeaf f e) vs r → BelongsBy others E (eachLeaf g e) vs r
+    pub expr-carried : (e : Expr) → T (externalExpr plus e) → (vs : Values) (r : Row) → BelongsBy format lists D (eachLeaf f e) vs r → BelongsBy format others E (eachLeaf g e) vs r
     expr-carried (leaf x) t vs r h = leaves x t vs r h
     expr-carried (union a b) t vs r h = elim h [
       | inl i ↦ inl (expr-carried a (T-left (externalExpr plus a) (externalExpr plus b) t) vs r i)
@@ -65,7 +66,7 @@ module _ (lists others : Lists) (D E : Meanings) (f g : Leaf → Leaf)
     expr-carried (difference a b) t vs r h = absurd t
     expr-carried (comprehension b) t vs r h = body-carried b t vs r h
 
-    body-carried : (b : Body) → T (externalBody plus b) → (vs : Values) (r : Row) → PassesBy lists D (eachLeafIn f b) vs r → PassesBy others E (eachLeafIn g b) vs r
+    body-carried : (b : Body) → T (externalBody plus b) → (vs : Values) (r : Row) → PassesBy format lists D (eachLeafIn f b) vs r → PassesBy format others E (eachLeafIn g b) vs r
     body-carried (head ts) t vs r h = h
     body-carried (draw e s b) t vs r h = (
       h .0,
@@ -77,7 +78,7 @@ module _ (lists others : Lists) (D E : Meanings) (f g : Leaf → Leaf)
     body-carried (absent ts e b) t vs r h = absurd t
 
 -- an external + expression, vetted, has what it has where its names are read as the source's transformation reads them
-module _ (lists : Lists) (C : Row → Type 0) (D E : Meanings) (alike : Same D E) (keys : (r : Row) → getD D 0 (λ x. ⊥) r ↔ C r) where
+module _ (format : ℕ) (lists : Lists) (C : Row → Type 0) (D E : Meanings) (alike : Same D E) (keys : (r : Row) → getD D 0 (λ x. ⊥) r ↔ C r) where
   leaf-vetted : (x : Leaf) → T (externalLeaf plus x) → (vs : Values) (r : Row) → BelongsLeaf lists D (vetLeaf x) vs r ↔ BelongsLeaf (uncompromised C lists) E x vs r
   unfolding externalLeaf vetLeaf BelongsLeaf uncompromised
   leaf-vetted (finite rs) t vs r = iff-refl
@@ -87,55 +88,58 @@ module _ (lists : Lists) (C : Row → Type 0) (D E : Meanings) (alike : Same D E
   leaf-vetted (listed i n minus) t vs r = absurd t
   leaf-vetted (vetted i n d) t vs r = absurd t
 
-  expr-vetted : (e : Expr) → T (externalExpr plus e) → (vs : Values) (r : Row) → BelongsBy lists D (vet e) vs r ↔ BelongsBy (uncompromised C lists) E e vs r
+  expr-vetted : (e : Expr) → T (externalExpr plus e) → (vs : Values) (r : Row) → BelongsBy format lists D (vet e) vs r ↔ BelongsBy format (uncompromised C lists) E e vs r
   expr-vetted e t vs r =
-      subst (λ (x : Expr). BelongsBy lists D (vet e) vs r ↔ BelongsBy (uncompromised C lists) E x vs r) (each-same e) (
-        expr-carried lists (uncompromised C lists) D E vetLeaf (λ x. x) (λ x u ws q. leaf-vetted x u ws q .0) e t vs r,
-        expr-carried (uncompromised C lists) lists E D (λ x. x) vetLeaf (λ x u ws q. leaf-vetted x u ws q .1) e t vs r,
+      subst (λ (x : Expr). BelongsBy format lists D (vet e) vs r ↔ BelongsBy format (uncompromised C lists) E x vs r) (each-same e) (
+        expr-carried format lists (uncompromised C lists) D E vetLeaf (λ x. x) (λ x u ws q. leaf-vetted x u ws q .0) e t vs r,
+        expr-carried format (uncompromised C lists) lists E D (λ x. x) vetLeaf (λ x u ws q. leaf-vetted x u ws q .1) e t vs r,
       )
 
 keys-snoc : (C : Row → Type 0) (D : Meanings) (P : Row → Type 0) → 0 < length D → ((r : Row) → getD D 0 (λ x. ⊥) r ↔ C r) → (r : Row) → getD (D ++ (P ∷ [])) 0 (λ x. ⊥) r ↔ C r
 keys-snoc C [] P l h r = absurd (omega arith)
 keys-snoc C (x ∷ D) P l h r = h r
 
--- the later definitions, one after the other
-all-vetted : (lists : Lists) (C : Row → Type 0) (xs : List Entry) (es : List Expr) → length xs ≡ length es → T (allPlus xs es) → (D E : Meanings) → length D ≡ length E → 0 < length D →
-    Same D E → ((r : Row) → getD D 0 (λ x. ⊥) r ↔ C r) → Same (meaningsBy lists (vetAll es) D) (meaningsBy (uncompromised C lists) es E)
-unfolding allPlus vetAll meaningsBy
-all-vetted lists C xs [] l t D E m some s keys = s
-all-vetted lists C [] (e ∷ es) l t D E m some s keys = absurd (omega arith)
-all-vetted lists C (x ∷ xs) (e ∷ es) l t D E m some s keys =
-    let P = BelongsBy lists D (vet e) [] in
-    let Q = BelongsBy (uncompromised C lists) E e [] in
-    let u = T-right (eqb (x .polarity) 0) (externalExpr plus e) (T-left (eqb (x .polarity) 0 && externalExpr plus e) (allPlus xs es) t) in
-    let a = length-snoc D P in
-    let b = length-snoc E Q in
-    all-vetted lists C xs es (omega arith) (T-right (eqb (x .polarity) 0 && externalExpr plus e) (allPlus xs es) t) (D ++ (P ∷ [])) (E ++ (Q ∷ [])) (omega arith) (omega arith)
-    (related-snoc (λ A B. A ↔ B) iff-refl D E m s P Q (λ r. expr-vetted lists C D E s keys e u [] r)) (keys-snoc C D P some keys)
+-- definitions, one after the other, in a policy of this format
+module _ (format : ℕ) where
+  -- the later ones
+  all-vetted : (lists : Lists) (C : Row → Type 0) (xs : List Entry) (es : List Expr) → length xs ≡ length es → T (allPlus xs es) → (D E : Meanings) → length D ≡ length E → 0 < length D →
+      Same D E → ((r : Row) → getD D 0 (λ x. ⊥) r ↔ C r) → Same (meaningsBy format lists (vetAll es) D) (meaningsBy format (uncompromised C lists) es E)
+  unfolding allPlus vetAll meaningsBy
+  all-vetted lists C xs [] l t D E m some s keys = s
+  all-vetted lists C [] (e ∷ es) l t D E m some s keys = absurd (omega arith)
+  all-vetted lists C (x ∷ xs) (e ∷ es) l t D E m some s keys =
+      let P = BelongsBy format lists D (vet e) [] in
+      let Q = BelongsBy format (uncompromised C lists) E e [] in
+      let u = T-right (eqb (x .polarity) 0) (externalExpr plus e) (T-left (eqb (x .polarity) 0 && externalExpr plus e) (allPlus xs es) t) in
+      let a = length-snoc D P in
+      let b = length-snoc E Q in
+      all-vetted lists C xs es (omega arith) (T-right (eqb (x .polarity) 0 && externalExpr plus e) (allPlus xs es) t) (D ++ (P ∷ [])) (E ++ (Q ∷ [])) (omega arith) (omega arith)
+      (related-snoc (λ A B. A ↔ B) iff-refl D E m s P Q (λ r. expr-vetted format lists C D E s keys e u [] r)) (keys-snoc C D P some keys)
 
--- definition 0 as it was, then the vetted ones
-vetted-same : (W : World) (xs : List Entry) (es : List Expr) → length xs ≡ length es → T (keysListed xs) → T (isExternal xs es) → Same (meanings W (vetLater es) []) (transformed W xs es)
-unfolding keysListed vetLater transformed meaningsBy
-vetted-same W [] es l k t = absurd k
-vetted-same W (x ∷ xs) [] l k t = absurd (omega arith)
-vetted-same W (x ∷ xs) (e ∷ es) l k t =
-    let C = Belongs W [] e [] in
-    subst (λ (b : Bool). Same (meaningsBy (InList W) (vetAll es) (C ∷ [])) (elim b as (λ c. Meanings) [
-      | true ↦ meaningsBy (uncompromised C (InList W)) es (C ∷ [])
-      | false ↦ meanings W (e ∷ es) []
-    ])) (sym (true-T (listsKeys x) k))
-    (all-vetted (InList W) C xs es (omega arith) (later-plus x xs e es k t) (C ∷ []) (C ∷ []) refl (omega arith) (λ d r. iff-refl) (λ r. iff-refl))
+  -- definition 0 as it was, then the vetted ones
+  vetted-same : (W : World) (xs : List Entry) (es : List Expr) → length xs ≡ length es → T (keysListed xs) → T (isExternal xs es) →
+      Same (meanings format W (vetLater es) []) (transformed format W xs es)
+  unfolding keysListed vetLater transformed meaningsBy
+  vetted-same W [] es l k t = absurd k
+  vetted-same W (x ∷ xs) [] l k t = absurd (omega arith)
+  vetted-same W (x ∷ xs) (e ∷ es) l k t =
+      let C = Belongs format W [] e [] in
+      subst (λ (b : Bool). Same (meaningsBy format (InList W) (vetAll es) (C ∷ [])) (elim b as (λ c. Meanings) [
+        | true ↦ meaningsBy format (uncompromised C (InList W)) es (C ∷ [])
+        | false ↦ meanings format W (e ∷ es) []
+      ])) (sym (true-T (listsKeys x) k))
+      (all-vetted (InList W) C xs es (omega arith) (later-plus x xs e es k t) (C ∷ []) (C ∷ []) refl (omega arith) (λ d r. iff-refl) (λ r. iff-refl))
 
--- without a definition of name 0 −
-plain-same : (W : World) (xs : List Entry) (es : List Expr) → keysListed xs ≡ false → Same (meanings W es []) (transformed W xs es)
-unfolding transformed meaningsBy
-plain-same W xs [] k = λ d r. iff-refl
-plain-same W xs (e ∷ es) k =
-    let C = Belongs W [] e [] in
-    subst (λ (b : Bool). Same (meanings W (e ∷ es) []) (elim b as (λ c. Meanings) [
-      | true ↦ meaningsBy (uncompromised C (InList W)) es (C ∷ [])
-      | false ↦ meanings W (e ∷ es) []
-    ])) (sym k) (λ d r. iff-refl)
+  -- without a definition of name 0 −
+  plain-same : (W : World) (xs : List Entry) (es : List Expr) → keysListed xs ≡ false → Same (meanings format W es []) (transformed format W xs es)
+  unfolding transformed meaningsBy
+  plain-same W xs [] k = λ d r. iff-refl
+  plain-same W xs (e ∷ es) k =
+      let C = Belongs format W [] e [] in
+      subst (λ (b : Bool). Same (meanings format W (e ∷ es) []) (elim b as (λ c. Meanings) [
+        | true ↦ meaningsBy format (uncompromised C (InList W)) es (C ∷ [])
+        | false ↦ meanings format W (e ∷ es) []
+      ])) (sym k) (λ d r. iff-refl)
 
 -- names and polarities stay
 
@@ -224,8 +228,11 @@ pub theorem : Theorem
 unfolding output
 theorem policy out h = let t = rewritten-from policy out h in go t (keysListed (t .entries)) refl (t .outputIs)
   where
+    kept : formatOf out ≡ formatOf policy
+    kept = let t = rewritten-from policy out h in subst (λ (ws : List ℕ). formatOf ws ≡ formatOf policy) (t .outputIs) (output-format policy (t .entries) (t .source))
+
     go : (t : RewrittenFrom policy out) (b : Bool) → keysListed (t .entries) ≡ b →
-        (elim b as (λ c. List ℕ) [ true ↦ policyWords (getD policy 0 0) (t .entries) (vetLater (t .source)) | false ↦ policy ]) ≡ out → Means policy out
+        (elim b as (λ c. List ℕ) [ true ↦ policyWords (formatOf policy) (t .entries) (vetLater (t .source)) | false ↦ policy ]) ≡ out → Means policy out
     go t true b f =
         let xs = t .entries in
         let es = t .source in
@@ -248,7 +255,8 @@ theorem policy out h = let t = rewritten-from policy out h in go t (keysListed (
           names = placed-same (λ x. x .name) (λ x a s. refl) due xs (vetLater es) m;
           polarities = placed-same (λ x. x .polarity) (λ x a s. refl) due xs (vetLater es) m;
           positive = placed-positive due xs (vetLater es) (external-positive xs es l (t .external));
-          same = λ W d r. vetted-same W xs es l (T-true b) (t .external) d r;
+          format = kept;
+          same = λ W d r. rw kept (vetted-same (formatOf policy) W xs es l (T-true b) (t .external) d r);
         }
     go t false b f =
         let xs = t .entries in
@@ -267,7 +275,8 @@ theorem policy out h = let t = rewritten-from policy out h in go t (keysListed (
           names = refl;
           polarities = refl;
           positive = external-positive xs es (accepted-lengths (policy-accepted policy xs es (t .known) (t .checks) .definitions)) (t .external);
-          same = λ W d r. plain-same W xs es b d r;
+          format = kept;
+          same = λ W d r. rw kept (plain-same (formatOf policy) W xs es b d r);
         }
 
 -- what passed is one thing
@@ -280,4 +289,4 @@ unfolding output
 unchanged policy out entries source known c k h =
     let t = rewritten-from policy out h in
     let e : keysListed (t .entries) ≡ false = ap keysListed (passed-once policy (t .checks) c .0) ∙ k in
-    sym (t .outputIs) ∙ ap (λ (b : Bool). elim b as (λ c. List ℕ) [ true ↦ policyWords (getD policy 0 0) (t .entries) (vetLater (t .source)) | false ↦ policy ]) e
+    sym (t .outputIs) ∙ ap (λ (b : Bool). elim b as (λ c. List ℕ) [ true ↦ policyWords (formatOf policy) (t .entries) (vetLater (t .source)) | false ↦ policy ]) e

@@ -15,6 +15,7 @@ use Rattle.rows.proofs.Case.{Case, isTrue, isFalse, split, and-true}
 use Rattle.certificates.specs.Store.{soundStore}
 use Rattle.certificates.specs.Link.{soundLinks}
 use Rattle.certificates.specs.Stores.{Stores, heldIn}
+use Rattle.policy.specs.Format.{formatOf}
 use Rattle.policy.specs.Syntax.{Expr}
 use Rattle.policy.specs.Polarity.{Verdict}
 use Rattle.policy.specs.Checking.{Checked, checked, check}
@@ -34,13 +35,13 @@ pub end-verdict : (v w : Verdict) (j : ℕ) (S : RowSet) (a : Result RowSet) →
 end-verdict v w j S (done s k) e = cc
 end-verdict v w j S (refused n) e = not-both (sym e)
 
-pub read-verdict : (names : Evidence) (es : List Expr) (q : Expr) (v : Verdict) (sets : List RowSet) (k : ℕ) (w : Verdict) (j : ℕ) (S : RowSet) →
-    readFrom names es q v sets k ≡ answered w j S → v ≡ w
+pub read-verdict : (format : ℕ) (names : Evidence) (es : List Expr) (q : Expr) (v : Verdict) (sets : List RowSet) (k : ℕ) (w : Verdict) (j : ℕ) (S : RowSet) →
+    readFrom format names es q v sets k ≡ answered w j S → v ≡ w
 unfolding readFrom
-read-verdict names [] q v sets k w j S h = end-verdict v w j S (read names sets q [] k) h
-read-verdict names (e ∷ es) q v sets k w j S h = go (λ s i f. read-verdict names es q v (sets ++ (s ∷ [])) i w j S f) (read names sets e [] k) refl
+read-verdict format names [] q v sets k w j S h = end-verdict v w j S (read format names sets q [] k) h
+read-verdict format names (e ∷ es) q v sets k w j S h = go (λ s i f. read-verdict format names es q v (sets ++ (s ∷ [])) i w j S f) (read format names sets e [] k) refl
   where
-    go : ((s : RowSet) (i : ℕ) → readFrom names es q v (sets ++ (s ∷ [])) i ≡ answered w j S → v ≡ w) → (a : Result RowSet) → read names sets e [] k ≡ a → v ≡ w
+    go : ((s : RowSet) (i : ℕ) → readFrom format names es q v (sets ++ (s ∷ [])) i ≡ answered w j S → v ≡ w) → (a : Result RowSet) → read format names sets e [] k ≡ a → v ≡ w
     go ih (done s i) f = ih s i (rw (f, readFrom) at h)
     go ih (refused n) f = not-both (sym (let g : Query.refused n (length sets) ≡ answered w j S = rw (f, readFrom) at h in g))
 
@@ -92,7 +93,10 @@ call-alike s c d p q m r = call-on s c ∙ ap (λ (minute : ℕ). callOn (soundn
     go (Checking.refused n part) f = let g : check (c .policy) (c .query) ≡ Checking.refused n part = rw (p, q) f in rw (f, g, callOn)
     go (checked es e v) f =
         let g : check (c .policy) (c .query) ≡ checked es e v = rw (p, q) f in
-        let same : outcomeFrom (namesAt s d) c ≡ outcomeFrom (namesAt s d) d = rw (f, g, r, outcomeFrom) in
+        let same : outcomeFrom (namesAt s d) c ≡ outcomeFrom (namesAt s d) d = rw (f, g, r, outcomeFrom) (ap (λ (policy : List ℕ). elim (roomy d) as (λ b. Outcome) [
+          | false ↦ Query.refused shortArea noPart
+          | true ↦ readFrom (formatOf policy) (namesAt s d) es e v [] 0
+        ]) p) in
         rw (f, g, callOn) (ap (storesFirst (soundness s)) same)
 
 -- an answered call: the policy and the query passed, the areas are long enough, and the reading was done
@@ -101,7 +105,7 @@ pub record AnsweredBy (names : Evidence) (c : Call) (w : Verdict) (k : ℕ) (S :
   pub q : Expr
   pub passes : check (c .policy) (c .query) ≡ checked es q w
   pub room : roomy c ≡ true
-  pub reads : readFrom names es q w [] 0 ≡ answered w k S
+  pub reads : readFrom (formatOf (c .policy)) names es q w [] 0 ≡ answered w k S
 
 pub answered-by : (names : Evidence) (c : Call) (w : Verdict) (k : ℕ) (S : RowSet) → outcomeFrom names c ≡ answered w k S → AnsweredBy names c w k S
 unfolding outcomeFrom
@@ -111,14 +115,14 @@ answered-by names c w k S h = go (check (c .policy) (c .query)) refl (split (roo
     go (Checking.refused n part) f b = not-both (sym (let g : Query.refused n part ≡ answered w k S = rw (f, outcomeFrom) at h in g))
     go (checked es q v) f (isFalse b) = not-both (sym (let g : Query.refused shortArea noPart ≡ answered w k S = rw (f, b, outcomeFrom) at h in g))
     go (checked es q v) f (isTrue b) =
-        let g : readFrom names es q v [] 0 ≡ answered w k S = rw (f, b, outcomeFrom) at h in
-        let e : v ≡ w = read-verdict names es q v [] 0 w k S g in
+        let g : readFrom (formatOf (c .policy)) names es q v [] 0 ≡ answered w k S = rw (f, b, outcomeFrom) at h in
+        let e : v ≡ w = read-verdict (formatOf (c .policy)) names es q v [] 0 w k S g in
         record {
           es = es;
           q = q;
           passes = f ∙ ap (λ (u : Verdict). checked es q u) e;
           room = b;
-          reads = subst (λ (u : Verdict). readFrom names es q u [] 0 ≡ answered w k S) e g;
+          reads = subst (λ (u : Verdict). readFrom (formatOf (c .policy)) names es q u [] 0 ≡ answered w k S) e g;
         }
 
 -- an answered call has sound stores

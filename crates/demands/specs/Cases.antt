@@ -1,14 +1,15 @@
--- Document 01, "Portal cases" a to l, certificates through their terms, and links, from the words filed and the words of policy and query to the reply and the
--- set. (P and Q are spelled out where they are judged, in `policy/specs/Judged.antt`.)
+-- Document 01, "Portal cases" a to l, and document 02's terms (N4), links (N5) and formats (N6) by example, from the words filed and the words of policy and query
+-- to the reply and the set. (P and Q are spelled out where they are judged, in `policy/specs/Judged.antt`.)
 use Prim.Native.Nat.{ℕ}
 use mathlib.Core.Path.{_≡_}
-use mathlib.Core.List.{List, [], _∷_}
+use mathlib.Core.List.{List, [], _∷_, _++_}
 use lib.ListN.{replicate}
 use Rattle.rows.specs.Word.{All}
 use Rattle.rows.specs.Sets.{only, allBut}
 use Rattle.certificates.specs.Stores.{AnyFiling, certificate, link, storesAt}
 use Rattle.policy.specs.Polarity.{exact, lower, upper}
-use Rattle.policy.specs.Judged.{k1, P, Q, noDefinitions as noDefinitions}
+use Rattle.policy.specs.Format.{equalWidths, widerRows}
+use Rattle.policy.specs.Judged.{k1, P, Q, noDefinitions, inFormat, one, vetted, drawAll}
 use Rattle.demands.specs.Query.{Outcome, answered, refused, lent, queryCall}
 
 -- "An empty store is a sound one with the count 0, whatever words follow."
@@ -163,6 +164,88 @@ links =
     (answered lower 2 (only ((7 ∷ []) ∷ [])))
     ∷ []
 
+-- Document 02, N6: "Observatories now append an epoch to their rows. In a policy of format 2 a pattern of width w matches every row of at least w atoms by its
+-- first w. Format 1 keeps equal widths. The query follows its policy's format."
+
+-- asked at a minute under a policy, first in format 1, then in format 2
+abbrev inBoth : List AnyFiling → ℕ → List ℕ → List ℕ → Outcome → Outcome → List Case
+inBoth filings minute policy query equal wider =
+    record { filings = filings; minute = minute; policy = inFormat equalWidths policy; query = query; outcome = equal }
+    ∷ record { filings = filings; minute = minute; policy = inFormat widerRows policy; query = query; outcome = wider }
+    ∷ []
+
+-- row (x, y) is in the key's list n +; it is not in the key's list n −
+abbrev pairIn : ℕ → ℕ → ℕ → ℕ → AnyFiling
+pairIn key n x y = certificate (key ∷ n ∷ 0 ∷ 2 ∷ x ∷ y ∷ 0 ∷ 0 ∷ 0 ∷ 1 ∷ [])
+
+abbrev pairNotIn : ℕ → ℕ → ℕ → ℕ → AnyFiling
+pairNotIn key n x y = certificate (key ∷ n ∷ 1 ∷ 2 ∷ x ∷ y ∷ 0 ∷ 0 ∷ 0 ∷ 1 ∷ [])
+
+abbrev threeIn : ℕ → ℕ → ℕ → ℕ → ℕ → AnyFiling
+threeIn key n x y z = certificate (key ∷ n ∷ 0 ∷ 3 ∷ x ∷ y ∷ z ∷ 0 ∷ 0 ∷ 1 ∷ [])
+
+-- k1's list 1 + has (6, 1, 2, 3), (7), (8, 100) and (9, 100, 200)
+abbrev widths : List AnyFiling
+widths = certificate (k1 ∷ 1 ∷ 0 ∷ 4 ∷ 6 ∷ 1 ∷ 2 ∷ 3 ∷ 0 ∷ 1 ∷ []) ∷ isIn k1 1 7 ∷ pairIn k1 1 8 100 ∷ threeIn k1 1 9 100 200 ∷ []
+
+-- it has (5, 5, 100), (5, 6, 5), (6, 6) and (6, 7, 7)
+abbrev twice : List AnyFiling
+twice = threeIn k1 1 5 5 100 ∷ threeIn k1 1 5 6 5 ∷ pairIn k1 1 6 6 ∷ threeIn k1 1 6 7 7 ∷ []
+
+-- one draw by a pattern, and a head
+abbrev drawnBy : List ℕ → List ℕ → List ℕ → List ℕ
+drawnBy e pattern head = 7 ∷ 1 ∷ 1 ∷ (e ++ (pattern ++ head))
+
+-- x and y are variables 0 and 1: the head (x), the pattern (x, y) that brings them, the head (x, y)
+abbrev headX : List ℕ
+headX = 1 ∷ 1 ∷ 0 ∷ []
+
+abbrev slotsXY : List ℕ
+slotsXY = 2 ∷ 2 ∷ 0 ∷ 2 ∷ 1 ∷ []
+
+abbrev headXY : List ℕ
+headXY = 2 ∷ 1 ∷ 0 ∷ 1 ∷ 1 ∷ []
+
+-- k1's list 1 + contains k2's, and row (7, 100) is in that from minute 10 to 20
+abbrev widerForATerm : List AnyFiling
+widerForATerm = contains k1 1 k2 1 ∷ certificate (k2 ∷ 1 ∷ 0 ∷ 2 ∷ 7 ∷ 100 ∷ 0 ∷ 0 ∷ 10 ∷ 20 ∷ []) ∷ []
+
+unfoldable pub formats : List Case
+formats =
+    -- x from every width; each row is a draw, in either format
+    inBoth widths 0 noDefinitions (drawAll (plusList k1 1)) (answered lower 4 (only ((7 ∷ []) ∷ []))) (answered lower 4 (only ((6 ∷ []) ∷ (7 ∷ []) ∷ (8 ∷ []) ∷ (9 ∷ []) ∷ [])))
+    -- (x, y): (7) is too narrow
+    ++ inBoth widths 0 noDefinitions (drawnBy (plusList k1 1) slotsXY headXY) (answered lower 4 (only ((8 ∷ 100 ∷ []) ∷ [])))
+    (answered lower 4 (only ((6 ∷ 1 ∷ []) ∷ (8 ∷ 100 ∷ []) ∷ (9 ∷ 100 ∷ []) ∷ [])))
+    -- (100, x): the last two of (9, 100, 200) do not count
+    ++ inBoth widths 0 noDefinitions (drawnBy (plusList k1 1) (2 ∷ 0 ∷ 100 ∷ 2 ∷ 0 ∷ []) headX) (answered lower 4 (only [])) (answered lower 4 (only []))
+    -- (x, x), "a variable from earlier in the pattern": nor does the third of (5, 6, 5)
+    ++ inBoth twice 0 noDefinitions (drawnBy (plusList k1 1) (2 ∷ 2 ∷ 0 ∷ 1 ∷ 0 ∷ []) headX) (answered lower 4 (only ((6 ∷ []) ∷ []))) (answered lower 4 (only ((5 ∷ []) ∷ (6 ∷ []) ∷ [])))
+    -- x from list 1, then the same x from list 3, whatever its epoch there; in format 1 the second draw is not reached
+    ++ inBoth (pairIn k1 1 7 100 ∷ pairIn k1 3 7 200 ∷ pairIn k1 3 8 200 ∷ []) 0 noDefinitions (7 ∷ 2 ∷ 1 ∷ 4 ∷ 0 ∷ k1 ∷ 1 ∷ 0 ∷ 1 ∷ 2 ∷ 0 ∷ 1 ∷ 4 ∷ 0 ∷ k1 ∷ 3 ∷ 0 ∷ 1 ∷ 1 ∷ 0 ∷ headX)
+    (answered lower 1 (only [])) (answered lower 3 (only ((7 ∷ []) ∷ [])))
+    -- exact: x from {(5), (6, 100)}
+    ++ inBoth [] 0 noDefinitions (drawAll (1 ∷ 2 ∷ 1 ∷ 0 ∷ 5 ∷ 2 ∷ 0 ∷ 6 ∷ 0 ∷ 100 ∷ [])) (answered exact 2 (only ((5 ∷ []) ∷ []))) (answered exact 2 (only ((5 ∷ []) ∷ (6 ∷ []) ∷ [])))
+    -- upper: x from {(5, 100), (6, 100)}, absent from list 1 +, which has (5) and (6, 100): an absent guard's row is a whole row, in either format
+    ++ inBoth (isIn k1 1 5 ∷ pairIn k1 1 6 100 ∷ []) 0 noDefinitions
+    (7 ∷ 2 ∷ 1 ∷ 1 ∷ 2 ∷ 2 ∷ 0 ∷ 5 ∷ 0 ∷ 100 ∷ 2 ∷ 0 ∷ 6 ∷ 0 ∷ 100 ∷ 1 ∷ 2 ∷ 0 ∷ 4 ∷ 1 ∷ 1 ∷ 0 ∷ 4 ∷ 0 ∷ k1 ∷ 1 ∷ 0 ∷ headX)
+    (answered upper 2 (only [])) (answered upper 2 (only ((6 ∷ []) ∷ [])))
+    -- P, (7, 100) being released: 7 is passed where (7) is certified as not withdrawn,
+    ++ inBoth (pairIn k1 1 7 100 ∷ isNotIn k1 2 7 ∷ []) 0 P Q (answered lower 1 (only [])) (answered lower 1 (only ((7 ∷ []) ∷ [])))
+    -- and not where (7, 100) alone is
+    ++ inBoth (pairIn k1 1 7 100 ∷ pairNotIn k1 2 7 100 ∷ []) 0 P Q (answered lower 1 (only [])) (answered lower 1 (only []))
+    -- definition 0 has the pairs (x, y) of list 1, the query draws x from it: both in the policy's format
+    ++ inBoth widths 0 (one 0 (drawnBy (plusList k1 1) slotsXY headXY)) (drawAll (3 ∷ 0 ∷ [])) (answered lower 5 (only [])) (answered lower 7 (only ((6 ∷ []) ∷ (8 ∷ []) ∷ (9 ∷ []) ∷ [])))
+    -- code 8 with a definition that has (k1, 5) alone, not the one-atom row of the issuer: the list is read
+    ++ inBoth (isIn k1 1 7 ∷ []) 0 (one 1 (1 ∷ 1 ∷ 2 ∷ 0 ∷ k1 ∷ 0 ∷ 5 ∷ [])) (vetted 0 0) (answered lower 0 (only ((7 ∷ []) ∷ []))) (answered lower 0 (only ((7 ∷ []) ∷ [])))
+    -- a wider row through a link, while its certificate holds and after
+    ++ inBoth widerForATerm 19 noDefinitions (drawAll (plusList k1 1)) (answered lower 1 (only [])) (answered lower 1 (only ((7 ∷ []) ∷ [])))
+    ++ inBoth widerForATerm 20 noDefinitions (drawAll (plusList k1 1)) (answered lower 0 (only [])) (answered lower 0 (only []))
+    -- "Refusal 1 now lets formats 1 and 2 pass", and no others
+    ++ (record { filings = []; minute = 0; policy = inFormat 0 noDefinitions; query = 1 ∷ 0 ∷ []; outcome = refused 1 17 }
+    ∷ record { filings = []; minute = 0; policy = inFormat 3 noDefinitions; query = 1 ∷ 0 ∷ []; outcome = refused 1 17 }
+    ∷ [])
+
 abbrev pub AllHold : Type 0
 AllHold = All Holds cases
 
@@ -171,3 +254,6 @@ TermsHold = All Holds terms
 
 abbrev pub LinksHold : Type 0
 LinksHold = All Holds links
+
+abbrev pub FormatsHold : Type 0
+FormatsHold = All Holds formats

@@ -15,6 +15,7 @@ use Rattle.certificates.specs.Filing.{FilingReply, filed, held, refused, Kind, 
 use Rattle.certificates.specs.Store.{soundStore, certificateKind}
 use Rattle.certificates.specs.Link.{linkKind}
 use Rattle.certificates.specs.Stores.{Stores, Held, heldIn}
+use Rattle.policy.specs.Format.{formatOf}
 use Rattle.policy.specs.Syntax.{Expr}
 use Rattle.policy.specs.Polarity.{Verdict}
 use Rattle.policy.specs.Checking.{checked, check}
@@ -57,8 +58,9 @@ pub record Theorem : Type 0 where
   pub answerStays : (s : Stores) (c : Call) (n part : ℕ) → queryCall s c ≡ Query.refused n part → answerArea (queryCall s c) (c .answer) ≡ c .answer
   -- "draws are 0"
   pub noDraws : (s : Stores) (c : Call) (n part : ℕ) → queryCall s c ≡ Query.refused n part → drawsOf (queryCall s c) ≡ 0
-  -- 12 is never met: what passed the checks draws only from what is not open, and that is read as a finite set, whatever is held
+  -- 12 is never met: what passed the checks draws only from what is not open, and that is read as a finite set, whatever is held and
+  -- whichever format the policy has
   pub never12 : (policy query : List ℕ) (es : List Expr) (q : Expr) (v : Verdict) → check policy query ≡ checked es q v → (h : Held) (part : ℕ) →
-      ¬ (readFrom (namesHeld h) es q v [] 0 ≡ Query.refused complementDrawn part)
+      ¬ (readFrom (formatOf policy) (namesHeld h) es q v [] 0 ≡ Query.refused complementDrawn part)
   -- "no result depends on their earlier words": those of the definition area and of the scratch area
   pub earlierWords : (s : Stores) (c d : Call) → Alike c d → (queryCall s c ≡ queryCall s d) × (answerArea (queryCall s c) (c .answer) ≡ answerArea (queryCall s d) (d .answer))

@@ -9,7 +9,8 @@
 --
 -- Document 02, N4: "The worlds of a minute are those where all certificates accepted so far that hold then are true; demand 3 speaks of these, and two points
 -- are compared at one minute." N5: "Demand 3's lists now hold filings of both kinds, into two empty stores, and 'held' counts those of the filing's own kind
--- alone. In its worlds the links accepted so far are true as well."
+-- alone. In its worlds the links accepted so far are true as well." N6: "The bounds users rely on are shown over the matching rule, for both": a policy is of
+-- either format.
 use Prim.Native.Nat.{ℕ}
 use mathlib.Core.Path.{_≡_}
 use mathlib.Core.Logic.{_↔_}

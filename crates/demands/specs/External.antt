@@ -1,4 +1,5 @@
 -- Document 02, N2: "The rewritten policy means what the source's transformation means. Without a definition of name 0 −, the output equals the input."
+-- With N6 it means that in the policy's format, which it keeps.
 use Prim.Native.Nat.{ℕ, _≤_, _<_}
 use mathlib.Core.Path.{_≡_}
 use mathlib.Core.Logic.{_⊎_, _↔_}
@@ -11,6 +12,7 @@ use Rattle.rows.specs.Row.{Row, IsRow}
 use Rattle.rows.specs.Name.{plus}
 use Rattle.rows.specs.Sets.{RowSet, has}
 use Rattle.certificates.specs.Stores.{AnyFiling, Stores, storesAt, heldAfter}
+use Rattle.policy.specs.Format.{formatOf}
 use Rattle.policy.specs.Leaf.{finite, listed}
 use Rattle.policy.specs.Syntax.{atom, Expr, leaf}
 use Rattle.policy.specs.Polarity.{Known, lower}
@@ -31,14 +33,14 @@ uncompromised Compromised lists e u p x = (¬ Compromised (e ∷ [])) × lists e
 
 -- section 6: "replacing each subexpression e$u of a positive definition by" that. "The optional distinguished name, Compromised⁻" is definition 0, and every
 -- other definition is positive.
-unfoldable pub transformed : World → List Entry → List Expr → Meanings
+unfoldable pub transformed : ℕ → World → List Entry → List Expr → Meanings
 unfolding keysListed uncompromised BelongsBy meaningsBy InList
-transformed W entries [] = []
-transformed W entries (e ∷ es) =
-    let Compromised = Belongs W [] e [] in
+transformed format W entries [] = []
+transformed format W entries (e ∷ es) =
+    let Compromised = Belongs format W [] e [] in
     elim (keysListed entries) [
-      | true ↦ meaningsBy (uncompromised Compromised (InList W)) es (Compromised ∷ [])
-      | false ↦ meanings W (e ∷ es) []
+      | true ↦ meaningsBy format (uncompromised Compromised (InList W)) es (Compromised ∷ [])
+      | false ↦ meanings format W (e ∷ es) []
     ]
 
 -- ---- what an accepted external policy is rewritten into
@@ -63,13 +65,15 @@ pub record Means (policy out : List ℕ) : Type 1 where
   pub passes : checkPolicy out ≡ passed places target known
   pub short : length out ≤ 8192
   pub words : Words policy → Words out
+  -- it keeps the policy's format
+  pub format : formatOf out ≡ formatOf policy
   -- its definitions are as many, of the same names and polarities
   pub count : length target ≡ length source
   pub names : map (λ x. x .name) places ≡ map (λ x. x .name) entries
   pub polarities : map (λ x. x .polarity) places ≡ map (λ x. x .polarity) entries
   pub positive : Positive places
-  -- in every world each definition has just the rows that the source's transformation of it has
-  pub same : (W : World) (d : ℕ) (r : Row) → getD (meanings W target []) d (λ x. ⊥) r ↔ getD (transformed W entries source) d (λ x. ⊥) r
+  -- in every world each definition, read in the output's format, has just the rows that the source's transformation of it has in the policy's
+  pub same : (W : World) (d : ℕ) (r : Row) → getD (meanings (formatOf out) W target []) d (λ x. ⊥) r ↔ getD (transformed (formatOf policy) W entries source) d (λ x. ⊥) r
 
 abbrev pub Theorem : Type 1
 Theorem = (policy out : List ℕ) → rewrite policy ≡ rewritten out → Means policy out
@@ -102,22 +106,22 @@ unfoldable pub without : ℕ → Lists → Lists
 without key lists e u p x = (¬ (e ≡ key)) × lists e u p x
 
 -- the definitions, that key's lists left out of all but the compromised keys'
-unfoldable pub withoutKey : ℕ → World → List Expr → Meanings
+unfoldable pub withoutKey : ℕ → ℕ → World → List Expr → Meanings
 unfolding without BelongsBy meaningsBy InList
-withoutKey key W [] = []
-withoutKey key W (e ∷ es) = meaningsBy (without key (InList W)) es (Belongs W [] e [] ∷ [])
+withoutKey format key W [] = []
+withoutKey format key W (e ∷ es) = meaningsBy format (without key (InList W)) es (Belongs format W [] e [] ∷ [])
 
 -- A row that compromised keys alone would bring in is in no lower answer to the query 3 d. (Where a link says that a list of another key contains one of a
 -- compromised key, that other key brings the row in.)
 pub record NoneByCompromised (policy : List ℕ) (entries : List Entry) (source : List Expr) (d : ℕ) (S : RowSet) (a : LowerAnswer policy d S) : Type 1 where
   -- in every world where all certificates accepted so far that hold at the call's minute, and all links accepted, are true, each of its rows belongs to the
   -- source's transformation of the definition
-  pub rows : (W : World) → AllTrue W (heldAfter (a .call .minute) (a .point .passed)) → (r : Row) → IsRow r → T (has S r) → getD (transformed W entries source) d (λ x. ⊥) r
+  pub rows : (W : World) → AllTrue W (heldAfter (a .call .minute) (a .point .passed)) → (r : Row) → IsRow r → T (has S r) → getD (transformed (formatOf policy) W entries source) d (λ x. ⊥) r
   -- a key that is compromised in one such world brings none of them in: each belongs to the definition there without that key's lists
-  pub notByKey : keysListed entries ≡ true → (W : World) → AllTrue W (heldAfter (a .call .minute) (a .point .passed)) → (key : ℕ) → getD (meanings W source []) 0 (λ x. ⊥) (key ∷ []) →
-      (r : Row) → IsRow r → T (has S r) → getD (withoutKey key W source) d (λ x. ⊥) r
+  pub notByKey : keysListed entries ≡ true → (W : World) → AllTrue W (heldAfter (a .call .minute) (a .point .passed)) → (key : ℕ) → getD (meanings (formatOf policy) W source []) 0 (λ x. ⊥) (key ∷ []) →
+      (r : Row) → IsRow r → T (has S r) → getD (withoutKey (formatOf policy) key W source) d (λ x. ⊥) r
   -- so where the definition is a name of that key and nothing else, the answer has no row at all
-  pub noRow : keysListed entries ≡ true → (W : World) → AllTrue W (heldAfter (a .call .minute) (a .point .passed)) → (key : ℕ) → getD (meanings W source []) 0 (λ x. ⊥) (key ∷ []) →
+  pub noRow : keysListed entries ≡ true → (W : World) → AllTrue W (heldAfter (a .call .minute) (a .point .passed)) → (key : ℕ) → getD (meanings (formatOf policy) W source []) 0 (λ x. ⊥) (key ∷ []) →
       (n : ℕ) → 0 < d → getD source d (leaf (finite [])) ≡ leaf (listed (atom key) n plus) → (r : Row) → IsRow r → ¬ T (has S r)
 
 abbrev pub NotReliedOn : Type 1

@@ -1,5 +1,5 @@
 -- Document 01, "Reading" and the refusal table: the query call, in the order "1, 2; each definition, then the query; 8; 11; then reading, first met", with
--- document 02's 18 (N5) "in a query right after 8".
+-- document 02's 18 (N5) "in a query right after 8". N6: "The query follows its policy's format": it is read in that, as the definitions are.
 use Prim.Native.Nat.{ℕ}
 use mathlib.Core.Bool.{Bool, true, false, _&&_}
 use mathlib.Core.List.{List, [], _∷_, _++_}
@@ -11,6 +11,7 @@ use Rattle.rows.specs.Layout.{setRoom, written}
 use Rattle.certificates.specs.Store.{soundStore}
 use Rattle.certificates.specs.Link.{soundLinks}
 use Rattle.certificates.specs.Stores.{Stores, heldIn}
+use Rattle.policy.specs.Format.{formatOf}
 use Rattle.policy.specs.Syntax.{Expr}
 use Rattle.policy.specs.Polarity.{Verdict}
 use Rattle.policy.specs.Checking.{checked, check}
@@ -25,12 +26,12 @@ pub data Outcome : Type 0 where
   refused : ℕ → ℕ → Outcome
 
 -- "Definitions are read once, in file order, then the query"; "the count starts at 0 and runs through definitions and query".
--- Still to read are these definitions and the query; read are these sets, with so many draws.
-unfoldable pub readFrom : Evidence → List Expr → Expr → Verdict → List RowSet → ℕ → Outcome
+-- In a policy of this format, still to read are these definitions and the query; read are these sets, with so many draws.
+unfoldable pub readFrom : ℕ → Evidence → List Expr → Expr → Verdict → List RowSet → ℕ → Outcome
 unfolding read
-readFrom names [] q v sets k = elim (read names sets q [] k) [ done s k′ ↦ answered v k′ s | Reads.refused n ↦ refused n queryPart ]
-readFrom names (e ∷ es) q v sets k = elim (read names sets e [] k) [
-  | done s k′ ↦ readFrom names es q v (sets ++ (s ∷ [])) k′
+readFrom format names [] q v sets k = elim (read format names sets q [] k) [ done s k′ ↦ answered v k′ s | Reads.refused n ↦ refused n queryPart ]
+readFrom format names (e ∷ es) q v sets k = elim (read format names sets e [] k) [
+  | done s k′ ↦ readFrom format names es q v (sets ++ (s ∷ [])) k′
   | Reads.refused n ↦ refused n (length sets)
 ]
 
@@ -58,14 +59,14 @@ lent policy query minute answer definitions scratch = record { policy = policy; 
 unfoldable pub roomy : Call → Bool
 roomy c = leb setRoom (length (c .answer)) && (leb definitionRoom (length (c .definitions)) && leb scratchRoom (length (c .scratch)))
 
--- an accepted policy and query, read from this evidence if the areas are long enough
+-- an accepted policy and query, read in the policy's format from this evidence if the areas are long enough
 unfoldable pub outcomeFrom : Evidence → Call → Outcome
 unfolding check roomy readFrom
 outcomeFrom names c = elim (check (c .policy) (c .query)) [
   | Checking.refused n part ↦ refused n part
   | checked es q v ↦ elim (roomy c) [
     | false ↦ refused shortArea noPart
-    | true ↦ readFrom names es q v [] 0
+    | true ↦ readFrom (formatOf (c .policy)) names es q v [] 0
   ]
 ]
 

@@ -8,6 +8,7 @@ use Rattle.refusals.specs.RefusalTable.{badStore, badLink, shortArea, noPart}
 use Rattle.certificates.specs.Store.{soundStore}
 use Rattle.certificates.specs.Link.{soundLinks}
 use Rattle.certificates.specs.Stores.{Stores}
+use Rattle.policy.specs.Format.{formatOf}
 use Rattle.policy.specs.Syntax.{Expr}
 use Rattle.policy.specs.Polarity.{Verdict}
 use Rattle.policy.specs.Checking.{checked, check}
@@ -41,6 +42,6 @@ pub data Refusal (sound : Soundness) (names : Evidence) (c : Call) : ℕ → ℕ
   -- 11
   short : {es : List Expr} {q : Expr} {v : Verdict} → check (c .policy) (c .query) ≡ checked es q v → sound ≡ allSound → roomy c ≡ false →
       Refusal sound names c shortArea noPart
-  -- 12, 13 and 14, the first that is met while reading
+  -- 12, 13 and 14, the first that is met while reading in the policy's format
   reading : {es : List Expr} {q : Expr} {v : Verdict} {n part : ℕ} → check (c .policy) (c .query) ≡ checked es q v → sound ≡ allSound → roomy c ≡ true →
-      readFrom names es q v [] 0 ≡ Query.refused n part → Refusal sound names c n part
+      readFrom (formatOf (c .policy)) names es q v [] 0 ≡ Query.refused n part → Refusal sound names c n part

@@ -20,7 +20,7 @@ use Rattle.policy_table.specs.Entries.{entryPlace, entriesFrom}
 use Rattle.policy_table.proofs.PartAnswers.{table-parts, inside, Listed, listed-of, length-entries}
 use Rattle.meaning.specs.Reading.{done, refused}
 use Rattle.read_values.specs.Answers.{Filled, setReadIs, IfDone}
-use Rattle.read_values.specs.From.{From, setsIn, names, sets, SoundFrom}
+use Rattle.read_values.specs.From.{From, withSets, setsIn, names, sets, SoundFrom}
 use Rattle.read_values.specs.declared.Read.{Read}
 use Rattle.read_values.specs.declared.Read.the-variants as read
 use Rattle.read_expressions.specs.Readers.{reading, AskWhole, SayWhole}
@@ -119,20 +119,20 @@ none-left {policy} {n} {d} {rest} h l =
 -- ---- reading on
 
 module _ (f : From) (e : Expr) (others : List Expr) (q : Expr) (v : Verdict) (k : ℕ) where
-  read-done : {s : RowSet} {j : ℕ} → reading f e [] k ≡ done s j → readFrom (names f) (e ∷ others) q v (sets f) k ≡ readFrom (names f) others q v (sets f ++ (s ∷ [])) j
+  read-done : {s : RowSet} {j : ℕ} → reading f e [] k ≡ done s j → readFrom (f .format) (names f) (e ∷ others) q v (sets f) k ≡ readFrom (f .format) (names f) others q v (sets f ++ (s ∷ [])) j
   unfolding readFrom
   read-done h = rw (h, readFrom)
 
-  read-refused : {n : ℕ} → reading f e [] k ≡ refused n → readFrom (names f) (e ∷ others) q v (sets f) k ≡ Query.refused n (length (sets f))
+  read-refused : {n : ℕ} → reading f e [] k ≡ refused n → readFrom (f .format) (names f) (e ∷ others) q v (sets f) k ≡ Query.refused n (length (sets f))
   unfolding readFrom
   read-refused h = rw (h, readFrom)
 
 module _ (f : From) (q : Expr) (v : Verdict) (k : ℕ) where
-  query-done : {s : RowSet} {j : ℕ} → reading f q [] k ≡ done s j → readFrom (names f) [] q v (sets f) k ≡ answered v j s
+  query-done : {s : RowSet} {j : ℕ} → reading f q [] k ≡ done s j → readFrom (f .format) (names f) [] q v (sets f) k ≡ answered v j s
   unfolding readFrom
   query-done h = rw (h, readFrom)
 
-  reading-refused : {n : ℕ} → reading f q [] k ≡ refused n → readFrom (names f) [] q v (sets f) k ≡ Query.refused n queryPart
+  reading-refused : {n : ℕ} → reading f q [] k ≡ refused n → readFrom (f .format) (names f) [] q v (sets f) k ≡ Query.refused n queryPart
   unfolding readFrom
   reading-refused h = rw (h, readFrom)
 
@@ -163,15 +163,15 @@ module _ {s : Stores} {policy : List ℕ} {count : ℕ} {definitions scratch : L
 pub record Rest (policy : List ℕ) (count : ℕ) (f : From) (draws : ℕ) (es : List Expr) (q : Expr) (v : Verdict) : Type 0 where
   pub rest : List Expr
   pub left : Left policy count (f .known) rest
-  pub goes : readFrom (names f) es q v [] 0 ≡ readFrom (names f) rest q v (sets f) draws
+  pub goes : readFrom (f .format) (names f) es q v [] 0 ≡ readFrom (f .format) (names f) rest q v (sets f) draws
 
 pub record ReadSoFar (policy : List ℕ) (count : ℕ) (f : From) (draws : ℕ) : Type 0 where
   pub few : f .known ≤ count
   pub sound : SoundFrom f
   pub means : (query : List ℕ) (es : List Expr) (q : Expr) (v : Verdict) → check policy query ≡ checked es q v → Rest policy count f draws es q v
 
-pub none-read : {minute : ℕ} {s : Stores} {policy : List ℕ} {count : ℕ} {definitions scratch : List ℕ} → ReadyPolicy s policy count definitions scratch →
-    ReadSoFar policy count (record { minute = minute; stores = s; defs = definitions; known = 0 }) 0
+pub none-read : {minute format : ℕ} {s : Stores} {policy : List ℕ} {count : ℕ} {definitions scratch : List ℕ} → ReadyPolicy s policy count definitions scratch →
+    ReadSoFar policy count (record { minute = minute; format = format; stores = s; defs = definitions; known = 0 }) 0
 unfolding setsIn
 none-read {policy = policy} ready = record {
   few = omega arith;
@@ -195,16 +195,16 @@ module _ {policy : List ℕ} {count : ℕ} {f : From} {draws : ℕ} (before : Re
     module _ {r : Read} {scratch : List ℕ} (said : SayWhole f words draws r scratch) where
       -- the next definition's reading comes to what the code answered
       next-means : (query : List ℕ) (es : List Expr) (q : Expr) (v : Verdict) → check policy query ≡ checked es q v →
-          (e : Expr) × (others : List Expr) × (readFrom (names f) es q v [] 0 ≡ readFrom (names f) (e ∷ others) q v (sets f) draws) × (reading f e [] draws ≡ setReadIs r scratch) × Left policy count (f .known + 1) others
+          (e : Expr) × (others : List Expr) × (readFrom (f .format) (names f) es q v [] 0 ≡ readFrom (f .format) (names f) (e ∷ others) q v (sets f) draws) × (reading f e [] draws ≡ setReadIs r scratch) × Left policy count (f .known + 1) others
       next-means query es q v h =
           let b = before .means query es q v h in
           let n = next more (b .left) in
-          (n .e, n .others, b .goes ∙ ap (λ (xs : List Expr). readFrom (names f) xs q v (sets f) draws) (n .is), said .means (n .e) (rw is (n .parses)), n .left)
+          (n .e, n .others, b .goes ∙ ap (λ (xs : List Expr). readFrom (f .format) (names f) xs q v (sets f) draws) (n .is), said .means (n .e) (rw is (n .parses)), n .left)
 
       pub next-read : {total : ℕ} {definitions : List ℕ} → r ≡ read.Done total → 642 * f .known + 642 ≤ length (f .defs) → definitions ≡ put (642 * f .known) (setWords (setIn scratch)) (f .defs) →
-          ReadSoFar policy count (record { minute = f .minute; stores = f .stores; defs = definitions; known = f .known + 1 }) total
+          ReadSoFar policy count (withSets f definitions (f .known + 1)) total
       unfolding setReadIs
-      next-read {total} is-done room e = subst (λ (z : List ℕ). ReadSoFar policy count (record { minute = f .minute; stores = f .stores; defs = z; known = f .known + 1 }) total) (sym e) (record {
+      next-read {total} is-done room e = subst (λ (z : List ℕ). ReadSoFar policy count (withSets f z (f .known + 1)) total) (sym e) (record {
         few = omega arith;
         sound = sound-more (before .sound) (done-filled said is-done) room;
         means = λ query es q v h.
@@ -213,11 +213,11 @@ module _ {policy : List ℕ} {count : ℕ} {f : From} {draws : ℕ} (before : Re
               rest = n .1;
               left = n .4;
               goes = n .2 ∙ read-done f (n .0) (n .1) q v draws (n .3 ∙ ap (λ (x : Read). setReadIs x scratch) is-done)
-                  ∙ ap (λ (ss : List RowSet). readFrom (names f) (n .1) q v ss total) (sym (sets-more (before .sound) (done-filled said is-done) room));
+                  ∙ ap (λ (ss : List RowSet). readFrom (f .format) (names f) (n .1) q v ss total) (sym (sets-more (before .sound) (done-filled said is-done) room));
             };
       })
 
-      pub next-refused : {number : ℕ} → r ≡ read.Refused number → ReadDefinitions (record { minute = f .minute; stores = f .stores; defs = f .defs; known = count }) policy (Refused number (f .known))
+      pub next-refused : {number : ℕ} → r ≡ read.Refused number → ReadDefinitions (withSets f (f .defs) count) policy (Refused number (f .known))
       unfolding SoundIf leftToRead setReadIs
       next-refused {number} is-refused = record {
         sound = tt;
@@ -226,26 +226,26 @@ module _ {policy : List ℕ} {count : ℕ} {f : From} {draws : ℕ} (before : Re
             n .2 ∙ read-refused f (n .0) (n .1) q v draws (n .3 ∙ ap (λ (x : Read). setReadIs x scratch) is-refused) ∙ ap (Query.refused number) (sets-length (f .known) (f .defs));
       }
 
-  pub all-read : count ≤ f .known → ReadDefinitions (record { minute = f .minute; stores = f .stores; defs = f .defs; known = count }) policy (Done draws)
+  pub all-read : count ≤ f .known → ReadDefinitions (withSets f (f .defs) count) policy (Done draws)
   unfolding SoundIf leftToRead
   all-read h =
       let few = before .few in
       let e : f .known ≡ count = omega arith in
-      subst (λ (n : ℕ). ReadDefinitions (record { minute = f .minute; stores = f .stores; defs = f .defs; known = n }) policy (Done draws)) e (record {
+      subst (λ (n : ℕ). ReadDefinitions (withSets f (f .defs) n) policy (Done draws)) e (record {
         sound = before .sound;
         means = λ query es q v p.
             let b = before .means query es q v p in
-            b .goes ∙ ap (λ (xs : List Expr). readFrom (names f) xs q v (sets f) draws) (none-left h (b .left));
+            b .goes ∙ ap (λ (xs : List Expr). readFrom (f .format) (names f) xs q v (sets f) draws) (none-left h (b .left));
       })
 
 -- ---- the query, after the definitions
 
 module _ {f : From} {policy : List ℕ} {progress : Progress} (said : ReadDefinitions f policy progress) where
-  pub definition-refused : {query : List ℕ} {number part verdict : ℕ} {area : List ℕ} → progress ≡ Refused number part → ReadAll (names f) policy query verdict area (Refused number part) area
+  pub definition-refused : {query : List ℕ} {number part verdict : ℕ} {area : List ℕ} → progress ≡ Refused number part → ReadAll (f .format) (names f) policy query verdict area (Refused number part) area
   unfolding leftToRead replyFor answerArea
   definition-refused {query} {number} {part} {area = area} e = record {
     means = λ es q v h w.
-        let o : readFrom (names f) es q v [] 0 ≡ Query.refused number part = said .means query es q v h ∙ ap (leftToRead f q v) e in
+        let o : readFrom (f .format) (names f) es q v [] 0 ≡ Query.refused number part = said .means query es q v h ∙ ap (leftToRead f q v) e in
         (ap replyFor (sym o), ap (λ (x : Outcome). answerArea x area) (sym o));
   }
 
@@ -262,25 +262,25 @@ module _ {f : From} {policy : List ℕ} {progress : Progress} (said : ReadDefini
         }
 
     module _ {query : List ℕ} {r : Read} {scratch : List ℕ} (answer : SayWhole f query before r scratch) where
-      goes : (es : List Expr) (q : Expr) (v : Verdict) → check policy query ≡ checked es q v → readFrom (names f) es q v [] 0 ≡ readFrom (names f) [] q v (sets f) before
+      goes : (es : List Expr) (q : Expr) (v : Verdict) → check policy query ≡ checked es q v → readFrom (f .format) (names f) es q v [] 0 ≡ readFrom (f .format) (names f) [] q v (sets f) before
       unfolding leftToRead
       goes es q v h = said .means query es q v h ∙ ap (leftToRead f q v) is-done
 
       reads : {es : List Expr} {q : Expr} {v : Verdict} → check policy query ≡ checked es q v → reading f q [] before ≡ setReadIs r scratch
       reads {q = q} h = answer .means q (query-parses policy query counted h)
 
-      pub query-refused : {number verdict : ℕ} {area : List ℕ} → r ≡ read.Refused number → ReadAll (names f) policy query verdict area (Refused number queryPart) area
+      pub query-refused : {number verdict : ℕ} {area : List ℕ} → r ≡ read.Refused number → ReadAll (f .format) (names f) policy query verdict area (Refused number queryPart) area
       unfolding setReadIs replyFor answerArea
       query-refused {number} {area = area} e = record {
         means = λ es q v h w.
-            let o : readFrom (names f) es q v [] 0 ≡ Query.refused number queryPart = goes es q v h ∙ reading-refused f q v before (reads h ∙ ap (λ (x : Read). setReadIs x scratch) e) in
+            let o : readFrom (f .format) (names f) es q v [] 0 ≡ Query.refused number queryPart = goes es q v h ∙ reading-refused f q v before (reads h ∙ ap (λ (x : Read). setReadIs x scratch) e) in
             (ap replyFor (sym o), ap (λ (x : Outcome). answerArea x area) (sym o));
       }
 
-      pub query-answered : {draws verdict : ℕ} {area now : List ℕ} → r ≡ read.Done draws → now ≡ written (setIn scratch) area → ReadAll (names f) policy query verdict area (Answered verdict draws) now
+      pub query-answered : {draws verdict : ℕ} {area now : List ℕ} → r ≡ read.Done draws → now ≡ written (setIn scratch) area → ReadAll (f .format) (names f) policy query verdict area (Answered verdict draws) now
       unfolding setReadIs replyFor answerArea
       query-answered {draws} {area = area} e is = record {
         means = λ es q v h w.
-            let o : readFrom (names f) es q v [] 0 ≡ answered v draws (setIn scratch) = goes es q v h ∙ query-done f q v before (reads h ∙ ap (λ (x : Read). setReadIs x scratch) e) in
+            let o : readFrom (f .format) (names f) es q v [] 0 ≡ answered v draws (setIn scratch) = goes es q v h ∙ query-done f q v before (reads h ∙ ap (λ (x : Read). setReadIs x scratch) e) in
             (ap (λ (x : ℕ). Answered x draws) (sym w) ∙ ap replyFor (sym o), is ∙ ap (λ (x : Outcome). answerArea x area) (sym o));
       }

@@ -15,7 +15,7 @@ use Rattle.rows.proofs.Put.{put-length, part-before}
 use Rattle.sets.proofs.Front.{SameFront, set-same}
 use Rattle.sets.proofs.Standing.{Stands, set-fits, copied-stands}
 use Rattle.read_values.specs.Answers.{Filled}
-use Rattle.read_values.specs.From.{From, setsIn, sets, SoundFrom}
+use Rattle.read_values.specs.From.{From, withSets, setsIn, sets, SoundFrom}
 use Rattle.read_values.proofs.Answers.{stands-filled}
 use Rattle.read_steps.proofs.Areas.{filled-same}
 
@@ -66,7 +66,7 @@ sets-same (suc m) a b h =
 
 -- the set of one definition more is put in its place
 abbrev withSet : From → List ℕ → From
-withSet f set = record { minute = f .minute; stores = f .stores; defs = put (642 * f .known) (setWords (setIn set)) (f .defs); known = f .known + 1 }
+withSet f set = withSets f (put (642 * f .known) (setWords (setIn set)) (f .defs)) (f .known + 1)
 
 module _ {f : From} (sound : SoundFrom f) {set : List ℕ} (filled : Filled set) (room : 642 * f .known + 642 ≤ length (f .defs)) where
   fits : 642 * f .known + length (setWords (setIn set)) ≤ length (f .defs)

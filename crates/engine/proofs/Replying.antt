@@ -13,6 +13,7 @@ use Rattle.rows.proofs.Case.{and-true}
 use Rattle.certificates.specs.Store.{soundStore}
 use Rattle.certificates.specs.Link.{soundLinks}
 use Rattle.certificates.specs.Stores.{Stores}
+use Rattle.policy.specs.Format.{formatOf}
 use Rattle.policy.specs.Polarity.{Verdict, verdictWord}
 use Rattle.policy.specs.Judgement.{JudgementReply, verdict, refused, judge}
 use Rattle.judging.specs.Reply.{judgementFor}
@@ -67,11 +68,11 @@ module _ (s : Stores) (c : Call) (v : Verdict) (passes : judge (c .policy) (c .q
             let t = judge-checked (c .policy) (c .query) v .0 passes in
             record { es = t .0; q = t .1; v = v; passes = t .2; sound = sound; links = links; room = enough .1; space = enough .2 }
 
-        pub replies : (word : ℕ) → verdictWord v ≡ word → (r : Reply) (answer : List ℕ) → ReadAll (namesAt s c) (c .policy) (c .query) word (c .answer) r answer → Replied s c r answer s
+        pub replies : (word : ℕ) → verdictWord v ≡ word → (r : Reply) (answer : List ℕ) → ReadAll (formatOf (c .policy)) (namesAt s c) (c .policy) (c .query) word (c .answer) r answer → Replied s c r answer s
         unfolding outcomeFrom
         replies word w r answer said =
             let t = judge-checked (c .policy) (c .query) v .0 passes in
-            let o : queryCall s c ≡ readFrom (namesAt s c) (t .0) (t .1) v [] 0 = call-reads s (namesAt s c) (stores-sound s sound links) c refl ∙ rw (t .2, room, outcomeFrom) in
+            let o : queryCall s c ≡ readFrom (formatOf (c .policy)) (namesAt s c) (t .0) (t .1) v [] 0 = call-reads s (namesAt s c) (stores-sound s sound links) c refl ∙ rw (t .2, room, outcomeFrom) in
             let m = said .means (t .0) (t .1) v (t .2) w in
             record { reply = m .0 ∙ ap replyFor (sym o); area = m .1 ∙ ap (λ (x : Outcome). answerArea x (c .answer)) (sym o); unchanged = refl }
 

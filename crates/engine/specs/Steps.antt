@@ -38,7 +38,7 @@ pub record ReadyPolicy (s : Stores) (policy : List ℕ) (count : ℕ) (definitio
 -- what is left of the reading when the definitions are read, or a refusal was met
 unfoldable pub leftToRead : From → Expr → Verdict → Progress → Outcome
 unfolding readFrom
-leftToRead f q v (Done draws) = readFrom (names f) [] q v (sets f) draws
+leftToRead f q v (Done draws) = readFrom (f .format) (names f) [] q v (sets f) draws
 leftToRead f q v (Refused number part) = refused number part
 
 unfoldable pub SoundIf : From → Progress → Type 0
@@ -48,8 +48,8 @@ SoundIf f (Refused number part) = Unit {0}
 -- all definitions are read, or a refusal was met in one of them, whichever query they are read for
 pub record ReadDefinitions (f : From) (policy : List ℕ) (r : Progress) : Type 0 where
   pub sound : SoundIf f r
-  pub means : (query : List ℕ) (es : List Expr) (q : Expr) (v : Verdict) → check policy query ≡ checked es q v → readFrom (names f) es q v [] 0 ≡ leftToRead f q v r
+  pub means : (query : List ℕ) (es : List Expr) (q : Expr) (v : Verdict) → check policy query ≡ checked es q v → readFrom (f .format) (names f) es q v [] 0 ≡ leftToRead f q v r
 
-pub record ReadAll (held : Evidence) (policy query : List ℕ) (verdict : ℕ) (area : List ℕ) (r : Reply) (now : List ℕ) : Type 0 where
+pub record ReadAll (format : ℕ) (held : Evidence) (policy query : List ℕ) (verdict : ℕ) (area : List ℕ) (r : Reply) (now : List ℕ) : Type 0 where
   pub means : (es : List Expr) (q : Expr) (v : Verdict) → check policy query ≡ checked es q v → verdictWord v ≡ verdict →
-      (r ≡ replyFor (readFrom held es q v [] 0)) × (now ≡ answerArea (readFrom held es q v [] 0) area)
+      (r ≡ replyFor (readFrom format held es q v [] 0)) × (now ≡ answerArea (readFrom format held es q v [] 0) area)

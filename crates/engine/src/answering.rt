@@ -5,6 +5,7 @@ ghost use mathlib.Core.Bool.{true};
 ghost use lib.ListN.{length};
 ghost use Rattle.rows.specs.Layout.{setRoom, setIn, setWords, soundSet, put};
 ghost use Rattle.certificates.specs.Stores.{heldIn};
+ghost use Rattle.policy.specs.Format.{formatOf};
 ghost use Rattle.meaning.specs.Evidence.{namesHeld};
 ghost use Rattle.engine.specs.Steps.{Ready, ReadyPolicy, ReadDefinitions, ReadAll};
 use crate::Reply;
@@ -37,19 +38,24 @@ fn read_definitions(
     policy: &[u32],
     count: usize,
     minute: u32,
+    format: u32,
     store: &[u32],
     links: &[u32],
     definitions: &mut [u32],
     scratch: &mut [u32],
 ) -> Progress
     requires { ⌜ ReadyPolicy (record { store = now store; links = now links }) (now policy) count (now definitions) (now scratch) ⌝ }
-    ensures { λ r. ⌜ ReadDefinitions (record { minute = minute; stores = record { store = now (store .entry); links = now (links .entry) }; defs = now (definitions .exit); known = count }) (now (policy .entry)) r ⌝ }
+    ensures { λ r. ⌜ ReadDefinitions (record { minute = minute; format = format; stores = record { store = now (store .entry); links = now (links .entry) }; defs = now (definitions .exit); known = count }) (now (policy .entry)) r ⌝ }
 {
     let mut draws: u32 = 0;
     let mut d: usize = 0;
     while d < count {
         let words = definition_words(policy, d);
-        let given = Given { minute, known: d };
+        let given = Given {
+            minute,
+            format,
+            known: d,
+        };
         match read_whole(words, draws, scratch, given, store, definitions, links) {
             Read::Refused(number) => {
                 let part = d as u32;
@@ -65,7 +71,7 @@ fn read_definitions(
     Progress::Done(draws)
 }
 
-// The definitions, then the query. Only an answer touches the answer area.
+// The definitions, then the query, both in the policy's format. Only an answer touches the answer area.
 pub fn read_all(
     policy: &[u32],
     query: &[u32],
@@ -78,31 +84,37 @@ pub fn read_all(
     scratch: &mut [u32],
 ) -> Reply
     requires { ⌜ Ready (record { store = now store; links = now links }) (now policy) (now query) (now definitions) (now scratch) × (setRoom ≤ length (now answer)) ⌝ }
-    ensures { λ r. ⌜ ReadAll (namesHeld (heldIn minute (record { store = now (store .entry); links = now (links .entry) }))) (now (policy .entry)) (now (query .entry)) verdict (now (answer .entry)) r (now (answer .exit)) ⌝ }
+    ensures { λ r. ⌜ ReadAll (formatOf (now (policy .entry))) (namesHeld (heldIn minute (record { store = now (store .entry); links = now (links .entry) }))) (now (policy .entry)) (now (query .entry)) verdict (now (answer .entry)) r (now (answer .exit)) ⌝ }
 {
+    let format = policy[0];
     let count = policy[1] as usize;
-    match read_definitions(policy, count, minute, store, links, definitions, scratch) {
+    match read_definitions(
+        policy,
+        count,
+        minute,
+        format,
+        store,
+        links,
+        definitions,
+        scratch,
+    ) {
         Progress::Refused { number, part } => Reply::Refused { number, part },
-        Progress::Done(before) => match read_whole(
-            query,
-            before,
-            scratch,
-            Given {
+        Progress::Done(before) => {
+            let given = Given {
                 minute,
+                format,
                 known: count,
-            },
-            store,
-            definitions,
-            links,
-        ) {
-            Read::Refused(number) => Reply::Refused {
-                number,
-                part: QUERY_PART,
-            },
-            Read::Done(draws) => {
-                copy(scratch, answer);
-                Reply::Answered { verdict, draws }
+            };
+            match read_whole(query, before, scratch, given, store, definitions, links) {
+                Read::Refused(number) => Reply::Refused {
+                    number,
+                    part: QUERY_PART,
+                },
+                Read::Done(draws) => {
+                    copy(scratch, answer);
+                    Reply::Answered { verdict, draws }
+                }
             }
-        },
+        }
     }
 }

@@ -19,7 +19,8 @@ use Rattle.policy.specs.Syntax.{Slot, Expr, leaf, union, difference, comprehens
 use Rattle.policy.specs.Polarity.{Known, openExpr, drawsClosed, guardsClosed}
 use Rattle.meaning.specs.Values.{Values, value, rowOf}
 use Rattle.meaning.specs.Evidence.{Evidence, joined, namesHeld}
-use Rattle.meaning.specs.Reading.{Result, done, refused, Reading, after, within, drawable, tick, match, onMatch, drawEach, read, gather}
+use Rattle.meaning.specs.Matching.{match}
+use Rattle.meaning.specs.Reading.{Result, done, refused, Reading, after, within, drawable, tick, onMatch, drawEach, read, gather}
 use Rattle.meaning.specs.Closed.{IsFinite, FiniteNames, FiniteSets, Not12, ReadFinite, Never12, Theorem}
 use Rattle.meaning.proofs.Steps.{done-value, refused-number, not-refused, after-done, after-refused, small-done}
 use Rattle.meaning.proofs.Claims.{give-not, refuse-not, either-not, small-not}
@@ -74,63 +75,63 @@ unfolding IsFinite drawable
 drawable-not (only xs) f = give-not xs
 drawable-not (allBut xs) f = λ k e. f
 
-module _ (rest : Values → List Row → Reading (List Row)) (fine : (vs : Values) (acc : List Row) → Not12 (rest vs acc)) where
+module _ (format : ℕ) (rest : Values → List Row → Reading (List Row)) (fine : (vs : Values) (acc : List Row) → Not12 (rest vs acc)) where
   onMatch-not : (acc : List Row) (o : Option Values) → Not12 (onMatch rest acc o)
   unfolding onMatch
   onMatch-not acc none = give-not acc
   onMatch-not acc (some vs) = fine vs acc
 
-  drawEach-not : (p : List Slot) (vs : Values) (xs acc : List Row) → Not12 (drawEach rest p vs xs acc)
+  drawEach-not : (p : List Slot) (vs : Values) (xs acc : List Row) → Not12 (drawEach format rest p vs xs acc)
   unfolding drawEach
   drawEach-not p vs [] acc = give-not acc
   drawEach-not p vs (x ∷ xs) acc =
-      after-not tick _ tick-not (λ k u j q. after-not (onMatch rest acc (match p vs x)) _ (onMatch-not acc (match p vs x)) (λ k′ more j′ q′. drawEach-not p vs xs more))
+      after-not tick _ tick-not (λ k u j q. after-not (onMatch rest acc (match format p vs x)) _ (onMatch-not acc (match format p vs x)) (λ k′ more j′ q′. drawEach-not p vs xs more))
 
-module _ (names : Evidence) (finiteNames : FiniteNames names) (sets : List RowSet) (ks : List Known)
+module _ (format : ℕ) (names : Evidence) (finiteNames : FiniteNames names) (sets : List RowSet) (ks : List Known)
     (finiteSets : FiniteSets ks sets) where
-  pub closed-finite : (e : Expr) → ReadFinite names sets ks e
+  pub closed-finite : (e : Expr) → ReadFinite format names sets ks e
   unfolding openExpr read IsFinite
   closed-finite (leaf x) t vs k s j q = leaf-finite names finiteNames sets ks finiteSets x t vs k s j q
   closed-finite (union a b) t vs k s j q =
-      let x = after-done (read names sets a vs k) _ s j q in
-      let y = after-done (read names sets b vs (x .draws)) _ s j (x .rest) in
+      let x = after-done (read format names sets a vs k) _ s j q in
+      let y = after-done (read format names sets b vs (x .draws)) _ s j (x .rest) in
       subst IsFinite (small-done (unite (x .value) (y .value)) s (y .draws) j (y .rest) .value)
       (finite-unite (x .value) (y .value) (closed-finite a (neither-left (openExpr a ks) (openExpr b ks) t) vs k (x .value) (x .draws) (x .first))
       (closed-finite b (neither-right (openExpr a ks) (openExpr b ks) t) vs (x .draws) (y .value) (y .draws) (y .first)))
   closed-finite (difference a b) t vs k s j q =
-      let x = after-done (read names sets a vs k) _ s j q in
-      let y = after-done (read names sets b vs (x .draws)) _ s j (x .rest) in
+      let x = after-done (read format names sets a vs k) _ s j q in
+      let y = after-done (read format names sets b vs (x .draws)) _ s j (x .rest) in
       subst IsFinite (small-done (subtract (x .value) (y .value)) s (y .draws) j (y .rest) .value)
       (finite-subtract (x .value) (y .value) (closed-finite a t vs k (x .value) (x .draws) (x .first)))
   closed-finite (comprehension b) t vs k s j q =
-      let x = after-done (gather names sets b vs [] k) _ s j q in
+      let x = after-done (gather format names sets b vs [] k) _ s j q in
       subst IsFinite (done-value (x .rest)) tt
 
   mutual
     unfolding drawsClosed read
 
-    pub never-12 : (e : Expr) → Never12 names sets ks e
+    pub never-12 : (e : Expr) → Never12 format names sets ks e
     never-12 (leaf x) t vs = leaf-not-12 names sets x vs
     never-12 (union a b) t vs =
-        after-not (read names sets a vs) _ (never-12 a (T-left (drawsClosed a ks) (drawsClosed b ks) t) vs) (λ k x j q.
-        after-not (read names sets b vs) _ (never-12 b (T-right (drawsClosed a ks) (drawsClosed b ks) t) vs) (λ k′ y j′ q′. small-not (unite x y)))
+        after-not (read format names sets a vs) _ (never-12 a (T-left (drawsClosed a ks) (drawsClosed b ks) t) vs) (λ k x j q.
+        after-not (read format names sets b vs) _ (never-12 b (T-right (drawsClosed a ks) (drawsClosed b ks) t) vs) (λ k′ y j′ q′. small-not (unite x y)))
     never-12 (difference a b) t vs =
-        after-not (read names sets a vs) _ (never-12 a (T-left (drawsClosed a ks) (drawsClosed b ks) t) vs) (λ k x j q.
-        after-not (read names sets b vs) _ (never-12 b (T-right (drawsClosed a ks) (drawsClosed b ks) t) vs) (λ k′ y j′ q′. small-not (subtract x y)))
-    never-12 (comprehension b) t vs = after-not (gather names sets b vs []) _ (guards-never-12 b t vs []) (λ k xs j q. give-not (only xs))
+        after-not (read format names sets a vs) _ (never-12 a (T-left (drawsClosed a ks) (drawsClosed b ks) t) vs) (λ k x j q.
+        after-not (read format names sets b vs) _ (never-12 b (T-right (drawsClosed a ks) (drawsClosed b ks) t) vs) (λ k′ y j′ q′. small-not (subtract x y)))
+    never-12 (comprehension b) t vs = after-not (gather format names sets b vs []) _ (guards-never-12 b t vs []) (λ k xs j q. give-not (only xs))
 
-    pub guards-never-12 : (b : Body) → T (guardsClosed b ks) → (vs : Values) (acc : List Row) → Not12 (gather names sets b vs acc)
+    pub guards-never-12 : (b : Body) → T (guardsClosed b ks) → (vs : Values) (acc : List Row) → Not12 (gather format names sets b vs acc)
     guards-never-12 (head h) t vs acc = within-not (insert rowBefore (rowOf vs h) acc)
     guards-never-12 (draw e p rest) t vs acc =
         let t₁ = T-left (not (openExpr e ks)) (drawsClosed e ks && guardsClosed rest ks) t in
         let t₂ = T-right (not (openExpr e ks)) (drawsClosed e ks && guardsClosed rest ks) t in
-        after-not (read names sets e vs) _ (never-12 e (T-left (drawsClosed e ks) (guardsClosed rest ks) t₂) vs) (λ k s j q.
+        after-not (read format names sets e vs) _ (never-12 e (T-left (drawsClosed e ks) (guardsClosed rest ks) t₂) vs) (λ k s j q.
         after-not (drawable s) _ (drawable-not s (closed-finite e t₁ vs k s j q)) (λ k′ xs j′ q′.
-        drawEach-not (λ ws more. gather names sets rest ws more) (λ ws more. guards-never-12 rest (T-right (drawsClosed e ks) (guardsClosed rest ks) t₂) ws more) p vs xs acc))
+        drawEach-not format (λ ws more. gather format names sets rest ws more) (λ ws more. guards-never-12 rest (T-right (drawsClosed e ks) (guardsClosed rest ks) t₂) ws more) p vs xs acc))
     guards-never-12 (same x y rest) t vs acc = either-not (eqb (value vs x) (value vs y)) _ _ (guards-never-12 rest t vs acc) (give-not acc)
     guards-never-12 (different x y rest) t vs acc = either-not (eqb (value vs x) (value vs y)) _ _ (give-not acc) (guards-never-12 rest t vs acc)
     guards-never-12 (absent h e rest) t vs acc =
-        after-not (read names sets e vs) _ (never-12 e (T-left (drawsClosed e ks) (guardsClosed rest ks) t) vs) (λ k s j q.
+        after-not (read format names sets e vs) _ (never-12 e (T-left (drawsClosed e ks) (guardsClosed rest ks) t) vs) (λ k s j q.
         either-not (has s (rowOf vs h)) _ _ (give-not acc) (guards-never-12 rest (T-right (drawsClosed e ks) (guardsClosed rest ks) t) vs acc))
 
 pub theorem : Theorem

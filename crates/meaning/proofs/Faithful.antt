@@ -23,57 +23,18 @@ use Rattle.policy.specs.Words.{termWords, termRowWords, slotWords, fresh, exprW
 use Rattle.policy.specs.WellFormed.{Fit, FitBody}
 use Rattle.meaning.specs.Values.{Values, value, rowOf}
 use Rattle.meaning.specs.Evidence.{Evidence}
-use Rattle.meaning.specs.Reading.{done, Reading, drawable, tick, match, onMatch, drawEach, read, gather}
+use Rattle.meaning.specs.Matching.{match}
+use Rattle.meaning.specs.Reading.{done, Reading, drawable, tick, onMatch, drawEach, read, gather}
 use Rattle.meaning.specs.World.{World}
-use Rattle.meaning.specs.Belonging.{fill, Matches, Meanings, BelongsBy, PassesBy, Passes}
+use Rattle.meaning.specs.Belonging.{Meanings, BelongsBy, PassesBy, Passes}
 use Rattle.meaning.specs.Faithful.{Tidy, ProperNames, TidySets, Shows, Agree, WheneverRead, JustThose, Theorem}
 use Rattle.meaning.proofs.Steps.{done-value, after-done, either, small-done, within-done, drawable-done}
-use Rattle.meaning.proofs.Rows.{row-of-terms, match-words}
+use Rattle.meaning.proofs.Rows.{row-of-terms}
+use Rattle.meaning.proofs.Matching.{match-bound, matches-match, match-words}
 use Rattle.meaning.proofs.Claims.{has-by}
 use Rattle.meaning.proofs.Leaf.{leaf-rows}
 use Rattle.meaning.proofs.Proper.{read-tidy}
 use Rattle.meaning.proofs.Model.{held-names-proper, held-shows}
-
--- a pattern matches a row by `match` just where it does by `Matches`
-record Bound (p : List Slot) (vs : Values) (x : Row) (ws : Values) : Type 0 where
-  own : List ℕ
-  fits : Matches p vs own x
-  behind : ws ≡ vs ++ own
-
-match-bound : (p : List Slot) (vs : Values) (x : Row) (ws : Values) → match p vs x ≡ some ws → Bound p vs x ws
-unfolding match fresh fill
-match-bound [] vs [] ws e =
-    record { own = []; fits = record { enough = refl; filled = refl }; behind = (let f : vs ≡ ws = cc in sym f) ∙ sym (append-nil vs) }
-match-bound [] vs (a ∷ x) ws e = let z : _≡_ {A = ℕ} 0 1 = cc in absurd (omega arith)
-match-bound (old t ∷ p) vs [] ws e = let z : _≡_ {A = ℕ} 0 1 = cc in absurd (omega arith)
-match-bound (old t ∷ p) vs (a ∷ x) ws e = go (match-bound p vs x ws) (split (eqb (value vs t) a))
-  where
-    go : (match p vs x ≡ some ws → Bound p vs x ws) → Case (eqb (value vs t) a) → Bound (old t ∷ p) vs (a ∷ x) ws
-    go ih (isTrue h) =
-        let b = ih (rw (h, match) at e) in
-        let f : value vs t ≡ a = eqb-true (value vs t) a h in
-        let g : x ≡ fill p vs (b .own) = b .fits .filled in
-        record { own = b .own; fits = record { enough = b .fits .enough; filled = cc }; behind = b .behind }
-    go ih (isFalse h) =
-        let m : none ≡ some ws = rw (h, match) at e in
-        let z : _≡_ {A = ℕ} 0 1 = cc in absurd (omega arith)
-match-bound (new ∷ p) vs [] ws e = let z : _≡_ {A = ℕ} 0 1 = cc in absurd (omega arith)
-match-bound (new ∷ p) vs (a ∷ x) ws e = go (match-bound p (vs ++ (a ∷ [])) x ws e)
-  where
-    go : Bound p (vs ++ (a ∷ [])) x ws → Bound (new ∷ p) vs (a ∷ x) ws
-    go b = record {
-      own = a ∷ b .own;
-      fits = record { enough = ap suc (b .fits .enough); filled = ap (λ (l : Row). a ∷ l) (b .fits .filled) };
-      behind = b .behind ∙ append-assoc vs (a ∷ []) (b .own);
-    }
-
-bound-match : (p : List Slot) (vs : Values) (own : List ℕ) → length own ≡ fresh p → match p vs (fill p vs own) ≡ some (vs ++ own)
-unfolding match fresh fill
-bound-match [] vs [] e = ap some (sym (append-nil vs))
-bound-match [] vs (a ∷ own) e = absurd (omega arith)
-bound-match (old t ∷ p) vs own e = rw (eq-eqb (value vs t) (value vs t) refl, match) (bound-match p vs own e)
-bound-match (new ∷ p) vs [] e = absurd (omega arith)
-bound-match (new ∷ p) vs (a ∷ own) e = bound-match p (vs ++ (a ∷ [])) own (omega arith) ∙ ap some (append-assoc vs (a ∷ []) own)
 
 -- the rows found are those found before and those that R names
 abbrev Adds : List Row → List Row → (Row → Type 0) → Type 0
@@ -83,46 +44,46 @@ adds-none : (acc found : List Row) (R : Row → Type 0) → acc ≡ found → ((
 adds-none acc found R e f = subst (λ (zs : List Row). Adds acc zs R) e (λ r i. (λ t. inl t, λ t. elim t [ inl a ↦ a | inr b ↦ absurd (f r b) ]))
 
 -- what a whole draw adds
-abbrev Drawn : (Values → Row → Type 0) → List Slot → Values → List Row → Row → Type 0
-Drawn R p vs xs r = (x : Row) × (ws : Values) × (x ∈ xs) × (match p vs x ≡ some ws) × R ws r
+abbrev Drawn : ℕ → (Values → Row → Type 0) → List Slot → Values → List Row → Row → Type 0
+Drawn format R p vs xs r = (x : Row) × (ws : Values) × (x ∈ xs) × (match format p vs x ≡ some ws) × R ws r
 
-module _ (rest : Values → List Row → Reading (List Row)) (R : Values → Row → Type 0)
+module _ (format : ℕ) (rest : Values → List Row → Reading (List Row)) (R : Values → Row → Type 0)
     (adds : (ws : Values) → Words ws → (acc : List Row) (k : ℕ) (found : List Row) (j : ℕ) → rest ws acc k ≡ done found j → Adds acc found (R ws)) where
   -- what one drawn row adds
   abbrev One : List Slot → Values → Row → Row → Type 0
-  One p vs x r = (ws : Values) × (match p vs x ≡ some ws) × R ws r
+  One p vs x r = (ws : Values) × (match format p vs x ≡ some ws) × R ws r
 
-  one-adds : (p : List Slot) (vs : Values) (x : Row) → ((ws : Values) → match p vs x ≡ some ws → Words ws) → (acc : List Row) (k : ℕ) (found : List Row) (j : ℕ) (o : Option Values) →
-      match p vs x ≡ o → onMatch rest acc o k ≡ done found j → Adds acc found (One p vs x)
+  one-adds : (p : List Slot) (vs : Values) (x : Row) → ((ws : Values) → match format p vs x ≡ some ws → Words ws) → (acc : List Row) (k : ℕ) (found : List Row) (j : ℕ) (o : Option Values) →
+      match format p vs x ≡ o → onMatch rest acc o k ≡ done found j → Adds acc found (One p vs x)
   unfolding onMatch
   one-adds p vs x w acc k found j none m e =
-      adds-none acc found _ (done-value e) (λ r t. let q : match p vs x ≡ some (t .0) = t .1 in let z : _≡_ {A = ℕ} 0 1 = cc in absurd (omega arith))
+      adds-none acc found _ (done-value e) (λ r t. let q : match format p vs x ≡ some (t .0) = t .1 in let z : _≡_ {A = ℕ} 0 1 = cc in absurd (omega arith))
   one-adds p vs x w acc k found j (some ws) m e = λ r i. adds ws (w ws m) acc k found j e r i then
-      both-or iff-refl (λ t. (ws, m, t), λ t. let q : match p vs x ≡ some (t .0) = t .1 in let f : t .0 ≡ ws = cc in subst (λ (us : Values). R us r) f (t .2))
+      both-or iff-refl (λ t. (ws, m, t), λ t. let q : match format p vs x ≡ some (t .0) = t .1 in let f : t .0 ≡ ws = cc in subst (λ (us : Values). R us r) f (t .2))
 
   draws-add : (p : List Slot) (vs : Values) → Words vs → (xs : List Row) → All IsRow xs → (acc : List Row) (k : ℕ) (found : List Row) (j : ℕ) →
-      drawEach rest p vs xs acc k ≡ done found j → Adds acc found (Drawn R p vs xs)
+      drawEach format rest p vs xs acc k ≡ done found j → Adds acc found (Drawn format R p vs xs)
   unfolding drawEach _∈_ All
   draws-add p vs w [] i acc k found j e = adds-none acc found _ (done-value e) (λ r t. t .2)
   draws-add p vs w (x ∷ xs) i acc k found j e =
       let t = after-done (tick k) _ found j e in
-      let m = after-done (onMatch rest acc (match p vs x) (t .draws)) _ found j (t .rest) in
-      go (m .value) (one-adds p vs x (λ ws q. match-words p vs x ws w (i .0 .words) q) acc (t .draws) (m .value) (m .draws) (match p vs x) refl (m .first))
+      let m = after-done (onMatch rest acc (match format p vs x) (t .draws)) _ found j (t .rest) in
+      go (m .value) (one-adds p vs x (λ ws q. match-words format p vs x ws w (i .0 .words) q) acc (t .draws) (m .value) (m .draws) (match format p vs x) refl (m .first))
       (draws-add p vs w xs (i .1) (m .value) (m .draws) found j (m .rest))
     where
-      go : (mid : List Row) → Adds acc mid (One p vs x) → Adds mid found (Drawn R p vs xs) → Adds acc found (Drawn R p vs (x ∷ xs))
+      go : (mid : List Row) → Adds acc mid (One p vs x) → Adds mid found (Drawn format R p vs xs) → Adds acc found (Drawn format R p vs (x ∷ xs))
       go mid f g r i = g r i then both-or (f r i) iff-refl then (to, from)
         where
-          to : ((r ∈ acc) ⊎ One p vs x r) ⊎ Drawn R p vs xs r → (r ∈ acc) ⊎ Drawn R p vs (x ∷ xs) r
+          to : ((r ∈ acc) ⊎ One p vs x r) ⊎ Drawn format R p vs xs r → (r ∈ acc) ⊎ Drawn format R p vs (x ∷ xs) r
           to (inl (inl a)) = inl a
           to (inl (inr b)) = inr (x, b .0, inl refl, b .1, b .2)
           to (inr c) = inr (c .0, c .1, inr (c .2), c .3, c .4)
 
-          pick : (y : Row) (ws : Values) → (y ≡ x) ⊎ (y ∈ xs) → match p vs y ≡ some ws → R ws r → ((r ∈ acc) ⊎ One p vs x r) ⊎ Drawn R p vs xs r
-          pick y ws (inl h) m t = inl (inr (ws, subst (λ (z : Row). match p vs z ≡ some ws) h m, t))
+          pick : (y : Row) (ws : Values) → (y ≡ x) ⊎ (y ∈ xs) → match format p vs y ≡ some ws → R ws r → ((r ∈ acc) ⊎ One p vs x r) ⊎ Drawn format R p vs xs r
+          pick y ws (inl h) m t = inl (inr (ws, subst (λ (z : Row). match format p vs z ≡ some ws) h m, t))
           pick y ws (inr h) m t = inr (y, ws, h, m, t)
 
-          from : (r ∈ acc) ⊎ Drawn R p vs (x ∷ xs) r → ((r ∈ acc) ⊎ One p vs x r) ⊎ Drawn R p vs xs r
+          from : (r ∈ acc) ⊎ Drawn format R p vs (x ∷ xs) r → ((r ∈ acc) ⊎ One p vs x r) ⊎ Drawn format R p vs xs r
           from (inl a) = inl (inl a)
           from (inr d) = pick (d .0) (d .1) (d .2) (d .3) (d .4)
 
@@ -143,73 +104,73 @@ none-first : (xs : List Row) (r : Row) (A : Type 0) → (r ∈ xs) ↔ ((r ∈ [
 unfolding _∈_
 none-first xs r A h = h then (λ t. elim t [ inl a ↦ absurd a | inr b ↦ b ], λ b. inr b)
 
-module _ (names : Evidence) (W : World) (shows : Shows names W) (properNames : ProperNames names)
+module _ (format : ℕ) (names : Evidence) (W : World) (shows : Shows names W) (properNames : ProperNames names)
     (sets : List RowSet) (D : Meanings) (agree : Agree sets D) (tidySets : TidySets sets) where
   -- what a draw finds is what passes
-  drawn-iff : (e : Expr) (p : List Slot) (rest : Body) (vs : Values) (xs : List Row) → All IsRow xs → JustThose W D e vs (only xs) → (r : Row) →
-      Drawn (Passes W D rest) p vs xs r ↔ Passes W D (draw e p rest) vs r
+  drawn-iff : (e : Expr) (p : List Slot) (rest : Body) (vs : Values) (xs : List Row) → All IsRow xs → JustThose format W D e vs (only xs) → (r : Row) →
+      Drawn format (Passes format W D rest) p vs xs r ↔ Passes format W D (draw e p rest) vs r
   unfolding PassesBy
   drawn-iff e p rest vs xs rows h r = (to, from)
     where
-      to : Drawn (Passes W D rest) p vs xs r → Passes W D (draw e p rest) vs r
+      to : Drawn format (Passes format W D rest) p vs xs r → Passes format W D (draw e p rest) vs r
       to (x, ws, i, m, t) =
-          let b = match-bound p vs x ws m in
+          let b = match-bound format p vs x ws m in
           let isRow = all-in IsRow xs rows x i in
-          (b .own, (x, isRow, b .fits, h x isRow .0 (only-iff xs x .1 i)), subst (λ (us : Values). Passes W D rest us r) (b .behind) t)
+          (b .own, (x, isRow, b .fit, h x isRow .0 (only-iff xs x .1 i)), subst (λ (us : Values). Passes format W D rest us r) (b .behind) t)
 
-      from : Passes W D (draw e p rest) vs r → Drawn (Passes W D rest) p vs xs r
+      from : Passes format W D (draw e p rest) vs r → Drawn format (Passes format W D rest) p vs xs r
       from (own, (x, isRow, m, i), t) =
-          (x, vs ++ own, only-iff xs x .0 (h x isRow .1 i), subst (λ (y : Row). match p vs y ≡ some (vs ++ own)) (sym (m .filled)) (bound-match p vs own (m .enough)), t)
+          (x, vs ++ own, only-iff xs x .0 (h x isRow .1 i), matches-match format p vs own x m, t)
 
   mutual
     unfolding read BelongsBy Fit exprWords bodyWords All
 
-    pub read-rows : (e : Expr) → WheneverRead names sets e (JustThose W D e)
+    pub read-rows : (e : Expr) → WheneverRead format names sets e (JustThose format W D e)
     read-rows (leaf x) m n f t vs w k s j q r i = leaf-rows names W shows sets D agree x m n f t vs w k s j q r i
     read-rows (union a b) m n f t vs w k s j q r i =
-        let x = after-done (read names sets a vs k) _ s j q in
-        let y = after-done (read names sets b vs (x .draws)) _ s j (x .rest) in
+        let x = after-done (read format names sets a vs k) _ s j q in
+        let y = after-done (read format names sets b vs (x .draws)) _ s j (x .rest) in
         has-by (unite (x .value) (y .value)) s r _ (small-done _ s (y .draws) j (y .rest) .value) (unite-iff (x .value) (y .value) r then both-or
         (read-rows a m n (f .0) (all-left IsWord (exprWords a n) _ (t .1)) vs w k (x .value) (x .draws) (x .first) r i)
         (read-rows b m n (f .1) (all-right IsWord (exprWords a n) _ (t .1)) vs w (x .draws) (y .value) (y .draws) (y .first) r i))
     read-rows (difference a b) m n f t vs w k s j q r i =
-        let x = after-done (read names sets a vs k) _ s j q in
-        let y = after-done (read names sets b vs (x .draws)) _ s j (x .rest) in
+        let x = after-done (read format names sets a vs k) _ s j q in
+        let y = after-done (read format names sets b vs (x .draws)) _ s j (x .rest) in
         has-by (subtract (x .value) (y .value)) s r _ (small-done _ s (y .draws) j (y .rest) .value) (subtract-iff (x .value) (y .value) r then both-and-not
         (read-rows a m n (f .0) (all-left IsWord (exprWords a n) _ (t .1)) vs w k (x .value) (x .draws) (x .first) r i)
         (read-rows b m n (f .1) (all-right IsWord (exprWords a n) _ (t .1)) vs w (x .draws) (y .value) (y .draws) (y .first) r i))
     read-rows (comprehension b) m n f t vs w k s j q r i =
-        let x = after-done (gather names sets b vs [] k) _ s j q in
+        let x = after-done (gather format names sets b vs [] k) _ s j q in
         has-by (only (x .value)) s r _ (done-value (x .rest))
         (only-iff (x .value) r then none-first (x .value) r _ (gather-rows b m n (f .1) (t .1 .1) vs w [] k (x .value) (x .draws) (x .first) r i))
 
     pub gather-rows : (b : Body) (m n : ℕ) → FitBody m n b → Words (bodyWords b n) → (vs : Values) → Words vs → (acc : List Row) (k : ℕ) (found : List Row) (j : ℕ) →
-        gather names sets b vs acc k ≡ done found j → Adds acc found (Passes W D b vs)
+        gather format names sets b vs acc k ≡ done found j → Adds acc found (Passes format W D b vs)
     gather-rows (head h) m n f t vs w acc k found j q r i =
         subst (λ (ys : List Row). (r ∈ ys) ↔ ((r ∈ acc) ⊎ (r ≡ rowOf vs h))) (within-done _ found k j q .value)
         (insert-∈ rowBefore row-order (rowOf vs h) acc r then swap-or)
     gather-rows (draw e p rest) m n f t vs w acc k found j q r i =
-        let x = after-done (read names sets e vs k) _ found j q in
+        let x = after-done (read format names sets e vs k) _ found j q in
         let y = after-done (drawable (x .value) (x .draws)) _ found j (x .rest) in
         let g : x .value ≡ only (y .value) = drawable-done (x .value) (y .value) (x .draws) (y .draws) (y .first) in
         let v = all-left IsWord (exprWords e n) _ (t .1) in
         let u = all-right IsWord (exprWords e n) _ (t .1) in
-        let h : JustThose W D e vs (only (y .value)) = subst (JustThose W D e vs) g (λ z l. read-rows e m n (f .0) v vs w k (x .value) (x .draws) (x .first) z l) in
-        let o : Tidy (only (y .value)) = subst Tidy g (read-tidy names sets properNames tidySets e m n (f .0) v vs w k (x .value) (x .draws) (x .first)) in
-        draws-add (λ ws more. gather names sets rest ws more) (Passes W D rest)
+        let h : JustThose format W D e vs (only (y .value)) = subst (JustThose format W D e vs) g (λ z l. read-rows e m n (f .0) v vs w k (x .value) (x .draws) (x .first) z l) in
+        let o : Tidy (only (y .value)) = subst Tidy g (read-tidy format names sets properNames tidySets e m n (f .0) v vs w k (x .value) (x .draws) (x .first)) in
+        draws-add format (λ ws more. gather format names sets rest ws more) (Passes format W D rest)
         (λ ws v′ acc′ k′ found′ j′ q′ r′ i′. gather-rows rest m (n + fresh p) (f .2) (all-right IsWord (slotWords n p) _ (u .1)) ws v′ acc′ k′ found′ j′ q′ r′ i′)
         p vs w (y .value) (o .proper .rows) acc (y .draws) found j (y .rest) r i
         then both-or iff-refl (drawn-iff e p rest vs (y .value) (o .proper .rows) h r)
     gather-rows (same x y rest) m n f t vs w acc k found j q r i =
-        tested (eqb (value vs x) (value vs y)) _ _ acc found k j (gather names sets rest vs acc) r (T-eqb (value vs x) (value vs y))
+        tested (eqb (value vs x) (value vs y)) _ _ acc found k j (gather format names sets rest vs acc) r (T-eqb (value vs x) (value vs y))
         (λ g. gather-rows rest m n (f .2) (all-right IsWord (termWords y) _ (all-right IsWord (termWords x) _ (t .1))) vs w acc k found j g r i) q
     gather-rows (different x y rest) m n f t vs w acc k found j q r i =
-        untested (eqb (value vs x) (value vs y)) _ _ acc found k j (gather names sets rest vs acc) r (T-eqb (value vs x) (value vs y))
+        untested (eqb (value vs x) (value vs y)) _ _ acc found k j (gather format names sets rest vs acc) r (T-eqb (value vs x) (value vs y))
         (λ g. gather-rows rest m n (f .2) (all-right IsWord (termWords y) _ (all-right IsWord (termWords x) _ (t .1))) vs w acc k found j g r i) q
     gather-rows (absent h e rest) m n f t vs w acc k found j q r i =
-        let x = after-done (read names sets e vs k) _ found j q in
+        let x = after-done (read format names sets e vs k) _ found j q in
         let u = all-right IsWord (termRowWords h) _ (t .1) in
-        untested (has (x .value) (rowOf vs h)) _ _ acc found (x .draws) j (gather names sets rest vs acc) r
+        untested (has (x .value) (rowOf vs h)) _ _ acc found (x .draws) j (gather format names sets rest vs acc) r
         (read-rows e m n (f .1) (all-left IsWord (exprWords e n) _ u) vs w k (x .value) (x .draws) (x .first) (rowOf vs h)
         (row-of-terms n vs w h (f .0) (all-left IsWord (termRowWords h) _ (t .1))))
         (λ g. gather-rows rest m n (f .2) (all-right IsWord (exprWords e n) _ u) vs w acc (x .draws) found j g r i) (x .rest)

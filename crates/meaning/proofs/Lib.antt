@@ -1,5 +1,6 @@
 pub mod Steps
 pub mod Rows
+pub mod Matching
 pub mod Claims
 pub mod Leaf
 pub mod Links

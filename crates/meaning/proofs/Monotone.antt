@@ -1,4 +1,5 @@
 -- What belongs to an expression follows each polarity that it has, from world to world.
+use Prim.Native.Nat.{ℕ}
 use mathlib.Core.Logic.{_⊎_, inl, inr}
 use mathlib.Core.List.{List, _++_}
 use lib.Dec.{T}
@@ -26,10 +27,10 @@ along-not : (p : Polarity) {A B : Type 0} → Along (opposite p) A B → Along p
 along-not plus f = record { go = λ n b. n (f .go b) }
 along-not minus f = record { go = λ n b. n (f .go b) }
 
-module _ (W U : World) (below : Below W U) (ks : List Known) (D E : Meanings) (known : Ways ks D E) where
+module _ (format : ℕ) (W U : World) (below : Below W U) (ks : List Known) (D E : Meanings) (known : Ways ks D E) where
   along-draw : (p : Polarity) (e : Expr) (s : List Slot) (rest : Body) (vs : Values) (r : Row) →
-      ((x : Row) → Along p (Belongs W D e vs x) (Belongs U E e vs x)) → ((ws : Values) → Along p (Passes W D rest ws r) (Passes U E rest ws r)) →
-      Along p (Passes W D (draw e s rest) vs r) (Passes U E (draw e s rest) vs r)
+      ((x : Row) → Along p (Belongs format W D e vs x) (Belongs format U E e vs x)) → ((ws : Values) → Along p (Passes format W D rest ws r) (Passes format U E rest ws r)) →
+      Along p (Passes format W D (draw e s rest) vs r) (Passes format U E (draw e s rest) vs r)
   unfolding PassesBy
   along-draw plus e s rest vs r f g = record { go = λ (own, (x, i, m, b), t). (own, (x, i, m, f x .go b), g (vs ++ own) .go t) }
   along-draw minus e s rest vs r f g = record { go = λ (own, (x, i, m, b), t). (own, (x, i, m, f x .go b), g (vs ++ own) .go t) }
@@ -37,7 +38,7 @@ module _ (W U : World) (below : Below W U) (ks : List Known) (D E : Meanings) (k
   mutual
     unfolding hasPolarity BelongsBy
 
-    pub monotone : (e : Expr) → Follows W U ks D E e
+    pub monotone : (e : Expr) → Follows format W U ks D E e
     monotone (leaf x) p t vs r = leaf-along W U below ks D E known x p t vs r
     monotone (union a b) p t vs r =
         along-or p (monotone a p (T-left (hasPolarity a ks p) (hasPolarity b ks p) t) vs r) (monotone b p (T-right (hasPolarity a ks p) (hasPolarity b ks p) t) vs r)
@@ -46,7 +47,7 @@ module _ (W U : World) (below : Below W U) (ks : List Known) (D E : Meanings) (k
         (along-not p (monotone b (opposite p) (T-right (hasPolarity a ks p) (hasPolarity b ks (opposite p)) t) vs r))
     monotone (comprehension b) p t vs r = guards b p t vs r
 
-    pub guards : (b : Body) (p : Polarity) → T (guardsHave b ks p) → (vs : Values) (r : Row) → Along p (Passes W D b vs r) (Passes U E b vs r)
+    pub guards : (b : Body) (p : Polarity) → T (guardsHave b ks p) → (vs : Values) (r : Row) → Along p (Passes format W D b vs r) (Passes format U E b vs r)
     guards (head h) p t vs r = along-same p _
     guards (draw e s rest) p t vs r =
         along-draw p e s rest vs r (λ x. monotone e p (T-left (hasPolarity e ks p) (guardsHave rest ks p) t) vs x)

@@ -1,25 +1,35 @@
--- Small readings, by computation: what document 01's section "Reading" says of draws, of guards and of refusal 13, and document 02 of code 8.
+-- Small readings, by computation: what document 01's section "Reading" says of draws, of guards and of refusal 13, and document 02 of code 8 and of formats.
 use Prim.Native.Nat.{ℕ, zero, suc}
 use mathlib.Core.Path.{_≡_, refl}
-use mathlib.Core.List.{List, [], _∷_}
+use mathlib.Core.List.{List, [], _∷_, map}
 use Rattle.refusals.specs.RefusalTable.{complementDrawn, tooManyRows}
 use Rattle.rows.specs.Word.{All}
 use Rattle.rows.specs.Row.{Row}
 use Rattle.rows.specs.Name.{plus, minus}
 use Rattle.rows.specs.Sets.{RowSet, only, allBut}
+use Rattle.policy.specs.Format.{equalWidths, widerRows}
 use Rattle.policy.specs.Leaf.{finite, cofinite, listed, vetted}
-use Rattle.policy.specs.Syntax.{Term, atom, var, old, new, Expr, leaf, union, difference, comprehension, head, draw, same, different, absent}
+use Rattle.policy.specs.Syntax.{Term, atom, var, Slot, old, new, Expr, leaf, union, difference, comprehension, head, draw, same, different, absent}
 use Rattle.meaning.specs.Evidence.{namesHeld}
 use Rattle.meaning.specs.Reading.{Result, done, refused, read}
 
+-- what is read in format 1 and in format 2
 pub record Trial : Type 0 where
   pub expr : Expr
   pub answer : Result RowSet
+  pub wider : Result RowSet
+
+-- the same in either
+abbrev pub inEither : Expr → Result RowSet → Trial
+inEither e a = record { expr = e; answer = a; wider = a }
 
 -- nothing is held
+abbrev readIn : ℕ → Expr → Result RowSet
+readIn format e = read format (namesHeld (record { certificates = []; links = [] })) [] e [] 0
+
 unfoldable pub Holds : Trial → Type 0
 unfolding read namesHeld
-Holds t = read (namesHeld (record { certificates = []; links = [] })) [] (t .expr) [] 0 ≡ t .answer
+Holds t = (readIn equalWidths (t .expr) ≡ t .answer) × (readIn widerRows (t .expr) ≡ t .wider)
 
 -- n rows of one atom, from `base` on
 oneAtom : ℕ → ℕ → List (List Term)
@@ -33,33 +43,63 @@ unfoldable pub trials : List Trial
 unfolding oneAtom k1
 trials =
     -- "matching or not": a row of another width, and one that differs from the pattern's atom, are draws too
-    record { expr = comprehension (draw (leaf (finite ((atom 5 ∷ []) ∷ (atom 7 ∷ atom 8 ∷ []) ∷ []))) (new ∷ []) (head (var 0 ∷ []))); answer = done (only ((5 ∷ []) ∷ [])) 2 }
-    ∷ record { expr = comprehension (draw (leaf (finite ((atom 5 ∷ []) ∷ (atom 6 ∷ []) ∷ []))) (old (atom 6) ∷ []) (head (atom 1 ∷ []))); answer = done (only ((1 ∷ []) ∷ [])) 2 }
+    record { expr = comprehension (draw (leaf (finite ((atom 5 ∷ []) ∷ (atom 7 ∷ atom 8 ∷ []) ∷ []))) (new ∷ []) (head (var 0 ∷ []))); answer = done (only ((5 ∷ []) ∷ [])) 2; wider = done (only ((5 ∷ []) ∷ (7 ∷ []) ∷ [])) 2 }
+    ∷ inEither (comprehension (draw (leaf (finite ((atom 5 ∷ []) ∷ (atom 6 ∷ []) ∷ []))) (old (atom 6) ∷ []) (head (atom 1 ∷ [])))) (done (only ((1 ∷ []) ∷ [])) 2)
     -- "guards after a failed one are not read": the second draw is never reached
-    ∷ record { expr = comprehension (same (atom 1) (atom 2) (draw (leaf (finite ((atom 5 ∷ []) ∷ []))) (new ∷ []) (head (var 0 ∷ [])))); answer = done (only []) 0 }
+    ∷ inEither (comprehension (same (atom 1) (atom 2) (draw (leaf (finite ((atom 5 ∷ []) ∷ []))) (new ∷ []) (head (var 0 ∷ []))))) (done (only []) 0)
     -- "same and different, if the two atoms are equal or differ"
-    ∷ record { expr = comprehension (same (atom 1) (atom 1) (head (atom 3 ∷ []))); answer = done (only ((3 ∷ []) ∷ [])) 0 }
-    ∷ record { expr = comprehension (different (atom 1) (atom 2) (head (atom 3 ∷ []))); answer = done (only ((3 ∷ []) ∷ [])) 0 }
+    ∷ inEither (comprehension (same (atom 1) (atom 1) (head (atom 3 ∷ [])))) (done (only ((3 ∷ []) ∷ [])) 0)
+    ∷ inEither (comprehension (different (atom 1) (atom 2) (head (atom 3 ∷ [])))) (done (only ((3 ∷ []) ∷ [])) 0)
     -- "an operand is read each time its guard is reached": 2 draws, and 1 inside the operand for each of them
-    ∷ record {
-      expr = comprehension (draw (leaf (finite ((atom 5 ∷ []) ∷ (atom 6 ∷ []) ∷ []))) (new ∷ [])
-          (absent (var 0 ∷ []) (comprehension (draw (leaf (finite ((atom 6 ∷ []) ∷ []))) (new ∷ []) (head (var 1 ∷ [])))) (head (var 0 ∷ []))));
-      answer = done (only ((5 ∷ []) ∷ [])) 4;
-    }
+    ∷ inEither (comprehension (draw (leaf (finite ((atom 5 ∷ []) ∷ (atom 6 ∷ []) ∷ []))) (new ∷ [])
+    (absent (var 0 ∷ []) (comprehension (draw (leaf (finite ((atom 6 ∷ []) ∷ []))) (new ∷ []) (head (var 1 ∷ [])))) (head (var 0 ∷ []))))) (done (only ((5 ∷ []) ∷ [])) 4)
     -- 12 and 13: "13 comes after both parts of a union or difference are read"
-    ∷ record { expr = comprehension (draw (leaf (cofinite [])) (new ∷ []) (head (var 0 ∷ []))); answer = refused complementDrawn }
-    ∷ record { expr = union (leaf (finite (oneAtom 1 100))) (leaf (finite (oneAtom 1000 29))); answer = refused tooManyRows }
-    ∷ record { expr = difference (difference (leaf (cofinite (oneAtom 1 100))) (leaf (finite (oneAtom 1000 28)))) (leaf (cofinite [])); answer = done (only []) 0 }
-    ∷ record { expr = union (leaf (finite (oneAtom 1 128))) (comprehension (draw (leaf (cofinite [])) (new ∷ []) (head (var 0 ∷ [])))); answer = refused complementDrawn }
+    ∷ inEither (comprehension (draw (leaf (cofinite [])) (new ∷ []) (head (var 0 ∷ [])))) (refused complementDrawn)
+    ∷ inEither (union (leaf (finite (oneAtom 1 100))) (leaf (finite (oneAtom 1000 29)))) (refused tooManyRows)
+    ∷ inEither (difference (difference (leaf (cofinite (oneAtom 1 100))) (leaf (finite (oneAtom 1000 28)))) (leaf (cofinite []))) (done (only []) 0)
+    ∷ inEither (union (leaf (finite (oneAtom 1 128))) (comprehension (draw (leaf (cofinite [])) (new ∷ []) (head (var 0 ∷ []))))) (refused complementDrawn)
     -- a − name of which nothing is held has all rows, not none; a number's list has none with + and all with −
-    ∷ record { expr = comprehension (absent (atom 7 ∷ []) (leaf (listed (atom k1) 2 minus)) (head (atom 7 ∷ []))); answer = done (only []) 0 }
-    ∷ record { expr = leaf (listed (atom 5) 2 plus); answer = done (only []) 0 }
-    ∷ record { expr = leaf (listed (atom 5) 2 minus); answer = done (allBut []) 0 }
+    ∷ inEither (comprehension (absent (atom 7 ∷ []) (leaf (listed (atom k1) 2 minus)) (head (atom 7 ∷ [])))) (done (only []) 0)
+    ∷ inEither (leaf (listed (atom 5) 2 plus)) (done (only []) 0)
+    ∷ inEither (leaf (listed (atom 5) 2 minus)) (done (allBut []) 0)
     ∷ []
 
 pub readings : All Holds trials
 unfolding Holds trials All
-readings = (refl, (refl, (refl, (refl, (refl, (refl, (refl, (refl, (refl, (refl, (refl, (refl, (refl, tt)))))))))))))
+readings = ((refl, refl), ((refl, refl), ((refl, refl), ((refl, refl), ((refl, refl), ((refl, refl), ((refl, refl), ((refl, refl), ((refl, refl), ((refl, refl), ((refl, refl), ((refl, refl), ((refl, refl), tt)))))))))))))
+
+-- Document 02, N6: "In a policy of format 2 a pattern of width w matches every row of at least w atoms by its first w. Format 1 keeps equal widths."
+
+-- draws from rows written there, by a pattern; the head has these variables
+drawn : List Row → List Slot → List Term → Expr
+drawn xs p h = comprehension (draw (leaf (finite (map (map atom) xs))) p (head h))
+
+-- rows of one to four atoms
+widths : List Row
+widths = (1 ∷ []) ∷ (2 ∷ 9 ∷ []) ∷ (3 ∷ 9 ∷ 8 ∷ []) ∷ (4 ∷ 9 ∷ 8 ∷ 7 ∷ []) ∷ []
+
+twice : List Row
+twice = (5 ∷ []) ∷ (5 ∷ 5 ∷ []) ∷ (5 ∷ 6 ∷ []) ∷ (6 ∷ 6 ∷ 7 ∷ []) ∷ (6 ∷ 7 ∷ 7 ∷ []) ∷ []
+
+unfoldable pub matchings : List Trial
+unfolding drawn widths twice
+matchings =
+    -- each row is a draw, in either format
+    record { expr = drawn widths (new ∷ []) (var 0 ∷ []); answer = done (only ((1 ∷ []) ∷ [])) 4; wider = done (only ((1 ∷ []) ∷ (2 ∷ []) ∷ (3 ∷ []) ∷ (4 ∷ []) ∷ [])) 4 }
+    ∷ record { expr = drawn widths (new ∷ new ∷ []) (var 0 ∷ var 1 ∷ []); answer = done (only ((2 ∷ 9 ∷ []) ∷ [])) 4; wider = done (only ((2 ∷ 9 ∷ []) ∷ (3 ∷ 9 ∷ []) ∷ (4 ∷ 9 ∷ []) ∷ [])) 4 }
+    ∷ record { expr = drawn widths (new ∷ new ∷ new ∷ []) (var 0 ∷ []); answer = done (only ((3 ∷ []) ∷ [])) 4; wider = done (only ((3 ∷ []) ∷ (4 ∷ []) ∷ [])) 4 }
+    ∷ inEither (drawn widths (new ∷ new ∷ new ∷ new ∷ []) (var 0 ∷ [])) (done (only ((4 ∷ []) ∷ [])) 4)
+    -- a variable from earlier in the pattern, within the first atoms
+    ∷ record { expr = drawn twice (new ∷ old (var 0) ∷ []) (var 0 ∷ []); answer = done (only ((5 ∷ []) ∷ [])) 5; wider = done (only ((5 ∷ []) ∷ (6 ∷ []) ∷ [])) 5 }
+    -- an atom: (8, 9, 4) has it, but not first
+    ∷ record { expr = drawn ((8 ∷ 9 ∷ 4 ∷ []) ∷ (9 ∷ 1 ∷ []) ∷ (9 ∷ 2 ∷ 3 ∷ []) ∷ []) (old (atom 9) ∷ new ∷ []) (var 0 ∷ []); answer = done (only ((1 ∷ []) ∷ [])) 3; wider = done (only ((1 ∷ []) ∷ (2 ∷ []) ∷ [])) 3 }
+    -- an absent guard's row is a whole row: 7 is not listed where (7, 1) is
+    ∷ inEither (comprehension (absent (atom 7 ∷ []) (leaf (finite ((atom 7 ∷ atom 1 ∷ []) ∷ []))) (head (atom 7 ∷ [])))) (done (only ((7 ∷ []) ∷ [])) 0)
+    ∷ []
+
+pub matched : All Holds matchings
+unfolding Holds matchings All
+matched = ((refl, refl), ((refl, refl), ((refl, refl), ((refl, refl), ((refl, refl), ((refl, refl), ((refl, refl), tt)))))))
 
 -- code 8 over one definition: the set read for that, the rows of every key's list, and what is read
 pub record Vetting : Type 0 where
@@ -68,11 +108,15 @@ pub record Vetting : Type 0 where
   pub answer : Result RowSet
 
 -- with k1 as a fixed issuer, and as a variable's value
+abbrev VetsIn : ℕ → Vetting → Type 0
+VetsIn format v =
+    (read format (λ k n p. only (v .list)) (v .set ∷ []) (leaf (vetted (atom k1) 1 0)) [] 0 ≡ v .answer)
+    × (read format (λ k n p. only (v .list)) (v .set ∷ []) (leaf (vetted (var 0) 1 0)) (k1 ∷ []) 0 ≡ v .answer)
+
+-- the issuer's row is a whole row, in either format
 unfoldable pub Vets : Vetting → Type 0
 unfolding read k1
-Vets v =
-    (read (λ k n p. only (v .list)) (v .set ∷ []) (leaf (vetted (atom k1) 1 0)) [] 0 ≡ v .answer)
-    × (read (λ k n p. only (v .list)) (v .set ∷ []) (leaf (vetted (var 0) 1 0)) (k1 ∷ []) 0 ≡ v .answer)
+Vets v = VetsIn equalWidths v × VetsIn widerRows v
 
 -- the rows of the n numbers from `base` on
 numbers : ℕ → ℕ → List Row
@@ -94,4 +138,4 @@ vettings =
 
 pub vetted-readings : All Vets vettings
 unfolding Vets vettings All
-vetted-readings = ((refl, refl), ((refl, refl), ((refl, refl), ((refl, refl), ((refl, refl), ((refl, refl), ((refl, refl), tt)))))))
+vetted-readings = (((refl, refl), (refl, refl)), (((refl, refl), (refl, refl)), (((refl, refl), (refl, refl)), (((refl, refl), (refl, refl)), (((refl, refl), (refl, refl)), (((refl, refl), (refl, refl)), (((refl, refl), (refl, refl)), tt)))))))

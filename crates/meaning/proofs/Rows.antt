@@ -1,20 +1,17 @@
--- Terms come to words, rows of terms to rows, and what a pattern binds are words.
+-- Terms come to words, rows of terms to rows.
 use Prim.Native.Nat.{ℕ, zero, suc, _≤_}
-use mathlib.Core.Path.{_≡_, subst}
-use mathlib.Core.Option.{none, some}
-use mathlib.Core.List.{List, [], _∷_, _++_, map}
+use mathlib.Core.Path.{_≡_}
+use mathlib.Core.List.{List, [], _∷_, map}
 use native.Mathlib.Omega.{arith}
-use lib.Dec.{eqb, lit<}
+use lib.Dec.{lit<}
 use lib.ListN.{length, getD, length-map}
 use Rattle.rows.specs.Word.{All, IsWord, Words}
-use Rattle.rows.specs.Row.{Row, IsRow}
-use Rattle.rows.proofs.Case.{Case, isTrue, isFalse, split}
-use Rattle.rows.proofs.Lists.{all-left, all-right, all-both}
-use Rattle.policy.specs.Syntax.{Term, atom, var, Slot, old, new}
+use Rattle.rows.specs.Row.{IsRow}
+use Rattle.rows.proofs.Lists.{all-left, all-right}
+use Rattle.policy.specs.Syntax.{Term, atom, var}
 use Rattle.policy.specs.Words.{termWords, each, termRowWords}
 use Rattle.policy.specs.WellFormed.{FitRow}
 use Rattle.meaning.specs.Values.{Values, value, rowOf}
-use Rattle.meaning.specs.Reading.{match}
 
 word-at : (vs : Values) → Words vs → (i : ℕ) → IsWord (getD vs i 0)
 unfolding All
@@ -39,18 +36,3 @@ row-of-terms n vs w ts f t =
     let some : 1 ≤ length ts = f .some in
     let few : length ts ≤ 4 = f .few in
     record { some = omega arith; few = omega arith; words = values-words vs w ts (t .1) }
-
-pub match-words : (p : List Slot) (vs : Values) (x : Row) (ws : Values) → Words vs → Words x → match p vs x ≡ some ws → Words ws
-unfolding match All
-match-words [] vs [] ws a b e = subst Words (let f : vs ≡ ws = cc in f) a
-match-words [] vs (y ∷ x) ws a b e = let z : _≡_ {A = ℕ} 0 1 = cc in absurd (omega arith)
-match-words (old t ∷ p) vs [] ws a b e = let z : _≡_ {A = ℕ} 0 1 = cc in absurd (omega arith)
-match-words (old t ∷ p) vs (y ∷ x) ws a b e = go (match-words p vs x ws a (b .1)) (split (eqb (value vs t) y))
-  where
-    go : (match p vs x ≡ some ws → Words ws) → Case (eqb (value vs t) y) → Words ws
-    go ih (isTrue h) = ih (rw (h, match) at e)
-    go ih (isFalse h) =
-        let m : none ≡ some ws = rw (h, match) at e in
-        let z : _≡_ {A = ℕ} 0 1 = cc in absurd (omega arith)
-match-words (new ∷ p) vs [] ws a b e = let z : _≡_ {A = ℕ} 0 1 = cc in absurd (omega arith)
-match-words (new ∷ p) vs (y ∷ x) ws a b e = match-words p (vs ++ (y ∷ [])) x ws (all-both IsWord vs (y ∷ []) a (b .0, tt)) (b .1) e

@@ -33,15 +33,15 @@ abbrev pub Not12 : {A : Type 0} → Reading A → Type 0
 Not12 m = (k : ℕ) → m k ≡ refused complementDrawn → ⊥
 
 -- what is not open is read as a finite set
-abbrev pub ReadFinite : Evidence → List RowSet → List Known → Expr → Type 0
-ReadFinite names sets ks e = T (not (openExpr e ks)) → (vs : Values) (k : ℕ) (s : RowSet) (j : ℕ) → read names sets e vs k ≡ done s j → IsFinite s
+abbrev pub ReadFinite : ℕ → Evidence → List RowSet → List Known → Expr → Type 0
+ReadFinite format names sets ks e = T (not (openExpr e ks)) → (vs : Values) (k : ℕ) (s : RowSet) (j : ℕ) → read format names sets e vs k ≡ done s j → IsFinite s
 
 -- what draws from nothing open is never refused with 12
-abbrev pub Never12 : Evidence → List RowSet → List Known → Expr → Type 0
-Never12 names sets ks e = T (drawsClosed e ks) → (vs : Values) → Not12 (read names sets e vs)
+abbrev pub Never12 : ℕ → Evidence → List RowSet → List Known → Expr → Type 0
+Never12 format names sets ks e = T (drawsClosed e ks) → (vs : Values) → Not12 (read format names sets e vs)
 
 pub record Theorem : Type 0 where
-  pub finite : (names : Evidence) → FiniteNames names → (sets : List RowSet) (ks : List Known) → FiniteSets ks sets → (e : Expr) → ReadFinite names sets ks e
-  pub never12 : (names : Evidence) → FiniteNames names → (sets : List RowSet) (ks : List Known) → FiniteSets ks sets → (e : Expr) → Never12 names sets ks e
+  pub finite : (format : ℕ) (names : Evidence) → FiniteNames names → (sets : List RowSet) (ks : List Known) → FiniteSets ks sets → (e : Expr) → ReadFinite format names sets ks e
+  pub never12 : (format : ℕ) (names : Evidence) → FiniteNames names → (sets : List RowSet) (ks : List Known) → FiniteSets ks sets → (e : Expr) → Never12 format names sets ks e
   -- so it is with what is held
   pub held : (h : Held) → FiniteNames (namesHeld h)

@@ -17,10 +17,10 @@ abbrev pub Steady : {A : Type 0} → Reading A → Type 0
 Steady m = (k k′ j j′ : ℕ) (a a′ : _) → m k ≡ done a j → m k′ ≡ done a′ j′ → a ≡ a′
 
 -- with both polarities, the two readings are one
-abbrev pub ReadAlike : Evidence → Evidence → List RowSet → List RowSet → List Known → Expr → Type 0
-ReadAlike names names′ sets sets′ ks e =
-    T (hasPolarity e ks plus) → T (hasPolarity e ks minus) → (vs : Values) (k : ℕ) → read names sets e vs k ≡ read names′ sets′ e vs k
+abbrev pub ReadAlike : ℕ → Evidence → Evidence → List RowSet → List RowSet → List Known → Expr → Type 0
+ReadAlike format names names′ sets sets′ ks e =
+    T (hasPolarity e ks plus) → T (hasPolarity e ks minus) → (vs : Values) (k : ℕ) → read format names sets e vs k ≡ read format names′ sets′ e vs k
 
 pub record Theorem : Type 0 where
-  pub alike : (names names′ : Evidence) (sets sets′ : List RowSet) (ks : List Known) (e : Expr) → ReadAlike names names′ sets sets′ ks e
-  pub steady : (names : Evidence) (sets : List RowSet) (e : Expr) (vs : Values) → Steady (read names sets e vs)
+  pub alike : (format : ℕ) (names names′ : Evidence) (sets sets′ : List RowSet) (ks : List Known) (e : Expr) → ReadAlike format names names′ sets sets′ ks e
+  pub steady : (format : ℕ) (names : Evidence) (sets : List RowSet) (e : Expr) (vs : Values) → Steady (read format names sets e vs)

@@ -47,18 +47,18 @@ Agree sets D = (d : ℕ) (r : Row) → IsRow r → T (has (getD sets d (only [])
 
 -- P holds of whatever set the expression is read as, after however many draws. The expression keeps the rules, m definitions being available and n
 -- variables in scope; its words and the variables' values are words.
-abbrev pub WheneverRead : Evidence → List RowSet → Expr → (Values → RowSet → Type 0) → Type 0
-WheneverRead names sets e P =
-    (m n : ℕ) → Fit m n e → Words (exprWords e n) → (vs : Values) → Words vs → (k : ℕ) (s : RowSet) (j : ℕ) → read names sets e vs k ≡ done s j → P vs s
+abbrev pub WheneverRead : ℕ → Evidence → List RowSet → Expr → (Values → RowSet → Type 0) → Type 0
+WheneverRead format names sets e P =
+    (m n : ℕ) → Fit m n e → Words (exprWords e n) → (vs : Values) → Words vs → (k : ℕ) (s : RowSet) (j : ℕ) → read format names sets e vs k ≡ done s j → P vs s
 
 -- the set has just the rows that belong to the expression
-abbrev pub JustThose : World → Meanings → Expr → Values → RowSet → Type 0
-JustThose W D e vs s = (r : Row) → IsRow r → T (has s r) ↔ Belongs W D e vs r
+abbrev pub JustThose : ℕ → World → Meanings → Expr → Values → RowSet → Type 0
+JustThose format W D e vs s = (r : Row) → IsRow r → T (has s r) ↔ Belongs format W D e vs r
 
 pub record Theorem : Type 1 where
-  pub tidy : (names : Evidence) (sets : List RowSet) → ProperNames names → TidySets sets → (e : Expr) → WheneverRead names sets e (λ vs s. Tidy s)
-  pub rows : (names : Evidence) (W : World) → Shows names W → ProperNames names → (sets : List RowSet) (D : Meanings) → Agree sets D → TidySets sets →
-      (e : Expr) → WheneverRead names sets e (JustThose W D e)
+  pub tidy : (format : ℕ) (names : Evidence) (sets : List RowSet) → ProperNames names → TidySets sets → (e : Expr) → WheneverRead format names sets e (λ vs s. Tidy s)
+  pub rows : (format : ℕ) (names : Evidence) (W : World) → Shows names W → ProperNames names → (sets : List RowSet) (D : Meanings) → Agree sets D → TidySets sets →
+      (e : Expr) → WheneverRead format names sets e (JustThose format W D e)
   -- what is held shows the minimal model
   pub proper : (h : Held) → AboutRows h → ProperNames (namesHeld h)
   pub shows : (h : Held) → AboutRows h → (W : World) → Minimal h W → Shows (namesHeld h) W

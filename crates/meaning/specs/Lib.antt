@@ -1,6 +1,7 @@
 pub mod Values
 pub mod Links
 pub mod Evidence
+pub mod Matching
 pub mod Reading
 pub mod World
 pub mod Model

@@ -25,8 +25,8 @@ abbrev pub Ways : List Known → Meanings → Meanings → Type 0
 Ways ks D E = (d : ℕ) (r : Row) → Along (getD ks d unknown .declared) (getD D d (λ x. ⊥) r) (getD E d (λ x. ⊥) r)
 
 -- the expression follows each polarity that it has
-abbrev pub Follows : World → World → List Known → Meanings → Meanings → Expr → Type 0
-Follows W U ks D E e = (p : Polarity) → T (hasPolarity e ks p) → (vs : Values) (r : Row) → Along p (Belongs W D e vs r) (Belongs U E e vs r)
+abbrev pub Follows : ℕ → World → World → List Known → Meanings → Meanings → Expr → Type 0
+Follows format W U ks D E e = (p : Polarity) → T (hasPolarity e ks p) → (vs : Values) (r : Row) → Along p (Belongs format W D e vs r) (Belongs format U E e vs r)
 
 abbrev pub Theorem : Type 1
-Theorem = (W U : World) → Below W U → (ks : List Known) (D E : Meanings) → Ways ks D E → (e : Expr) → Follows W U ks D E e
+Theorem = (format : ℕ) (W U : World) → Below W U → (ks : List Known) (D E : Meanings) → Ways ks D E → (e : Expr) → Follows format W U ks D E e

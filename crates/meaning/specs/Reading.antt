@@ -11,9 +11,10 @@ use Rattle.rows.specs.Row.{Row, rowBefore}
 use Rattle.rows.specs.Name.{plus}
 use Rattle.rows.specs.Sets.{RowSet, only, allBut, listing, mostRows, has, unite, subtract}
 use Rattle.policy.specs.Leaf.{Leaf, finite, cofinite, definition, listed, vetted}
-use Rattle.policy.specs.Syntax.{Term, Slot, old, new, Expr, leaf, union, difference, comprehension, Body, head, draw, same, different, absent}
+use Rattle.policy.specs.Syntax.{Term, Slot, Expr, leaf, union, difference, comprehension, Body, head, draw, same, different, absent}
 use Rattle.meaning.specs.Values.{Values, value, rowOf}
 use Rattle.meaning.specs.Evidence.{Evidence}
+use Rattle.meaning.specs.Matching.{match}
 
 infixl 1 _>>=_ _>>_
 pub data Result (A : Type 0) : Type 0 where
@@ -63,29 +64,19 @@ unfolding rowOf insert rowBefore
 rowsOf vs [] = []
 rowsOf vs (r ∷ rs) = insert rowBefore (rowOf vs r) (rowsOf vs rs)
 
--- a pattern against a row: the values with those of the new variables behind them; "a row of another width is passed over"
-unfoldable pub match : List Slot → Values → Row → Option Values
-unfolding value
-match [] vs [] = some vs
-match [] vs (a ∷ x) = none
-match (old t ∷ p) vs [] = none
-match (old t ∷ p) vs (a ∷ x) = elim (eqb (value vs t) a) [ true ↦ match p vs x | false ↦ none ]
-match (new ∷ p) vs [] = none
-match (new ∷ p) vs (a ∷ x) = match p (vs ++ (a ∷ [])) x
-
 -- what one drawn row adds to the rows found so far: nothing where the pattern does not match
 unfoldable pub onMatch : (Values → List Row → Reading (List Row)) → List Row → Option Values → Reading (List Row)
 onMatch rest found none = give found
 onMatch rest found (some vs) = rest vs found
 
 -- "A draw is one row taken from a drawn set in ascending order, matching or not"; `rest` reads the guards that follow
-unfoldable pub drawEach : (Values → List Row → Reading (List Row)) → List Slot → Values → List Row → List Row → Reading (List Row)
+unfoldable pub drawEach : ℕ → (Values → List Row → Reading (List Row)) → List Slot → Values → List Row → List Row → Reading (List Row)
 unfolding after tick match onMatch
-drawEach rest p vs [] found = give found
-drawEach rest p vs (x ∷ xs) found = do
+drawEach format rest p vs [] found = give found
+drawEach format rest p vs (x ∷ xs) found = do
   tick
-  more ← onMatch rest found (match p vs x)
-  drawEach rest p vs xs more
+  more ← onMatch rest found (match format p vs x)
+  drawEach format rest p vs xs more
 
 -- `names` is the evidence, `sets` are the sets read for the earlier definitions
 module _ (names : Evidence) (sets : List RowSet) where
@@ -98,11 +89,13 @@ module _ (names : Evidence) (sets : List RowSet) where
   -- document 02, N2: "that key's list if the one-atom row of the issuer is absent from that definition, and no rows otherwise"
   readLeaf (vetted t n d) vs = elim (has (getD sets d (only [])) (value vs t ∷ [])) [ true ↦ give (only []) | false ↦ small (names (value vs t) n plus) ]
 
+-- in a policy of this format
+module _ (format : ℕ) (names : Evidence) (sets : List RowSet) where
   unfoldable mutual
     unfolding readLeaf rowOf value small within drawable after drawEach has unite subtract insert rowBefore
 
     pub read : Expr → Values → Reading RowSet
-    read (leaf x) vs = readLeaf x vs
+    read (leaf x) vs = readLeaf names sets x vs
     read (union a b) vs = do
       x ← read a vs
       y ← read b vs
@@ -121,7 +114,7 @@ module _ (names : Evidence) (sets : List RowSet) where
     gather (draw e p rest) vs found = do
       s ← read e vs
       xs ← drawable s
-      drawEach (λ ws more. gather rest ws more) p vs xs found
+      drawEach format (λ ws more. gather rest ws more) p vs xs found
     gather (same x y rest) vs found = elim (eqb (value vs x) (value vs y)) [ true ↦ gather rest vs found | false ↦ give found ]
     gather (different x y rest) vs found = elim (eqb (value vs x) (value vs y)) [ true ↦ give found | false ↦ gather rest vs found ]
     gather (absent r e rest) vs found = do

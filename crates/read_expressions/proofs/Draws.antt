@@ -81,12 +81,12 @@ module _ {f : From} {ws : List ℕ} {pattern rest left : ℕ} {first : List ℕ}
     means = d .means (done (rowsIn now) used) (record { says = λ p b s w. rw (drop-of-length-le (rowsIn (drop free entry)) {i = i} (omega (arith, d .all))) });
   }
 
-  module _ {r : Drawn.Drawn} {later : List ℕ} (said : SayDrawn ws pattern values count (rowsIn (drop free now)) i used r later) where
+  module _ {r : Drawn.Drawn} {later : List ℕ} (said : SayDrawn (f .format) ws pattern values count (rowsIn (drop free now)) i used r later) where
     -- said of the rows and of the values that were there at the start
-    since : SayDrawn ws pattern first count (rowsIn (drop free entry)) i used r later
+    since : SayDrawn (f .format) ws pattern first count (rowsIn (drop free entry)) i used r later
     since =
         let rows : rowsIn (drop free now) ≡ rowsIn (drop free entry) = rows-same drawn-front (d .asked .drawn .sound) in
-        drawn-since (d .unchanged) (subst (λ (xs : List Row). SayDrawn ws pattern values count xs i used r later) rows said)
+        drawn-since (d .unchanged) (subst (λ (xs : List Row). SayDrawn (f .format) ws pattern values count xs i used r later) rows said)
 
     pub each-refused : {n : ℕ} → r ≡ Drawn.the-variants.Refused n → SayEach f ws pattern rest left first count k free entry (Refused n) later now
     unfolding IfDone rowsReadIs

@@ -24,10 +24,10 @@ use Rattle.read_values.specs.declared.Read.{Read}
 use Rattle.read_values.specs.declared.Tested.{Tested}
 
 abbrev pub reading : From → Expr → Values → Reading RowSet
-reading f = read (names f) (sets f)
+reading f = read (f .format) (names f) (sets f)
 
 abbrev pub gathering : From → Body → Values → List Row → Reading (List Row)
-gathering f = gather (names f) (sets f)
+gathering f = gather (f .format) (names f) (sets f)
 
 -- ---- an expression: whichever stands there is read as `a`, k draws being made before
 
@@ -91,7 +91,7 @@ pub record MeansDraw (f : From) (ws : List ℕ) (at left count : ℕ) (vs : Valu
 -- the rows xs, drawn in turn: the pattern stands at one place, the guards that follow at another
 pub record MeansEach (f : From) (ws : List ℕ) (pattern rest left count : ℕ) (vs : Values) (xs : List Row) (k : ℕ) (found : List Row) (a : Result (List Row)) : Type 0 where
   pub says : (p : List Slot) (b : Body) → StandsPattern count ws pattern p → StandsBody (f .known) (count + fresh p) ws rest left b →
-      drawEach (gathering f b) p vs xs found k ≡ a
+      drawEach (f .format) (gathering f b) p vs xs found k ≡ a
 
 pub record MeansAbsent (f : From) (ws : List ℕ) (at left count : ℕ) (vs : Values) (k : ℕ) (found : List Row) (a : Result (List Row)) : Type 0 where
   pub says : (r : List Term) (e : Expr) (b : Body) → StandsAbsent (f .known) count ws at left r e b → gathering f (absent r e b) vs found k ≡ a

@@ -298,7 +298,17 @@ fn draw_rows(
     let mut used = draws;
     let mut i: usize = 0;
     while i < listed {
-        match draw_next(words, pattern, values, count, used, area, free, i) {
+        match draw_next(
+            words,
+            pattern,
+            values,
+            count,
+            used,
+            area,
+            free,
+            i,
+            given.format,
+        ) {
             Drawn::Refused(n) => {
                 return Read::Refused(n);
             }

@@ -7,11 +7,12 @@ use mathlib.Core.Option.{Option, none, some}
 use native.Mathlib.Numerals.{add-one}
 use native.Mathlib.Omega.{arith}
 use lib.Dec.{eqb}
-use lib.ListN.{length, take, drop, getD, set, length-drop}
+use lib.ListN.{length, take, drop, getD, set}
 use lib.Seq.{drop-cons}
 use borrow.Author.Tests.{eq-eqb, ne-eqb}
 use Rattle.rows.specs.Row.{Row}
 use Rattle.rows.specs.Layout.{rowIn, fiveAt}
+use Rattle.rows.proofs.Case.{T-true}
 use Rattle.rows.proofs.Lists.{no-elements}
 use Rattle.row_words.proofs.RowLaws.{row-at-length, row-at-atom}
 use Rattle.policy.specs.Syntax.{Term, Slot, old, new}
@@ -20,26 +21,13 @@ use Rattle.policy.specs.Held.{termIs, slotIs}
 use Rattle.policy.specs.declared.Term as Held-term
 use Rattle.policy.specs.declared.Slot.the-variants.{Old, New}
 use Rattle.meaning.specs.Values.{Values, value}
-use Rattle.meaning.specs.Reading.{match}
+use Rattle.meaning.specs.Matching.{fits, matchFirst, match}
+use Rattle.meaning.proofs.Matching.{fits-long, match-fits, match-misfits}
 use Rattle.read_values.specs.Values.{Bound, Unchanged}
 use Rattle.policy_places.specs.Places.{At, StandsPattern, SomePattern, IsSlot}
 use Rattle.read_steps.specs.Steps.{matchedIs, SayMatch}
 use Rattle.policy_places.proofs.Places.{at-word, at-next, at-skip, at-long, term-length, slots-length, slots-scope, pattern-wide}
 use Rattle.read_values.proofs.Lent.{unchanged-self, unchanged-then, unchanged-less, unchanged-bind, take-bind, bound-bind}
-
--- a pattern and a row of another width
-match-short : (p : List Slot) (vs : Values) (x : Row) → (length p ≡ length x → ⊥) → match p vs x ≡ none
-unfolding match
-match-short [] vs [] h = absurd (h refl)
-match-short [] vs (a ∷ x) h = refl
-match-short (old t ∷ p) vs [] h = refl
-match-short (old t ∷ p) vs (a ∷ x) h = go (eqb (value vs t) a) (match-short p vs x (λ e. h (ap suc e)))
-  where
-    go : (b : Bool) → match p vs x ≡ none → _≡_ {A = Option Values} (elim b as (λ c. Option Values) [ true ↦ match p vs x | false ↦ none ]) none
-    go true e = e
-    go false e = refl
-match-short (new ∷ p) vs [] h = refl
-match-short (new ∷ p) vs (a ∷ x) h = match-short p (vs ++ (a ∷ [])) x (λ e. h (ap suc e))
 
 -- ---- slots: `left` of them stand there, n variables being in scope
 
@@ -102,8 +90,8 @@ record Matching (ws : List ℕ) (at n : ℕ) (vs : Values) (x : Row) (width scop
   within : j ≤ width
   p : List Slot
   here : SlotsLeft ws (at + 1 + 2 * j) scope (width - j) p
-  means : (r : Option Values) → ((q : List Slot) → SlotsLeft ws (at + 1 + 2 * j) scope (width - j) q → match q us (drop j x) ≡ r) →
-      (q : List Slot) → SlotsLeft ws (at + 1) n width q → match q vs x ≡ r
+  means : (r : Option Values) → ((q : List Slot) → SlotsLeft ws (at + 1 + 2 * j) scope (width - j) q → matchFirst q us (drop j x) ≡ r) →
+      (q : List Slot) → SlotsLeft ws (at + 1) n width q → matchFirst q vs x ≡ r
   count : (m : ℕ) → ((q : List Slot) → SlotsLeft ws (at + 1 + 2 * j) scope (width - j) q → m ≡ scope + fresh q) →
       (q : List Slot) → SlotsLeft ws (at + 1) n width q → m ≡ n + fresh q
 
@@ -122,12 +110,12 @@ module _ {ws : List ℕ} {at n : ℕ} {vs : Values} {x : Row} {width scope : ℕ
       let w : width - j - 1 ≡ width - (j + 1) = omega arith in
       subst (λ (k : ℕ). SlotsLeft ws (at + 1 + 2 * (j + 1)) n k p) w (subst (λ (k : ℕ). SlotsLeft ws k n (width - j - 1) p) a s)
 
-  module _ {a : ℕ} (long : length x ≡ width) (atom : getD x j 0 ≡ a) where
+  module _ {a : ℕ} (long : width ≤ length x) (atom : getD x j 0 ≡ a) where
     here : drop j x ≡ a ∷ drop (j + 1) x
     here = rw (add-one) (drop-cons x j 0 (omega arith) ∙ ap (λ (y : ℕ). y ∷ drop (suc j) x) atom)
 
     matching-new : {more : Values} → IsSlot ws (at + 1 + 2 * j) New → more ≡ us ++ (a ∷ []) → Matching ws at n vs x width (scope + 1) more (j + 1)
-    unfolding match fresh
+    unfolding matchFirst fresh
     matching-new {more} i v =
         let w = new-next (omega arith) i (iv .here) in
         record {
@@ -136,18 +124,18 @@ module _ {ws : List ℕ} {at n : ℕ} {vs : Values} {x : Row} {width scope : ℕ
           here = moved (w .rest);
           means = λ z g. iv .means z (λ q s.
               let y = new-next (omega arith) i s in
-              ap (λ (u : List Slot). match u us (drop j x)) (y .is) ∙ ap (λ (u : Row). match (new ∷ y .p) us u) here
-              ∙ ap (λ (u : Values). match (y .p) u (drop (j + 1) x)) (sym v) ∙ g (y .p) (moved (y .rest)));
+              ap (λ (u : List Slot). matchFirst u us (drop j x)) (y .is) ∙ ap (λ (u : Row). matchFirst (new ∷ y .p) us u) here
+              ∙ ap (λ (u : Values). matchFirst (y .p) u (drop (j + 1) x)) (sym v) ∙ g (y .p) (moved (y .rest)));
           count = λ m g. iv .count m (λ q s. let y = new-next (omega arith) i s in let e = g (y .p) (moved (y .rest)) in let f = ap fresh (y .is) in omega arith);
         }
 
     module _ {t : Held-term.Term} (i : IsSlot ws (at + 1 + 2 * j) (Old t)) where
       old-match : (q : List Slot) (y : OldNext ws (at + 1 + 2 * j) scope (width - j) t q) (r : Option Values) (b : Bool) → eqb (value us (termIs t)) a ≡ b →
-          _≡_ {A = Option Values} (elim b as (λ c. Option Values) [ true ↦ match (y .p) us (drop (j + 1) x) | false ↦ none ]) r → match q us (drop j x) ≡ r
-      unfolding match
+          _≡_ {A = Option Values} (elim b as (λ c. Option Values) [ true ↦ matchFirst (y .p) us (drop (j + 1) x) | false ↦ none ]) r → matchFirst q us (drop j x) ≡ r
+      unfolding matchFirst
       old-match q y r b e g =
-          ap (λ (u : List Slot). match u us (drop j x)) (y .is) ∙ ap (λ (u : Row). match (old (y .t) ∷ y .p) us u) here
-          ∙ ap (λ (c : Bool). elim c as (λ c. Option Values) [ true ↦ match (y .p) us (drop (j + 1) x) | false ↦ none ])
+          ap (λ (u : List Slot). matchFirst u us (drop j x)) (y .is) ∙ ap (λ (u : Row). matchFirst (old (y .t) ∷ y .p) us u) here
+          ∙ ap (λ (c : Bool). elim c as (λ c. Option Values) [ true ↦ matchFirst (y .p) us (drop (j + 1) x) | false ↦ none ])
           (ap (λ (u : ℕ). eqb u a) (sym (ap (value us) (y .held))) ∙ e) ∙ g
 
       matching-old : value us (termIs t) ≡ a → Matching ws at n vs x width scope us (j + 1)
@@ -162,11 +150,8 @@ module _ {ws : List ℕ} {at n : ℕ} {vs : Values} {x : Row} {width scope : ℕ
             count = λ m g. iv .count m (λ q s. let y = old-next (omega arith) i s in let k = g (y .p) (moved (y .rest)) in let f = ap fresh (y .is) in omega arith);
           }
 
-      matching-fails : (value us (termIs t) ≡ a → ⊥) → (q : List Slot) → SlotsLeft ws (at + 1) n width q → match q vs x ≡ none
+      matching-fails : (value us (termIs t) ≡ a → ⊥) → (q : List Slot) → SlotsLeft ws (at + 1) n width q → matchFirst q vs x ≡ none
       matching-fails e = iv .means none (λ q s. let y = old-next (omega arith) i s in old-match q y none false (ne-eqb _ _ e) refl)
-
-none-left : (x : Row) (j : ℕ) → length x ≤ j → drop j x ≡ []
-none-left x j h = no-elements (drop j x) (omega (arith, length-drop j x))
 
 slots-none : {ws : List ℕ} {at n : ℕ} {p : List Slot} (left : ℕ) → left ≡ 0 → SlotsLeft ws at n left p → p ≡ []
 slots-none {p} left z s = no-elements p (s .many ∙ z)
@@ -182,23 +167,28 @@ pub record Passed (ws : List ℕ) (at : ℕ) (values : List ℕ) (count : ℕ) (
 pub passed-start : {ws : List ℕ} {at : ℕ} {values : List ℕ} {count : ℕ} {area : List ℕ} {row : ℕ} → Bound values count → SomePattern count ws at → Passed ws at values count area row values count 0
 passed-start b s = record { unchanged = unchanged-self; bound = b; more = omega arith; slots = matching-start (b .scope) s }
 
--- a row of the pattern's width, read from the words at its place
-pub record Fits (ws : List ℕ) (at : ℕ) (area : List ℕ) (row : ℕ) : Type 0 where
-  pub long : length (rowIn (fiveAt area row)) ≡ getD ws at 0
+-- a row that the pattern's width fits, read from the words at its place
+pub record Fits (format : ℕ) (ws : List ℕ) (at : ℕ) (area : List ℕ) (row : ℕ) : Type 0 where
+  pub may : fits format (getD ws at 0) (length (rowIn (fiveAt area row))) ≡ true
+  pub few : getD ws at 0 ≤ 4
+  pub long : getD ws at 0 ≤ length (rowIn (fiveAt area row))
   pub atom : (j : ℕ) → j < getD ws at 0 → getD (rowIn (fiveAt area row)) j 0 ≡ getD area (row + 1 + j) 0
 
-pub same-width : (ws : List ℕ) (at : ℕ) (area : List ℕ) (row : ℕ) → row + 5 ≤ length area → getD area row 0 ≤ 4 → getD area row 0 ≡ getD ws at 0 → Fits ws at area row
-same-width ws at area row room few e = record { long = row-at-length area row room few ∙ e; atom = λ j h. row-at-atom area row j few (omega arith) }
+pub fitting : {format : ℕ} {ws : List ℕ} {at : ℕ} (area : List ℕ) (row : ℕ) → row + 5 ≤ length area → getD area row 0 ≤ 4 → fits format (getD ws at 0) (getD area row 0) ≡ true → Fits format ws at area row
+fitting {format} {ws} {at} area row room few e =
+    let l : length (rowIn (fiveAt area row)) ≡ getD area row 0 = row-at-length area row room few in
+    let long : getD ws at 0 ≤ getD area row 0 = fits-long format (getD ws at 0) (getD area row 0) (T-true e) in
+    record { may = ap (fits format (getD ws at 0)) l ∙ e; few = omega arith; long = omega arith; atom = λ j h. row-at-atom area row j few (omega arith) }
 
--- rows of another width do not match
-pub other-width : {ws : List ℕ} {at : ℕ} {values : List ℕ} {count : ℕ} (area : List ℕ) (row : ℕ) → row + 5 ≤ length area → getD area row 0 ≤ 4 → (getD area row 0 ≡ getD ws at 0 → ⊥) →
-    SayMatch ws at values count (rowIn (fiveAt area row)) (record { ok = false; count = count }) values
+-- rows that it does not fit do not match
+pub misfitting : {format : ℕ} {ws : List ℕ} {at : ℕ} {values : List ℕ} {count : ℕ} (area : List ℕ) (row : ℕ) → row + 5 ≤ length area → getD area row 0 ≤ 4 →
+    fits format (getD ws at 0) (getD area row 0) ≡ false → SayMatch format ws at values count (rowIn (fiveAt area row)) (record { ok = false; count = count }) values
 unfolding matchedIs
-other-width {values} {count} area row room few h = record {
+misfitting {format} {values} {count} area row room few h = record {
   unchanged = unchanged-self;
   means = λ p s.
       let w = pattern-wide s .width in
-      match-short p (take count values) (rowIn (fiveAt area row)) (λ e. h (sym (row-at-length area row room few) ∙ sym e ∙ sym w));
+      match-misfits format p (take count values) (rowIn (fiveAt area row)) (rw (row-at-length area row room few, sym w) h);
   scope = λ p s e. let w : _≡_ {A = ℕ} 0 1 = cc in absurd (omega arith);
 }
 
@@ -209,7 +199,7 @@ module _ {ws : List ℕ} {at : ℕ} {values : List ℕ} {count : ℕ} {area : Li
   pub new-scope : j < getD ws at 0 → IsSlot ws (at + 1 + 2 * j) New → scope < 16
   new-scope less i = new-next (omega arith) i (iv .slots .here) .fits
 
-  module _ (fits : Fits ws at area row) where
+  module _ {format : ℕ} (f : Fits format ws at area row) where
     pub passed-new : j < getD ws at 0 → IsSlot ws (at + 1 + 2 * j) New → Passed ws at values count area row (set valuesNow scope (getD area (row + 1 + j) 0)) (scope + 1) (j + 1)
     passed-new less i =
         let more = iv .more in
@@ -219,33 +209,35 @@ module _ {ws : List ℕ} {at : ℕ} {values : List ℕ} {count : ℕ} {area : Li
           unchanged = unchanged-then (iv .unchanged) (unchanged-less more (unchanged-bind valuesNow scope _));
           bound = bound-bind valuesNow scope _ inside (iv .bound);
           more = omega arith;
-          slots = matching-new (iv .slots) less (fits .long) (fits .atom j less) i (take-bind valuesNow scope _ (omega arith));
+          slots = matching-new (iv .slots) less (f .long) (f .atom j less) i (take-bind valuesNow scope _ (omega arith));
         }
 
     pub passed-old : {t : Held-term.Term} → j < getD ws at 0 → IsSlot ws (at + 1 + 2 * j) (Old t) → value (take scope valuesNow) (termIs t) ≡ getD area (row + 1 + j) 0 →
         Passed ws at values count area row valuesNow scope (j + 1)
     passed-old less i e =
-        record { unchanged = iv .unchanged; bound = iv .bound; more = iv .more; slots = matching-old (iv .slots) less (fits .long) (fits .atom j less) i e }
+        record { unchanged = iv .unchanged; bound = iv .bound; more = iv .more; slots = matching-old (iv .slots) less (f .long) (f .atom j less) i e }
 
     module _ (b : Bound values count) where
+      -- the pattern fits: its slots decide
+      decided : {p : List Slot} → StandsPattern count ws at p → match format p (take count values) (rowIn (fiveAt area row)) ≡ matchFirst p (take count values) (rowIn (fiveAt area row))
+      decided {p} s = match-fits format p (take count values) (rowIn (fiveAt area row)) (rw (sym (pattern-wide s .width)) (f .may))
+
       pub mismatched : {t : Held-term.Term} → j < getD ws at 0 → IsSlot ws (at + 1 + 2 * j) (Old t) → (value (take scope valuesNow) (termIs t) ≡ getD area (row + 1 + j) 0 → ⊥) →
-          SayMatch ws at values count (rowIn (fiveAt area row)) (record { ok = false; count = count }) valuesNow
+          SayMatch format ws at values count (rowIn (fiveAt area row)) (record { ok = false; count = count }) valuesNow
       unfolding matchedIs
       mismatched less i e = record {
         unchanged = iv .unchanged;
-        means = λ p s. matching-fails (iv .slots) less (fits .long) (fits .atom j less) i e p (slots-inside (b .scope) s);
+        means = λ p s. decided s ∙ matching-fails (iv .slots) less (f .long) (f .atom j less) i e p (slots-inside (b .scope) s);
         scope = λ p s w. let z : _≡_ {A = ℕ} 0 1 = cc in absurd (omega arith);
       }
 
-      pub matched : getD ws at 0 ≤ j → SayMatch ws at values count (rowIn (fiveAt area row)) (record { ok = true; count = scope }) valuesNow
-      unfolding match fresh matchedIs
+      pub matched : getD ws at 0 ≤ j → SayMatch format ws at values count (rowIn (fiveAt area row)) (record { ok = true; count = scope }) valuesNow
+      unfolding matchFirst fresh matchedIs
       matched h =
-          let long = fits .long in
           let x : Row = rowIn (fiveAt area row) in
           let empty : (q : List Slot) → SlotsLeft ws (at + 1 + 2 * j) scope (getD ws at 0 - j) q → q ≡ [] = λ q l. slots-none (getD ws at 0 - j) (omega arith) l in
           record {
             unchanged = iv .unchanged;
-            means = λ p s. iv .slots .means (some (take scope valuesNow)) (λ q l.
-                ap (λ (u : List Slot). match u (take scope valuesNow) (drop j x)) (empty q l) ∙ ap (λ (u : Row). match [] (take scope valuesNow) u) (none-left x j (omega arith))) p (slots-inside (b .scope) s);
+            means = λ p s. decided s ∙ iv .slots .means (some (take scope valuesNow)) (λ q l. ap (λ (u : List Slot). matchFirst u (take scope valuesNow) (drop j x)) (empty q l)) p (slots-inside (b .scope) s);
             scope = λ p s e. iv .slots .count scope (λ q l. let f = ap fresh (empty q l) in omega arith) p (slots-inside (b .scope) s);
           }

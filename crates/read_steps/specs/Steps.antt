@@ -13,7 +13,8 @@ use Rattle.rows.specs.Layout.{setRoom, rowsIn, setIn}
 use Rattle.policy.specs.Syntax.{Term, Slot}
 use Rattle.policy.specs.Words.{fresh}
 use Rattle.meaning.specs.Values.{Values, rowOf}
-use Rattle.meaning.specs.Reading.{Result, done, refused, Reading, after, within, small, match, drawEach}
+use Rattle.meaning.specs.Matching.{match}
+use Rattle.meaning.specs.Reading.{Result, done, refused, Reading, after, within, small, drawEach}
 use Rattle.read_values.specs.Values.{Unchanged}
 use Rattle.policy_places.specs.Places.{StandsRow, StandsPattern}
 use Rattle.read_values.specs.Answers.{Filled, setReadIs, IfDone}
@@ -35,11 +36,11 @@ unfoldable pub matchedIs : Matched → List ℕ → Option Values
 matchedIs m values = elim (m .ok) [ true ↦ some (take (m .count) values) | false ↦ none ]
 
 -- drawing on: after a row that matches come the guards that follow, read by `rest`, and then the rows behind it
-unfoldable pub drawnIs : Drawn.Drawn → List ℕ → (Values → List Row → Reading (List Row)) → List Slot → Values → List Row → List Row → Result (List Row)
+unfoldable pub drawnIs : ℕ → Drawn.Drawn → List ℕ → (Values → List Row → Reading (List Row)) → List Slot → Values → List Row → List Row → Result (List Row)
 unfolding after drawEach
-drawnIs (Drawn.the-variants.Matches next draws scope) values rest p vs xs found = after (rest (take scope values) found draws) (λ more. drawEach rest p vs (drop next xs) more)
-drawnIs (Drawn.the-variants.End draws) values rest p vs xs found = done found draws
-drawnIs (Drawn.the-variants.Refused n) values rest p vs xs found = refused n
+drawnIs format (Drawn.the-variants.Matches next draws scope) values rest p vs xs found = after (rest (take scope values) found draws) (λ more. drawEach format rest p vs (drop next xs) more)
+drawnIs format (Drawn.the-variants.End draws) values rest p vs xs found = done found draws
+drawnIs format (Drawn.the-variants.Refused n) values rest p vs xs found = refused n
 
 -- a row that matches is one of the n rows from row i on
 unfoldable pub Among : Drawn.Drawn → ℕ → ℕ → Type 0
@@ -78,9 +79,9 @@ pub record SayHead (ws : List ℕ) (at : ℕ) (vs : Values) (k : ℕ) (entry : L
   pub kept : (free : ℕ) → Kept free entry area
 
 -- a pattern against the row x
-pub record SayMatch (ws : List ℕ) (at : ℕ) (values : List ℕ) (count : ℕ) (x : Row) (m : Matched) (valuesNow : List ℕ) : Type 0 where
+pub record SayMatch (format : ℕ) (ws : List ℕ) (at : ℕ) (values : List ℕ) (count : ℕ) (x : Row) (m : Matched) (valuesNow : List ℕ) : Type 0 where
   pub unchanged : Unchanged count values valuesNow
-  pub means : (p : List Slot) → StandsPattern count ws at p → match p (take count values) x ≡ matchedIs m valuesNow
+  pub means : (p : List Slot) → StandsPattern count ws at p → match format p (take count values) x ≡ matchedIs m valuesNow
   pub scope : (p : List Slot) → StandsPattern count ws at p → m .ok ≡ true → m .count ≡ count + fresh p
 
 -- whether the row that the terms come to belongs to the set
@@ -88,9 +89,9 @@ pub record SayHas (ws : List ℕ) (at : ℕ) (vs : Values) (set : List ℕ) (r :
   pub means : (n : ℕ) (ts : List Term) → StandsRow n ws at ts → has (setIn set) (rowOf vs ts) ≡ r
 
 -- the rows xs drawn from row i on, whatever reads the guards that follow
-pub record SayDrawn (ws : List ℕ) (at : ℕ) (values : List ℕ) (count : ℕ) (xs : List Row) (i k : ℕ) (r : Drawn.Drawn) (valuesNow : List ℕ) : Type 0 where
+pub record SayDrawn (format : ℕ) (ws : List ℕ) (at : ℕ) (values : List ℕ) (count : ℕ) (xs : List Row) (i k : ℕ) (r : Drawn.Drawn) (valuesNow : List ℕ) : Type 0 where
   pub unchanged : Unchanged count values valuesNow
   pub among : Among r i (length xs)
   pub scope : (p : List Slot) → StandsPattern count ws at p → InScope r (count + fresh p)
   pub means : (p : List Slot) → StandsPattern count ws at p → (rest : Values → List Row → Reading (List Row)) (found : List Row) →
-      drawEach rest p (take count values) (drop i xs) found k ≡ drawnIs r valuesNow rest p (take count values) xs found
+      drawEach format rest p (take count values) (drop i xs) found k ≡ drawnIs format r valuesNow rest p (take count values) xs found

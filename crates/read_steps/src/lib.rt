@@ -1,13 +1,16 @@
 // What the readers do in one step: rows drawn and matched, a row tested or gathered, two sets joined.
 ghost use Prim.Native.Nat.{_+_, _≤_};
+ghost use mathlib.Core.Path.{_≡_};
 ghost use lib.ListN.{length, getD, take, drop};
 ghost use Rattle.rows.specs.Layout.{setRoom, rowIn, rowsIn, fiveAt};
+ghost use Rattle.meaning.specs.Matching.{fits};
 ghost use Rattle.read_values.specs.Values.{Bound};
 ghost use Rattle.policy_places.specs.Places.{SomeRow, SomePattern};
 ghost use Rattle.read_values.specs.Answers.{Filled};
 ghost use Rattle.read_steps.specs.Areas.{Gathering};
 ghost use Rattle.read_steps.specs.Steps.{SayCombined, SayIs, SayLast, SayHead, SayHas, SayMatch, SayDrawn};
 use policy::Slot;
+use policy::WIDER_ROWS;
 use policy_places::slot_at;
 use read_values::Read;
 use read_values::atom_of;
@@ -121,7 +124,17 @@ pub fn has_row(words: &[u32], at: usize, values: &[u32; 16], count: usize, set: 
     has(set, row)
 }
 
-// A pattern against the row whose words stand at `row`: the matching rule. The atoms of its new variables are written behind the values.
+// The matching rule: may a pattern of this width match a row of so many atoms, in a policy of this format?
+fn fits(format: u32, width: u32, atoms: u32) -> bool
+    ensures { λ r. ⌜ r ≡ fits format width atoms ⌝ }
+{
+    if format == WIDER_ROWS {
+        return width <= atoms;
+    }
+    width == atoms
+}
+
+// A pattern against the row whose words stand at `row`. The atoms of its new variables are written behind the values.
 pub fn match_row(
     words: &[u32],
     at: usize,
@@ -129,12 +142,13 @@ pub fn match_row(
     count: usize,
     area: &[u32],
     row: usize,
+    format: u32,
 ) -> Matched
     requires { ⌜ Bound (now values) count × SomePattern count (now words) at × (row + 5 ≤ length (now area)) × (getD (now area) row 0 ≤ 4) ⌝ }
-    ensures { λ r. ⌜ SayMatch (now (words .entry)) at (now (values .entry)) count (rowIn (fiveAt (now (area .entry)) row)) r (now (values .exit)) ⌝ }
+    ensures { λ r. ⌜ SayMatch format (now (words .entry)) at (now (values .entry)) count (rowIn (fiveAt (now (area .entry)) row)) r (now (values .exit)) ⌝ }
 {
     let width = words[at];
-    if area[row] != width {
+    if !fits(format, width, area[row]) {
         return Matched { ok: false, count };
     }
     let end = wide(width);
@@ -172,9 +186,10 @@ pub fn draw_next(
     area: &[u32],
     free: usize,
     i: usize,
+    format: u32,
 ) -> Drawn
     requires { ⌜ Bound (now values) count × SomePattern count (now words) at × Filled (drop free (now area)) ⌝ }
-    ensures { λ r. ⌜ SayDrawn (now (words .entry)) at (now (values .entry)) count (rowsIn (drop free (now (area .entry)))) i draws r (now (values .exit)) ⌝ }
+    ensures { λ r. ⌜ SayDrawn format (now (words .entry)) at (now (values .entry)) count (rowsIn (drop free (now (area .entry)))) i draws r (now (values .exit)) ⌝ }
 {
     let listed = wide(area[free + 1]);
     let mut used = draws;
@@ -190,7 +205,7 @@ pub fn draw_next(
         }
         let row = free + 2 + 5 * j;
         j += 1;
-        let got = match_row(words, at, values, count, area, row);
+        let got = match_row(words, at, values, count, area, row, format);
         if got.ok {
             let scope = got.count;
             return Drawn::Matches {

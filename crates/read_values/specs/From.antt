@@ -1,4 +1,4 @@
--- What is read from besides the words: the store and the link store at a minute, and the sets of the definitions read before.
+-- What is read from besides the words: the policy's format, the store and the link store at a minute, and the sets of the definitions read before.
 use Prim.Native.Nat.{ℕ, zero, suc, _*_, _<_}
 use mathlib.Core.Path.{_≡_}
 use mathlib.Core.Bool.{true}
@@ -15,13 +15,18 @@ use Rattle.read_values.specs.declared.Given.{Given}
 
 pub record From : Type 0 where
   pub minute : ℕ
+  pub format : ℕ
   pub stores : Stores
   pub defs : List ℕ
   pub known : ℕ
 
 -- as the readers carry it
 abbrev pub from : Given → List ℕ → List ℕ → List ℕ → From
-from given store defs links = record { minute = given .minute; stores = record { store = store; links = links }; defs = defs; known = given .known }
+from given store defs links = record { minute = given .minute; format = given .format; stores = record { store = store; links = links }; defs = defs; known = given .known }
+
+-- the same, so many definitions being read, their sets in this area
+abbrev pub withSets : From → List ℕ → ℕ → From
+withSets f defs n = record { minute = f .minute; format = f .format; stores = f .stores; defs = defs; known = n }
 
 -- the sets of the definitions read so far, in the definition area
 unfoldable pub setsIn : ℕ → List ℕ → List RowSet

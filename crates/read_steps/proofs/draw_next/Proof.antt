@@ -12,10 +12,10 @@ use Rattle.read_steps.proofs.draw_next.Statement.{statement}
 use Rattle.read_steps.proofs.draw_next.Tie as tie
 
 abbrev Inv-loop : tie.InvT-loop
-Inv-loop words at values₀ count draws area free i listed used₀ j₀ values used j = Seeking words at values₀ count draws area free i listed values used j
+Inv-loop words at values₀ count draws area free i format listed used₀ j₀ values used j = Seeking format words at values₀ count draws area free i listed values used j
 
 abbrev μ-loop : tie.MeasureT-loop
-μ-loop words at values₀ count draws area free i listed used₀ j₀ values used j = listed - j
+μ-loop words at values₀ count draws area free i format listed used₀ j₀ values used j = listed - j
 
 -- ---- places
 

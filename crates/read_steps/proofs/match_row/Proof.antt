@@ -4,30 +4,31 @@ use mathlib.Core.Path.{sym, _∙_}
 use native.Mathlib.Omega.{arith}
 use lib.ListN.{length, getD}
 use borrow.Author.Needs.{needs}
+use borrow.Author.Tests.{not-true, not-false}
 use Rattle.policy.specs.declared.Slot.the-variants.{Old, New}
 use Rattle.policy_places.specs.Places.{IsSlot}
 use Rattle.policy_places.proofs.Places.{pattern-width}
 use Rattle.policy_places.proofs.Held.{slot-told}
-use Rattle.read_steps.proofs.Match.{Passed, Fits, passed-start, same-width, other-width, slot-inside, new-scope, passed-new, passed-old, matched, mismatched}
+use Rattle.read_steps.proofs.Match.{Passed, Fits, passed-start, fitting, misfitting, slot-inside, new-scope, passed-new, passed-old, matched, mismatched}
 use Rattle.read_steps.proofs.match_row.Statement.{statement}
 use Rattle.read_steps.proofs.match_row.Tie as tie
 
 abbrev Inv-loop : tie.InvT-loop
-Inv-loop words at values₀ count area row width end scope₀ j₀ values scope j = Passed words at values₀ count area row values scope j
+Inv-loop words at values₀ count area row format width end scope₀ j₀ values scope j = Passed words at values₀ count area row values scope j
 
 abbrev μ-loop : tie.MeasureT-loop
-μ-loop words at values₀ count area row width end scope₀ j₀ values scope j = end - j
+μ-loop words at values₀ count area row format width end scope₀ j₀ values scope j = end - j
 
 -- ---- places
 
 abbrev entry : tie.At-loop Inv-loop μ-loop → tie.Start Inv-loop μ-loop
-entry l = l .before .before .before .before .before .before .before
+entry l = l .before .before .before .before .before .before .before .before
 
 abbrev width : tie.At-loop Inv-loop μ-loop → ℕ
 width l = getD (entry l .args .words .now) (entry l .args .at) 0
 
-fits : (l : tie.At-loop Inv-loop μ-loop) → Fits (entry l .args .words .now) (entry l .args .at) (entry l .args .area .now) (entry l .args .row)
-fits l = same-width _ _ (entry l .args .area .now) (entry l .args .row) (entry l .pre .2) (entry l .pre .3) (l .before .before .if1 .left)
+fits : (l : tie.At-loop Inv-loop μ-loop) → Fits (entry l .args .format) (entry l .args .words .now) (entry l .args .at) (entry l .args .area .now) (entry l .args .row)
+fits l = fitting (entry l .args .area .now) (entry l .args .row) (entry l .pre .2) (entry l .pre .3) (sym (l .before .before .before .fits2 .ensures) ∙ not-false _ (l .before .before .if1 .left))
 
 less : (c : tie.In-loop Inv-loop μ-loop) → c .before .loop .j < width (c .before)
 less c = omega (arith, c .before .before .wide .ensures)
@@ -48,16 +49,31 @@ shared-slice-read-width c = let w = pattern-width (c .before .before .before .pr
 
 returns : tie.Need-returns Inv-loop μ-loop
 returns c =
-    let pre = c .before .before .before .before .before .pre in
-    other-width (c .before .before .before .before .before .args .area .now) (c .before .before .before .before .before .args .row) (pre .2) (pre .3) (c .if1 .taken)
+    let start = c .before .before .before .before .before .before in
+    misfitting (start .args .area .now) (start .args .row) (start .pre .2) (start .pre .3) (sym (c .before .fits2 .ensures) ∙ not-true _ (c .if1 .taken))
 
 loop-holds : tie.Need-loop-holds Inv-loop μ-loop
-loop-holds c = let pre = c .before .before .before .before .before .before .pre in passed-start (pre .0) (pre .1)
+loop-holds c = let pre = c .before .before .before .before .before .before .before .pre in passed-start (pre .0) (pre .1)
 
 -- ---- a slot
 
+atom-room : (c : tie.In-loop Inv-loop μ-loop) → entry (c .before) .args .row + 1 + c .before .loop .j < length (entry (c .before) .args .area .now)
+atom-room c = let f = fits (c .before) .few in let l = less c in let r = entry (c .before) .pre .2 in omega arith
+
+add-atom-2 : tie.Need-add-atom-2 Inv-loop μ-loop
+add-atom-2 c = let r = atom-room c in let good = entry (c .before) .good in omega arith
+
+mul-atom : tie.Need-mul-atom Inv-loop μ-loop
+mul-atom c = let r = atom-room c in let good = entry (c .before) .good in omega arith
+
+shared-slice-read-atom : tie.Need-shared-slice-read-atom Inv-loop μ-loop
+shared-slice-read-atom c = atom-room (c .before)
+
 add-slot-at : tie.Need-add-slot-at Inv-loop μ-loop
 add-slot-at c = let r = slot-room (c .before) in let good = entry (c .before .before) .good in omega arith
+
+mul-slot-at : tie.Need-mul-slot-at Inv-loop μ-loop
+mul-slot-at c = let r = slot-room (c .before) in let good = entry (c .before .before) .good in omega arith
 
 add-slot-at-2 : tie.Need-add-slot-at-2 Inv-loop μ-loop
 add-slot-at-2 c = let r = slot-room (c .before) in let good = entry (c .before .before) .good in omega arith
@@ -112,15 +128,16 @@ match-row-spec =
     shared-slice-read-width
     (λ c. search needs)
     (λ c. search needs)
+    (λ c κs. search needs)
     returns
     (λ c κs. search needs)
     loop-holds
     (λ c. search needs)
-    (λ c. search needs)
-    (λ c. search needs)
-    (λ c. search needs)
+    add-atom-2
+    mul-atom
+    shared-slice-read-atom
     add-slot-at
-    (λ c. search needs)
+    mul-slot-at
     add-slot-at-2
     slot-at-requires
     (λ c. search needs)

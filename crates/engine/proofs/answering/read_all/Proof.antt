@@ -7,7 +7,7 @@ use Rattle.engine.proofs.answering.read_all.Tie as tie
 
 -- where the call starts, from where the definitions are read
 abbrev start : tie.After-read-definitions → tie.Start
-start c = c .before .before .before .before .before .before .before .before .before .before .before
+start c = c .before .before .before .before .before .before .before .before .before .before .before .before
 
 -- where the definitions are read, from where their draws are known
 abbrev defined : tie.After-known-told2 → tie.After-read-definitions
@@ -17,17 +17,24 @@ defined c = c .before .before .before .before .before .before .before
 abbrev counted : tie.After-read-whole → tie.After-known-told2
 counted c = c .before .before .before
 
+-- where it starts, from where the policy's first words are read
+abbrev begun : tie.After-shared-slice-known5 → tie.Start
+begun c = c .before .before .before .before .before .before .before .before
+
+shared-slice-read-format : tie.Need-shared-slice-read-format
+shared-slice-read-format c = omega (arith, ready-listed (begun c .pre .0) refl .fits)
+
 shared-slice-read-count : tie.Need-shared-slice-read-count
-shared-slice-read-count c = omega (arith, ready-listed (c .before .before .before .before .before .before .before .before .pre .0) refl .fits)
+shared-slice-read-count c = omega (arith, ready-listed (begun (c .before) .pre .0) refl .fits)
 
 cast-count : tie.Need-cast-count
-cast-count c = record { fits = omega (arith, ready-listed (c .before .before .before .before .before .before .before .before .pre .0) refl .few) }
+cast-count c = record { fits = omega (arith, ready-listed (begun (c .before) .pre .0) refl .few) }
 
 read-whole-requires : tie.Need-read-whole-requires
 read-whole-requires c κs =
     let told = c .before .before in
     let defs = defined told in
-    query-asked (defs .read-definitions .ensures) (told .before .before2 .given .1) refl (start defs .pre .0) (defs .read-definitions .kept .1 .1 .1 .1 .1 .1 .0)
+    query-asked (defs .read-definitions .ensures) (told .before .before2 .given .1) refl (start defs .pre .0) (defs .read-definitions .kept .1 .1 .1 .1 .1 .1 .1 .0)
 
 copy-requires : tie.Need-copy-requires
 copy-requires c κs =
@@ -54,6 +61,7 @@ pub read-all-spec : {M : Type 1} → statement M
 read-all-spec =
     tie.close
     (tie.spec
+    shared-slice-read-format
     shared-slice-read-count
     cast-count
     (λ c κs. search needs)

@@ -8,11 +8,11 @@ use Rattle.engine.proofs.answering.read_definitions.Statement.{statemen
 use Rattle.engine.proofs.answering.read_definitions.Tie as tie
 
 abbrev Inv-loop : tie.InvT-loop
-Inv-loop policy count minute store links definitions₀ scratch₀ draws₀ d₀ definitions scratch draws d =
-    ReadSoFar policy count (record { minute = minute; stores = record { store = store; links = links }; defs = definitions; known = d }) draws × (length definitions ≡ length definitions₀) × (length scratch ≡ length scratch₀)
+Inv-loop policy count minute format store links definitions₀ scratch₀ draws₀ d₀ definitions scratch draws d =
+    ReadSoFar policy count (record { minute = minute; format = format; stores = record { store = store; links = links }; defs = definitions; known = d }) draws × (length definitions ≡ length definitions₀) × (length scratch ≡ length scratch₀)
 
 abbrev μ-loop : tie.MeasureT-loop
-μ-loop policy count minute store links definitions₀ scratch₀ draws₀ d₀ definitions scratch draws d = count - d
+μ-loop policy count minute format store links definitions₀ scratch₀ draws₀ d₀ definitions scratch draws d = count - d
 
 -- where the reader starts, from the loop
 abbrev start : tie.At-loop Inv-loop μ-loop → tie.Start Inv-loop μ-loop
