@@ -1,5 +1,5 @@
 /*
- * A portal in C: certificates arrive, a curator's policy stands, an astronomer searches; semesters pass; a partner's lists are linked; then keys are vetted.
+ * A portal in C: certificates arrive, a curator's policy stands, an astronomer searches; semesters pass; lists are linked; rows gain epochs; keys are vetted.
  *
  *     rt staticlib capi
  *     cc -Iinclude examples/portal.c target/staticlib/libcapi.a -o portal && ./portal
@@ -14,8 +14,8 @@ enum { COMPROMISED = 0, RELEASED = 1, WITHDRAWN = 2 };
 #define WORDS(area) (sizeof(area) / sizeof((area)[0]))
 
 /* One definition, name 10, +: draw x from what is released; x is absent from what is withdrawn; head x. */
-static const uint32_t not_withdrawn[] = {
-    1, 1, 10, TXB_PLUS, 6, 23,
+static uint32_t not_withdrawn[] = {
+    TXB_EQUAL_WIDTHS, 1, 10, TXB_PLUS, 6, 23,
     7, 2,
     1, 4, 0, OBSERVATORY, RELEASED, TXB_PLUS, 1, 2, 0,
     4, 1, 1, 0, 4, 0, OBSERVATORY, WITHDRAWN, TXB_MINUS,
@@ -23,7 +23,7 @@ static const uint32_t not_withdrawn[] = {
 
 /* Name 0, -, the compromised keys: what the archive says of them. Name 10, +: what is released. */
 static const uint32_t external[] = {
-    1, 2, COMPROMISED, TXB_MINUS, 10, 5, 10, TXB_PLUS, 15, 5,
+    TXB_EQUAL_WIDTHS, 2, COMPROMISED, TXB_MINUS, 10, 5, 10, TXB_PLUS, 15, 5,
     4, 0, ARCHIVE, COMPROMISED, TXB_MINUS,
     4, 0, OBSERVATORY, RELEASED, TXB_PLUS};
 static uint32_t rewritten[TXB_POLICY_WORDS];
@@ -36,8 +36,8 @@ static uint32_t everything_public[] = {3, 0};
 static uint32_t store[TXB_STORE_WORDS], links[TXB_LINKS_WORDS]; /* both start empty: their counts are 0 */
 static uint32_t answer[TXB_ANSWER_WORDS], definitions[TXB_DEFINITIONS_WORDS], scratch[TXB_SCRATCH_WORDS];
 
-/* The clock, and the semester that the certificates arriving are for: it begins at the first minute and is over at the end. */
-static uint32_t now, first, end;
+/* The clock; the semester that the certificates arriving are for, from the first minute up to the end; the epoch appended to their rows, 0 for none. */
+static uint32_t now, first, end, epoch;
 
 /* The minute at which a day begins. */
 static uint32_t day(uint32_t year, uint32_t month, uint32_t day_of_month) {
@@ -50,7 +50,8 @@ static uint32_t day(uint32_t year, uint32_t month, uint32_t day_of_month) {
 
 /* The signature has been checked before. */
 static void arrives(uint32_t key, uint32_t name, uint32_t polarity, uint32_t atom) {
-    const uint32_t certificate[TXB_CERTIFICATE_WORDS] = {key, name, polarity, 1, atom, 0, 0, 0, first, end};
+    const uint32_t width = epoch == 0 ? 1 : 2;
+    const uint32_t certificate[TXB_CERTIFICATE_WORDS] = {key, name, polarity, width, atom, epoch, 0, 0, first, end};
     uint32_t reply = txb_file(store, WORDS(store), certificate, WORDS(certificate));
     if (reply > TXB_HELD)
         printf("the certificate was refused with %u\n", (unsigned)reply);
@@ -131,9 +132,21 @@ int main(void) {
     search();                       /* 2027-07-01 00:00, lower, 2 draws, rows: 7 */
     is_linked(WITHDRAWN, TXB_MINUS);
     search();                       /* 2027-07-01 00:00, lower, 2 draws, rows: 7 9 */
+    /* Rows gain an epoch: 5/2027. In format 1 the pattern x passes over it; in format 2 x is 5, and it is 5 that must be absent from what is withdrawn. */
+    epoch = 2027;
+    arrives(OBSERVATORY, RELEASED, TXB_PLUS, 5);
+    arrives(OBSERVATORY, WITHDRAWN, TXB_MINUS, 5);
+    search();                       /* 2027-07-01 00:00, lower, 3 draws, rows: 7 9 */
+    not_withdrawn[0] = TXB_WIDER_ROWS;
+    search();                       /* 2027-07-01 00:00, lower, 3 draws, rows: 7 9 */
+    epoch = 0;
+    arrives(OBSERVATORY, WITHDRAWN, TXB_MINUS, 5);
+    search();                       /* 2027-07-01 00:00, lower, 3 draws, rows: 5 7 9 */
+    not_withdrawn[0] = TXB_EQUAL_WIDTHS;
+    search();                       /* 2027-07-01 00:00, lower, 3 draws, rows: 7 9 */
     rewrite();
     search();                       /* 2027-07-01 00:00, lower, 0 draws, rows: */
     arrives(ARCHIVE, COMPROMISED, TXB_MINUS, OBSERVATORY);
-    search();                       /* 2027-07-01 00:00, lower, 0 draws, rows: 7 9 */
+    search();                       /* 2027-07-01 00:00, lower, 0 draws, rows: 5/2027 7 9 */
     return 0;
 }

@@ -1,13 +1,13 @@
 //! A portal in Rust: a curator's policies are judged or rewritten, certificates arrive for a semester, links between lists for good, and the tables that an
-//! astronomer gets follow them and the clock.
+//! astronomer gets follow them, the clock and the policy's format.
 //!
 //!     bash run
 //!
 //! What it prints is in `portal.expected`, which was worked out from the documents by hand.
 
 use txindurbe::{
-    key, Certificate, Date, Definition, Engine, Expression, Filing, Guard, Link, Links, Minute, Part, Polarity, Policy, Query, Refusal, Row, Rows,
-    Slot, Store, Table, Term, Validity, Verdict,
+    key, Certificate, Date, Definition, Engine, Expression, Filing, Format, Guard, Link, Links, Minute, Part, Polarity, Policy, Query, Refusal, Row,
+    Rows, Slot, Store, Table, Term, Validity, Verdict,
 };
 
 const ARCHIVE: u32 = key(0);
@@ -35,9 +35,9 @@ fn observations<const COUNT: usize>(numbers: [u32; COUNT]) -> Expression {
 }
 
 /// Each x that is released and absent from what is withdrawn.
-fn policy() -> Policy {
+fn policy(format: Format) -> Policy {
     let expression = Expression::each(&[Guard::Draw(released(), vec![Slot::New(0)]), Guard::Absent(vec![X], withdrawn())], &[X]);
-    Policy::new(&[Definition { name: PUBLIC, polarity: Polarity::Plus, expression }])
+    Policy::in_format(format, &[Definition { name: PUBLIC, polarity: Polarity::Plus, expression }])
 }
 
 /// Each x that is withdrawn.
@@ -190,7 +190,7 @@ fn atom(word: u32) -> String {
 fn main() -> Result<(), Refusal> {
     let semester = Validity::from_dates(Date::day(2027, 1, 1), Date::day(2027, 7, 1))?;
     let next = Validity::from_dates(Date::day(2027, 7, 1), Date::day(2028, 1, 1))?;
-    let mut portal = Portal::new(policy(), 0, Minute::from_date(Date::day(2027, 3, 20))?, Store::new(), Links::new());
+    let mut portal = Portal::new(policy(Format::EqualWidths), 0, Minute::from_date(Date::day(2027, 3, 20))?, Store::new(), Links::new());
     println!("The policy: an observation is public if observatory k1 released it and did not withdraw it.");
     portal.judge("is public", &portal.public)?;
     portal.judge("of 7, 8 and 9 is not public", &portal.not_public)?;
@@ -241,6 +241,13 @@ fn main() -> Result<(), Refusal> {
     if let Err(refusal) = Minute::from_date(Date::day(2027, 2, 29)) {
         println!("2027-02-29: {refusal}");
     }
+
+    println!("Observatory k1 appends an epoch to the rows that it releases. The policy is of format 1: rows wider than its pattern are passed over.");
+    portal.arrives(Certificate::listed(OBSERVATORY, RELEASED, [9, 2027], next))?;
+    portal.arrives(Certificate::not_listed(OBSERVATORY, WITHDRAWN, [9], next))?;
+    println!("The same policy in format 2: they are matched by their first atom.");
+    portal.policy = policy(Format::WiderRows);
+    portal.show_tables()?;
 
     println!("An external policy: an observation is public if k1 released it, and k0 says which keys are compromised. Rewritten, it vets each key:");
     let external = external_policy();

@@ -23,7 +23,7 @@ extern "C" {
 
 /* The version of this interface, and the same as one number that grows with it. */
 #define TXINDURBE_VERSION_MAJOR 0
-#define TXINDURBE_VERSION_MINOR 6
+#define TXINDURBE_VERSION_MINOR 7
 #define TXINDURBE_VERSION_PATCH 0
 #define TXINDURBE_VERSION (TXINDURBE_VERSION_MAJOR * 1000000 + TXINDURBE_VERSION_MINOR * 1000 + TXINDURBE_VERSION_PATCH)
 
@@ -50,6 +50,14 @@ enum {
 /* A link is about two lists of one polarity. With + it says that the first list contains the other, with - that the first is contained in the other. Either
  * way, what is certified of the other list is so of the first one; and so on along any number of links, circles too. A link has no term: it holds at every
  * minute. The links of a link store ascend strictly, word by word. */
+
+/* A policy's word 0 is its format. It says which rows the pattern of a draw matches, in the policy's definitions and in every query asked under it; format 2
+ * is for rows that observatories append atoms to, as an epoch. A row that is not matched is passed over, and is a draw all the same. The row of an absent
+ * guard, and the key's row that a list is vetted by (code 8), are whole rows in both formats. */
+enum {
+    TXB_EQUAL_WIDTHS = 1,            /* a pattern matches rows that have as many atoms as it: the pattern x matches 7, and not 7/2027 */
+    TXB_WIDER_ROWS = 2               /* a pattern of width w matches every row of at least w atoms by its first w: x matches 7 and 7/2027, with x = 7 */
+};
 
 /* Lengths. A longer store or area is fine. A store of either kind starts empty if its first word is 0, whatever the others are. */
 enum {
@@ -81,7 +89,7 @@ enum {
 /* Refusal numbers. txb_file gives 8, 9, 10 and 17, txb_file_link 18 and 19, txb_judge 1 to 7, txb_query 1 to 8, 11 to 14 and 18, txb_rewrite 1 to 7, 11 and
  * 15, txb_minutes and txb_date 16. */
 enum {
-    TXB_BAD_HEADER = 1,              /* policy: under 2 or over 8,192 words, another format, over 16 definitions, or the table is cut short */
+    TXB_BAD_HEADER = 1,              /* policy: under 2 or over 8,192 words, a format other than 1 and 2, over 16 definitions, or the table is cut short */
     TXB_BAD_TABLE = 2,               /* policy: a table entry breaks a rule, or the parts do not end with the policy */
     TXB_BAD_WORD = 3,                /* a code, tag, count, width, name or polarity outside its rule; a fixed issuer that is a number; words that run
                                         out or are left over; a query of 0 or over 1,024 words */
@@ -136,9 +144,10 @@ uint32_t txb_query(const uint32_t *policy, size_t policy_words, const uint32_t *
 /* Rewrites an external policy, so that it relies on no list of a compromised key. In an external policy definition 0 may be the name 0, -, which lists the
  * compromised keys; every other definition is +, and none has a difference, an absent guard or code 8. Each key's list (code 4) in a later definition becomes
  * vetted (code 8, the same words, then definition 0): that list if the key's row is absent from definition 0, no rows otherwise. The keys of lists that links
- * reach from it are not vetted. Without a definition of name 0, -, the output equals the input. Queries are not rewritten. Returns 0 and the output's length,
- * with the part TXB_NO_PART: the output fills so many words of the area, and the rest of it is unchanged. Or returns a refusal number and its part, with the
- * length 0: the area is then unchanged. TXB_NOT_EXTERNAL comes after 1 to 7, TXB_SHORT_AREA after that, if the area has fewer words than the output. */
+ * reach from it are not vetted. Without a definition of name 0, -, the output equals the input; either way it has the same format. Queries are not rewritten.
+ * Returns 0 and the output's length, with the part TXB_NO_PART: the output fills so many words of the area, and the rest of it is unchanged. Or returns a
+ * refusal number and its part, with the length 0: the area is then unchanged. TXB_NOT_EXTERNAL comes after 1 to 7, TXB_SHORT_AREA after that, if the area has
+ * fewer words than the output. */
 uint32_t txb_rewrite(const uint32_t *policy, size_t policy_words, uint32_t *area, size_t area_words, uint32_t *part, size_t *length);
 
 /* Where the words of a part stand (0 to 15 a definition, 16 the query), to show what a refusal is about. Returns how many they are. They start at the word

@@ -24,11 +24,11 @@ pub enum Slot {
 
 #[derive(Clone, PartialEq, Eq, Debug)]
 pub enum Guard {
-    /// Each row of the expression that matches the pattern.
+    /// Each row of the expression that matches the pattern. The policy's [`Format`](crate::Format) says whether rows that are wider than the pattern do.
     Draw(Expression, Vec<Slot>),
     Same(Term, Term),
     Different(Term, Term),
-    /// The row is not in the expression.
+    /// The row is not in the expression. It is a whole row in every format: that 7/2027 is absent says nothing of 7.
     Absent(Vec<Term>, Expression),
 }
 
@@ -66,8 +66,9 @@ impl Expression {
         Expression(words)
     }
 
-    /// A key's + list if the key is absent from a definition of compromised keys, no rows otherwise. The definition must be declared −: where it is read from a
-    /// − list, each key counts as compromised until it is certified not to be. [`Policy::rewrite`](crate::Policy::rewrite) writes this for a policy's lists.
+    /// A key's + list if the key, as a row of one atom, is absent from a definition of compromised keys, no rows otherwise. The definition must be declared −:
+    /// where it is read from a − list, each key counts as compromised until it is certified not to be. [`Policy::rewrite`](crate::Policy::rewrite) writes this
+    /// for a policy's lists.
     pub fn vetted_list(key: u32, name: u16, compromised: u32) -> Expression {
         Expression::vetted_list_of(Term::Atom(key), name, compromised)
     }

@@ -6,7 +6,8 @@
 //! - [`Polarity`]: the + list and the − list of one number are two lists;
 //! - [`Rows`]: no set lists over 128 rows, and what would is refused;
 //! - [`Validity`]: a certificate is read only while its term lasts;
-//! - [`Link`]: what is certified of one list may count for others.
+//! - [`Link`]: what is certified of one list may count for others;
+//! - [`Format`]: whether a policy matches rows that are wider than its patterns.
 //!
 //! ```
 //! use txindurbe::{
@@ -76,7 +77,7 @@ pub use expression::{Expression, Guard, Polarity, Slot, Term};
 pub use filing::Filing;
 pub use links::{Link, Links};
 pub use minute::{Date, Minute, Validity};
-pub use policy::{Definition, Policy, Query};
+pub use policy::{Definition, Format, Policy, Query};
 pub use refusal::{Part, Refusal, RefusalKind};
 pub use row::{key, Row, Rows};
 pub use store::{Certificate, Store};

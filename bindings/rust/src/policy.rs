@@ -9,15 +9,63 @@ pub struct Definition {
     pub expression: Expression,
 }
 
-/// A policy's words: a table of definitions, then each one's expression.
+/// Which rows the pattern of a [`Draw`](crate::Guard::Draw) matches: in a policy's definitions, and in every query that is asked under it.
+///
+/// Where observatories append atoms to their rows, as an epoch, a policy of format 2 still matches them by those that it knows. A row that is not matched is
+/// passed over, and is a draw all the same. Only patterns go by the format: the row of an [`Absent`](crate::Guard::Absent) guard, and that of the key by which a
+/// [`vetted_list`](Expression::vetted_list) is vetted, are whole rows in both.
+///
+/// ```
+/// use txindurbe::{Engine, Expression, Format, Guard, Links, Minute, Policy, Query, Row, Rows, Slot, Store, Table, Term};
+///
+/// fn main() -> Result<(), txindurbe::Refusal> {
+///     // Each x of these observations, one of which has an epoch.
+///     let observations = Expression::rows(&[&[Term::Atom(7)], &[Term::Atom(8), Term::Atom(2027)]]);
+///     let query = Query::new(&Expression::each(&[Guard::Draw(observations, vec![Slot::New(0)])], &[Term::Variable(0)]));
+///
+///     let ask = |policy| Engine::new().query(&policy, &query, Minute::new(0), &Store::new(), &Links::new());
+///     let equal = ask(Policy::in_format(Format::EqualWidths, &[]))?;
+///     let wider = ask(Policy::in_format(Format::WiderRows, &[]))?;
+///     assert_eq!(equal.table, Table::Exact(Rows::Only(vec![Row::from([7])])));
+///     assert_eq!(wider.table, Table::Exact(Rows::Only(vec![Row::from([7]), Row::from([8])])));
+///     assert_eq!((equal.draws, wider.draws), (2, 2));
+///     Ok(())
+/// }
+/// ```
+#[derive(Clone, Copy, PartialEq, Eq, Hash, Debug)]
+pub enum Format {
+    /// 1: a pattern matches rows that have as many atoms as it.
+    EqualWidths = 1,
+    /// 2: a pattern of width w matches every row of at least w atoms by its first w.
+    WiderRows = 2,
+}
+
+impl Format {
+    /// Of a policy's word 0.
+    fn from_number(number: u32) -> Option<Format> {
+        match number {
+            1 => Some(Format::EqualWidths),
+            2 => Some(Format::WiderRows),
+            _ => None,
+        }
+    }
+}
+
+/// A policy's words: its [`Format`], a table of definitions, then each one's expression.
 #[derive(Clone, PartialEq, Eq, Debug)]
 pub struct Policy {
     words: Vec<u32>,
 }
 
 impl Policy {
+    /// In format 1, [`Format::EqualWidths`].
     pub fn new(definitions: &[Definition]) -> Policy {
-        let mut words = vec![1, definitions.len() as u32];
+        Policy::in_format(Format::EqualWidths, definitions)
+    }
+
+    /// In either format. The same definitions may have other rows in the other one: where rows are wider than the patterns that draw them.
+    pub fn in_format(format: Format, definitions: &[Definition]) -> Policy {
+        let mut words = vec![format as u32, definitions.len() as u32];
         let mut offset = 2 + 4 * definitions.len() as u32;
         for Definition { name, polarity, expression } in definitions {
             let length = expression.words().len() as u32;
@@ -37,6 +85,20 @@ impl Policy {
         &self.words
     }
 
+    /// What word 0 says; none if there is no such word or no such format, and the policy is then refused as
+    /// [`BadHeader`](crate::RefusalKind::BadHeader).
+    ///
+    /// ```
+    /// use txindurbe::{Format, Policy};
+    ///
+    /// assert_eq!(Policy::new(&[]).format(), Some(Format::EqualWidths));
+    /// assert_eq!(Policy::from_words(vec![2, 0]).format(), Some(Format::WiderRows));
+    /// assert_eq!(Policy::from_words(vec![3, 0]).format(), None);
+    /// ```
+    pub fn format(&self) -> Option<Format> {
+        self.words.first().copied().and_then(Format::from_number)
+    }
+
     /// The verdict that an answer to this query has, whatever the store; or the refusal that it would get with any.
     pub fn judge(&self, query: &Query) -> Result<Verdict, Refusal> {
         let judgement = calls::judge(&self.words, query.words());
@@ -47,7 +109,8 @@ impl Policy {
     ///
     /// In an external policy definition 0 may be the name 0, −, which lists the compromised keys. Every other definition is +, and none has a difference, an
     /// absent guard or a [`vetted_list`](Expression::vetted_list). Each [`list`](Expression::list) in a later definition becomes vetted by definition 0.
-    /// Without a definition of name 0, −, the output equals this policy. A query is not rewritten: it asks for the definitions, or for lists as it names them.
+    /// Without a definition of name 0, −, the output equals this policy; either way it has the same [`Format`]. A query is not rewritten: it asks for the
+    /// definitions, or for lists as it names them.
     pub fn rewrite(&self) -> Result<Policy, Refusal> {
         let mut words = vec![0; POLICY_WORDS];
         let rewriting = calls::rewrite(&self.words, &mut words);
@@ -87,5 +150,42 @@ impl Query {
 
     pub fn words(&self) -> &[u32] {
         &self.words
+    }
+}
+
+#[cfg(test)]
+mod tests {
+    use super::*;
+    use crate::Term;
+
+    #[test]
+    fn a_policy_says_its_format_in_word_0() {
+        let definitions = [Definition { name: 10, polarity: Polarity::Plus, expression: Expression::rows(&[&[Term::Atom(7)]]) }];
+        for (format, word) in [(Format::EqualWidths, 1), (Format::WiderRows, 2)] {
+            let policy = Policy::in_format(format, &definitions);
+            assert_eq!(policy.words(), [word, 1, 10, 0, 6, 5, 1, 1, 1, 0, 7]);
+            assert_eq!(policy.format(), Some(format));
+        }
+        assert_eq!(Policy::new(&definitions), Policy::in_format(Format::EqualWidths, &definitions));
+    }
+
+    #[test]
+    fn words_that_have_no_format() {
+        assert_eq!(Policy::from_words(vec![]).format(), None);
+        for word in [0, 3, 1 << 16, 1 << 31, u32::MAX] {
+            assert_eq!(Policy::from_words(vec![word, 0]).format(), None, "{word}");
+        }
+    }
+
+    #[test]
+    fn the_engine_and_the_header_have_the_same_formats() {
+        let engine = include_str!("../../../crates/policy/src/lib.rt");
+        let header: Vec<&str> = include_str!("../../../include/txindurbe.h").split([' ', ',', '\n']).filter(|word| !word.is_empty()).collect();
+        for (constant, format) in [("EQUAL_WIDTHS", Format::EqualWidths), ("WIDER_ROWS", Format::WiderRows)] {
+            let number = (format as u32).to_string();
+            assert_eq!(Format::from_number(format as u32), Some(format));
+            assert!(engine.lines().any(|line| line == format!("pub const {constant}: u32 = {number};")), "the engine's {constant}");
+            assert!(header.windows(3).any(|words| words == [&format!("TXB_{constant}"), "=", &number]), "the header's {constant}");
+        }
     }
 }

@@ -58,7 +58,7 @@ macro_rules! refusal_table {
 }
 
 refusal_table! {
-    BadHeader = 1, "the policy is under 2 or over 8,192 words, has another format or over 16 definitions, or its table is cut short";
+    BadHeader = 1, "the policy is under 2 or over 8,192 words, has a format other than 1 and 2 or over 16 definitions, or its table is cut short";
     BadTable = 2, "an entry of the policy's table breaks a rule, or the parts do not end with the policy";
     BadWord = 3, "a word is outside its rule, words run out or are left over, or the query is empty or over 1,024 words";
     NotInScope = 4, "a variable is not in scope or wrongly numbered, or a definition is not available";

@@ -125,7 +125,7 @@ fn broken_external_rules_are_refused() {
     let open = Expression::each(&[Guard::Draw(Expression::all_but(&[]), vec![Slot::New(0)])], seven);
     let refusal = Refusal { kind: RefusalKind::OpenDraw, part: Some(Part::Definition(1)) };
     assert_eq!(Policy::new(&[Definition { name: 1, ..compromised() }, public(open)]).rewrite(), Err(refusal));
-    assert_eq!(Policy::from_words(vec![2, 0]).rewrite(), refused(RefusalKind::BadHeader));
+    assert_eq!(Policy::from_words(vec![3, 0]).rewrite(), refused(RefusalKind::BadHeader));
 }
 
 #[test]
