@@ -1,24 +1,22 @@
 -- What is read is what belongs.
-use Prim.Native.Nat.{ℕ, suc, _+_}
-use mathlib.Core.Path.{_≡_, refl, sym, _∙_, ap, subst}
+use Prim.Native.Nat.{ℕ, _+_}
+use mathlib.Core.Path.{_≡_, refl, subst}
 use mathlib.Core.Logic.{_⊎_, inl, inr, _↔_}
 use mathlib.Core.Bool.{Bool, true, false}
 use mathlib.Core.Option.{Option, none, some}
-use mathlib.Core.List.{List, [], _∷_, _++_, append-assoc, append-nil}
+use mathlib.Core.List.{List, [], _∷_, _++_}
 use native.Mathlib.Omega.{arith}
 use lib.Dec.{T, eqb}
-use lib.ListN.{length}
-use borrow.Author.Tests.{eqb-true, eq-eqb}
 use Rattle.rows.specs.Word.{All, IsWord, Words}
 use Rattle.rows.specs.Ordered.{_∈_}
 use Rattle.rows.specs.Row.{Row, IsRow, rowBefore}
 use Rattle.rows.specs.Sets.{RowSet, only, has, unite, subtract}
-use Rattle.rows.proofs.Case.{Case, isTrue, isFalse, split, T-eqb, _then_, iff-refl, both-or, both-and-not, swap-or}
+use Rattle.rows.proofs.Case.{T-eqb, _then_, iff-refl, both-or, both-and-not, swap-or}
 use Rattle.rows.proofs.Order.{row-order}
 use Rattle.rows.proofs.Lists.{all-in, all-left, all-right}
 use Rattle.rows.proofs.Ordered.{insert-∈}
 use Rattle.rows.proofs.Sets.{only-iff, unite-iff, subtract-iff}
-use Rattle.policy.specs.Syntax.{Slot, old, new, Expr, leaf, union, difference, comprehension, Body, head, draw, same, different, absent}
+use Rattle.policy.specs.Syntax.{Slot, Expr, leaf, union, difference, comprehension, Body, head, draw, same, different, absent}
 use Rattle.policy.specs.Words.{termWords, termRowWords, slotWords, fresh, exprWords, bodyWords}
 use Rattle.policy.specs.WellFormed.{Fit, FitBody}
 use Rattle.meaning.specs.Values.{Values, value, rowOf}

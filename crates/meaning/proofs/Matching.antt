@@ -1,9 +1,9 @@
 -- The matching rule: reading matches a row just where belonging does, in either format; and what a pattern binds are words.
-use Prim.Native.Nat.{ℕ, zero, suc, _≤_}
+use Prim.Native.Nat.{ℕ, suc, _≤_}
 use mathlib.Core.Path.{_≡_, refl, sym, _∙_, ap, subst}
 use mathlib.Core.Logic.{_↔_}
 use mathlib.Core.Bool.{Bool, true, false}
-use mathlib.Core.Option.{Option, none, some}
+use mathlib.Core.Option.{none, some}
 use mathlib.Core.List.{List, [], _∷_, _++_, append-assoc, append-nil}
 use native.Mathlib.Omega.{arith}
 use lib.Dec.{T, eqb, leb}
@@ -18,7 +18,7 @@ use Rattle.policy.specs.Format.{equalWidths, widerRows}
 use Rattle.policy.specs.Syntax.{Slot, old, new}
 use Rattle.policy.specs.Words.{fresh}
 use Rattle.meaning.specs.Values.{Values, value}
-use Rattle.meaning.specs.Matching.{fits, matchFirst, match, fill, Matches, Bound, Theorem}
+use Rattle.meaning.specs.Matching.{fits, matchFirst, match, fill, Matches, Binds, Theorem}
 
 -- each format's test of the widths
 pub fits-wider : {format : ℕ} (w n : ℕ) → format ≡ widerRows → fits format w n ≡ leb w n
@@ -91,10 +91,10 @@ pub match-misfits : (format : ℕ) (p : List Slot) (vs : Values) (x : Row) → f
 unfolding match
 match-misfits format p vs x h = rw (h, match)
 
-pub match-bound : (format : ℕ) (p : List Slot) (vs : Values) (x : Row) (ws : Values) → match format p vs x ≡ some ws → Bound format p vs x ws
+pub match-bound : (format : ℕ) (p : List Slot) (vs : Values) (x : Row) (ws : Values) → match format p vs x ≡ some ws → Binds format p vs x ws
 match-bound format p vs x ws e = go (split (fits format (length p) (length x)))
   where
-    go : Case (fits format (length p) (length x)) → Bound format p vs x ws
+    go : Case (fits format (length p) (length x)) → Binds format p vs x ws
     go (isTrue h) =
         let b = first-bound p vs x ws (sym (match-fits format p vs x h) ∙ e) in
         record { own = b .own; fit = record { fitting = T-true h; enough = b .enough; filled = b .filled }; behind = b .behind }

@@ -1,7 +1,7 @@
 -- The matching rule: which rows a draw's pattern matches, by the policy's format. Document 02, N6: "In a policy of format 2 a pattern of width w matches every
 -- row of at least w atoms by its first w. Format 1 keeps equal widths." Reading goes by `match`, belonging by `Matches`, and both by `fits`.
 -- (An absent guard's row, and that of code 8, are whole rows in either format.)
-use Prim.Native.Nat.{ℕ, _≤_}
+use Prim.Native.Nat.{ℕ}
 use mathlib.Core.Path.{_≡_}
 use mathlib.Core.Logic.{_↔_}
 use mathlib.Core.Bool.{Bool, true, false}
@@ -21,7 +21,8 @@ fits format w n = elim (eqb format widerRows) [ true ↦ leb w n | false ↦ eqb
 
 -- ---- in reading
 
--- the slots against a row's first atoms: the values with those of the new variables behind them
+-- the slots against a row's first atoms: "A term in a pattern must equal the atom drawn; a variable from earlier in the pattern may be used." What comes of it are
+-- the values, with those of the new variables behind them.
 unfoldable pub matchFirst : List Slot → Values → Row → Option Values
 unfolding value
 matchFirst [] vs x = some vs
@@ -54,13 +55,13 @@ pub record Matches (format : ℕ) (p : List Slot) (vs : Values) (own : List ℕ)
 -- ---- the law that ties them
 
 -- the row matches with some values of the pattern's own variables, and these stand behind the others
-pub record Bound (format : ℕ) (p : List Slot) (vs : Values) (x : Row) (ws : Values) : Type 0 where
+pub record Binds (format : ℕ) (p : List Slot) (vs : Values) (x : Row) (ws : Values) : Type 0 where
   pub own : List ℕ
   pub fit : Matches format p vs own x
   pub behind : ws ≡ vs ++ own
 
 pub record Theorem : Type 0 where
-  pub tied : (format : ℕ) (p : List Slot) (vs : Values) (x : Row) (ws : Values) → (match format p vs x ≡ some ws) ↔ Bound format p vs x ws
+  pub tied : (format : ℕ) (p : List Slot) (vs : Values) (x : Row) (ws : Values) → (match format p vs x ≡ some ws) ↔ Binds format p vs x ws
   -- "Format 1 keeps equal widths": the pattern, filled, is the row
   pub equal : (p : List Slot) (vs : Values) (own : List ℕ) (x : Row) → Matches equalWidths p vs own x ↔ ((length own ≡ fresh p) × (x ≡ fill p vs own))
   -- format 2: the pattern, filled, is what the row begins with
