@@ -1,12 +1,39 @@
 //! Puts the same words to two engines and compares replies and areas, word for word.
 
 use crate::engine::{Engine, Kind, Stores};
-use crate::evaluator::{Date, Evaluator, Set};
+use crate::evaluator::{Date, Evaluator, Format, Set};
 use crate::generate::{Case, Filings, Generator, PORTAL};
 use crate::random::Random;
 use std::collections::BTreeMap;
+use std::fmt;
 use std::ops::Range;
 use txindurbe::calls::{Lent, Reply};
+
+/// How many cases there were, by the format of their policies.
+#[derive(Default, Clone, Copy, PartialEq, Eq, Debug)]
+pub struct Count {
+    /// Formats 1 and 2.
+    pub of: [u64; 2],
+    /// Of no format.
+    pub other: u64,
+}
+
+impl Count {
+    fn add(&mut self, policy: &[u32]) {
+        match policy.first().and_then(|word| Format::from_word(*word)) {
+            Some(format) => self.of[format as usize - 1] += 1,
+            None => self.other += 1,
+        }
+    }
+}
+
+impl fmt::Display for Count {
+    fn fmt(&self, f: &mut fmt::Formatter) -> fmt::Result {
+        let Count { of: [first, second], other } = self;
+        let none = if *other > 0 { format!(", {other} of none") } else { String::new() };
+        write!(f, "{} ({first} of format 1, {second} of format 2{none})", first + second + other)
+    }
+}
 
 /// What was seen in a run.
 #[derive(Default)]
@@ -16,10 +43,10 @@ pub struct Tally {
     /// Replies to filings of certificates and of links, to rewritings and to conversions by number, to queries by refusal number, and answers by verdict and form.
     pub certificates: BTreeMap<u32, u64>,
     pub links: BTreeMap<u32, u64>,
-    pub rewritings: BTreeMap<u32, u64>,
+    pub rewritings: BTreeMap<u32, Count>,
     pub conversions: BTreeMap<u32, u64>,
-    pub refusals: BTreeMap<u32, u64>,
-    pub answers: BTreeMap<(u32, &'static str), u64>,
+    pub refusals: BTreeMap<u32, Count>,
+    pub answers: BTreeMap<(u32, &'static str), Count>,
     /// The first few failures, in full.
     pub reports: Vec<String>,
 }
@@ -199,7 +226,7 @@ impl<'a> Comparison<'a> {
         let mut expected = self.junk.area(length, &mut self.random);
         let mut tested = expected.clone();
         let reply = Engine::rewrite(&self.expected, policy, expected.lent());
-        *self.tally.rewritings.entry(reply.number).or_default() += 1;
+        self.tally.rewritings.entry(reply.number).or_default().add(policy);
         equal(&format!("rewriting into {length} words"), self.tested.rewrite(policy, tested.lent()), reply)?;
         same_words("rewritten policy", tested.lent(), expected.lent())?;
         tested.fences_kept("rewritten policy's")
@@ -216,7 +243,7 @@ impl<'a> Comparison<'a> {
         let reply = ask(&self.expected, &mut expected);
         let (store_before, links_before) = (store.clone(), links.clone());
         let tested_reply = ask(self.tested, &mut tested);
-        self.tally_reply(reply, expected.lent());
+        self.tally_reply(&case.policy, reply, expected.lent());
         equal("reply", tested_reply, reply)?;
         same_words("answer area", tested.lent(), expected.lent())?;
         same_words("store after a query", store, &store_before)?;
@@ -227,9 +254,9 @@ impl<'a> Comparison<'a> {
         Ok(reply)
     }
 
-    fn tally_reply(&mut self, reply: Reply, answer: &[u32]) {
+    fn tally_reply(&mut self, policy: &[u32], reply: Reply, answer: &[u32]) {
         if reply.number > 0 {
-            *self.tally.refusals.entry(reply.number).or_default() += 1;
+            self.tally.refusals.entry(reply.number).or_default().add(policy);
             return;
         }
         let table = match Set::from_words(answer) {
@@ -239,7 +266,7 @@ impl<'a> Comparison<'a> {
             Some(Set::Complement(_)) => "all but some",
             None => "an unsound set", // only with a planted fault
         };
-        *self.tally.answers.entry((reply.verdict, table)).or_default() += 1;
+        self.tally.answers.entry((reply.verdict, table)).or_default().add(policy);
     }
 }
 
@@ -265,20 +292,23 @@ mod tests {
         for number in [0, 1, 18, 19] {
             assert!(tally.links.get(&number) > Some(&20), "reply {number} to links: {:?}", tally.links);
         }
+        let often = |count: Option<&Count>| count.is_some_and(|count| count.of.iter().all(|&of| of > 10));
         for number in [0, 1, 2, 3, 4, 5, 6, 7, 11, 15] {
-            assert!(tally.rewritings.get(&number) > Some(&20), "rewriting reply {number}: {:?}", tally.rewritings);
+            assert!(often(tally.rewritings.get(&number)), "rewriting reply {number}: {:?}", tally.rewritings);
         }
         for number in [0, 16] {
             assert!(tally.conversions.get(&number) > Some(&1_000), "conversion reply {number}: {:?}", tally.conversions);
         }
         for number in [1, 2, 3, 4, 5, 6, 7, 8, 11, 13, 18] {
-            assert!(tally.refusals.get(&number) > Some(&20), "refusal {number}: {:?}", tally.refusals);
+            assert!(often(tally.refusals.get(&number)), "refusal {number}: {:?}", tally.refusals);
         }
+        assert!(tally.refusals[&1].other > 100, "{:?}", tally.refusals);
+        assert!(tally.refusals.iter().all(|(number, count)| *number == 1 || count.other == 0), "{:?}", tally.refusals);
         // 14 takes a million draws. 12 is never met: what is not open is always finite.
         assert!(tally.refusals.contains_key(&14) && !tally.refusals.contains_key(&12));
         for verdict in 0..=2 {
             for table in ["some rows", "all but some"] {
-                assert!(tally.answers.get(&(verdict, table)) > Some(&20), "{:?}", tally.answers);
+                assert!(often(tally.answers.get(&(verdict, table))), "{:?}", tally.answers);
             }
         }
     }

@@ -2,7 +2,7 @@
 
 use crate::evaluator::{Answer, Areas, Date, Evaluator, Filing, Part, Refusal, Verdict};
 use crate::faults::{self, Fault};
-use crate::numbers::NO_PART;
+use crate::numbers::{BAD_HEADER, NO_PART};
 use std::ops::Range;
 use txindurbe::calls::{Dated, Judgement, Lent, Minutes, Reply, Rewriting};
 
@@ -97,6 +97,10 @@ impl Engine for Evaluator {
     }
 
     fn judge(&self, policy: &[u32], query: &[u32]) -> Judgement {
+        if self.has(Fault::JudgeRefusesFormat2) && policy.first() == Some(&2) {
+            return judgement(Err(Refusal { number: BAD_HEADER, part: NO_PART }));
+            // planted
+        }
         judgement(Evaluator::judge(self, policy, query).map(|judged| judged.verdict))
     }
 

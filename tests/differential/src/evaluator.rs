@@ -1,4 +1,4 @@
-//! Document 01, with document 02's N1 to N5, as a plain program, section by section, to be read with the documents beside it.
+//! Document 01, with document 02's N1 to N6, as a plain program, section by section, to be read with the documents beside it.
 //!
 //! It is slow and short on purpose: sets are `BTreeSet`s, words are parsed by recursive descent, and nothing is shared with the engine it is compared with.
 //! Places marked `planted`, and calls of [`faults`], are mistakes that are made only when asked for; without a [`Fault`] they do nothing.
@@ -239,12 +239,45 @@ fn days_of_month(year: u32, month: u32) -> u32 {
 
 // ---- Policy words ----
 
+/// A policy's word 0, which its definitions and the query follow. It says how the patterns of draws match rows. The row of an absent guard and the issuer's of
+/// code 8 are no patterns: they are whole rows in both formats.
+#[derive(Clone, Copy, PartialEq, Eq, Debug)]
+pub enum Format {
+    /// "Format 1 keeps equal widths."
+    EqualWidths = 1,
+    /// "In a policy of format 2 a pattern of width w matches every row of at least w atoms by its first w."
+    WiderRows = 2,
+}
+
+impl Format {
+    pub const BOTH: [Format; 2] = [Format::EqualWidths, Format::WiderRows];
+
+    /// "Refusal 1 now lets formats 1 and 2 pass."
+    pub fn from_word(word: u32) -> Option<Format> {
+        Format::BOTH.into_iter().find(|format| *format as u32 == word)
+    }
+
+    /// The atoms of the row that a pattern of this width is held against; nothing where it passes the row over.
+    pub fn held_against(self, width: usize, row: &Row) -> Option<&[u32]> {
+        match self {
+            Format::EqualWidths => Some(row.used()).filter(|atoms| atoms.len() == width),
+            Format::WiderRows => row.used().get(..width),
+        }
+    }
+}
+
 /// A definition's table entry, with its words as a part of the policy.
 #[derive(Clone, PartialEq, Eq, Debug)]
 pub struct Entry {
     pub name: u32,
     pub polarity: u32,
     pub part: Range<usize>,
+}
+
+/// What refusals 1 and 2 are about.
+pub struct Table {
+    pub format: Format,
+    pub entries: Vec<Entry>,
 }
 
 /// Where one of the engine's expressions stands.
@@ -538,6 +571,7 @@ pub struct Definition {
 /// A policy and a query that no refusal from 1 to 7 applies to.
 #[derive(Clone, Debug)]
 pub struct Judged {
+    pub format: Format,
     pub definitions: Vec<Definition>,
     pub query: Expression,
     pub verdict: Verdict,
@@ -567,6 +601,7 @@ struct Held<'a> {
 struct Reading<'a> {
     held: Held<'a>,
     minute: u32,
+    format: Format,
     certified: Certified,
     definitions: Vec<Set>,
     draws: u32,
@@ -597,11 +632,11 @@ pub fn row_of(terms: &[Term], values: &[u32]) -> Row {
 }
 
 impl Reading<'_> {
-    fn new(held: Held<'_>, minute: u32, evaluator: Evaluator) -> Reading<'_> {
+    fn new(held: Held<'_>, minute: u32, format: Format, evaluator: Evaluator) -> Reading<'_> {
         let records = held.records;
         let holds = |record: &&Record| faults::wrongly_holds(evaluator.fault, records, record, minute).unwrap_or(record.validity.holds_at(minute));
         let certified = certified(records.iter().filter(holds));
-        Reading { held, minute, certified, definitions: Vec::new(), draws: 0, evaluator }
+        Reading { held, minute, format, certified, definitions: Vec::new(), draws: 0, evaluator }
     }
 
     fn read(&mut self, expression: &Expression, values: &mut Vec<u32>) -> Numbered<Set> {
@@ -654,7 +689,7 @@ impl Reading<'_> {
         }
         self.draws += (fault == Some(Fault::LookUpCountedAsDraw)) as u32; // planted
         let (compromised, issuer_row) = (&self.definitions[definition], Row::new(&[value(issuer, values)]));
-        if faults::wrong_look_up(fault, compromised, &issuer_row).unwrap_or_else(|| compromised.holds(&issuer_row)) {
+        if faults::wrong_look_up(fault, self.format, compromised, &issuer_row).unwrap_or_else(|| compromised.holds(&issuer_row)) {
             return Ok(Set::Finite(BTreeSet::new()));
         }
         if fault == Some(Fault::VettedAtAnyMinute) {
@@ -691,7 +726,7 @@ impl Reading<'_> {
     fn difference(&mut self, left: &Expression, right: &Expression, values: &mut Vec<u32>) -> Numbered<Set> {
         let left = self.read(left, values)?;
         let right = self.read(right, values)?;
-        faults::wrong_difference(self.evaluator.fault, &left, &right).unwrap_or_else(|| limited(left.minus(&right)))
+        faults::wrong_difference(self.evaluator.fault, self.format, &left, &right).unwrap_or_else(|| limited(left.minus(&right)))
     }
 
     /// The head's row for each binding that passes the guards left to do.
@@ -704,23 +739,7 @@ impl Reading<'_> {
             Guard::Draw { from, pattern } => return self.draw(from, pattern, later, head, values, found),
             Guard::Same(a, b) => value(*a, values) == value(*b, values),
             Guard::Different(a, b) => value(*a, values) != value(*b, values),
-            Guard::Absent { row, from } => {
-                let row = row_of(row, values);
-                let draws = self.draws;
-                let mut absent = !self.read(from, values)?.holds(&row);
-                if self.evaluator.has(Fault::AbsentAtAnyMinute) && matches!(from, Expression::List { .. }) {
-                    absent = !self.at_any_minute().read(from, values)?.holds(&row);
-                    // planted
-                }
-                if self.evaluator.has(Fault::AbsentWithoutLinks) && matches!(from, Expression::List { .. }) {
-                    absent = !self.with_links(&[]).read(from, values)?.holds(&row);
-                    // planted
-                }
-                if self.evaluator.has(Fault::OperandReadOnce) && draws > 0 {
-                    self.draws = draws; // planted
-                }
-                absent
-            }
+            Guard::Absent { row, from } => self.absent(&row_of(row, values), from, values)?,
         };
         if passed {
             return self.pass(later, head, values, found);
@@ -729,6 +748,24 @@ impl Reading<'_> {
             return self.pass(later, head, values, &mut BTreeSet::new()); // planted
         }
         Ok(())
+    }
+
+    /// The row as a whole, in both formats.
+    fn absent(&mut self, row: &Row, from: &Expression, values: &mut Vec<u32>) -> Numbered<bool> {
+        let (draws, format) = (self.draws, self.format);
+        self.format = faults::format_under_absent(self.evaluator.fault, format);
+        let set = self.read(from, values)?;
+        self.format = format;
+        if self.evaluator.has(Fault::OperandReadOnce) && draws > 0 {
+            self.draws = draws; // planted
+        }
+        if self.evaluator.has(Fault::AbsentAtAnyMinute) && matches!(from, Expression::List { .. }) {
+            return Ok(!self.at_any_minute().read(from, values)?.holds(row)); // planted
+        }
+        if self.evaluator.has(Fault::AbsentWithoutLinks) && matches!(from, Expression::List { .. }) {
+            return Ok(!self.with_links(&[]).read(from, values)?.holds(row)); // planted
+        }
+        Ok(!faults::wrongly_present(self.evaluator.fault, format, from, &set, row).unwrap_or_else(|| set.holds(row)))
     }
 
     fn draw(
@@ -740,11 +777,11 @@ impl Reading<'_> {
         values: &mut Vec<u32>,
         found: &mut BTreeSet<Row>,
     ) -> Numbered<()> {
+        let (fault, format) = (self.evaluator.fault, self.format);
+        self.format = faults::format_under_draw(fault, format);
         let Set::Finite(rows) = self.read(from, values)? else { return Err(COMPLEMENT_DRAWN) };
-        let mut rows: Vec<Row> = rows.into_iter().collect();
-        if self.evaluator.has(Fault::DrawnByWidth) {
-            rows.sort_by_key(|row| row.width); // planted
-        }
+        self.format = format;
+        let mut rows = faults::rows_drawn(fault, format, pattern.len(), rows);
         if let (Some(fault), Expression::List { issuer, name, polarity }) = (self.evaluator.fault, from) {
             let joined = self.joined([value(*issuer, values), *name, *polarity]);
             rows = faults::wrongly_drawn(fault, self.held.records, &self.certified, &joined, self.minute).unwrap_or(rows);
@@ -752,36 +789,38 @@ impl Reading<'_> {
         }
         let most = MOST_DRAWS_MADE - self.evaluator.has(Fault::MillionthDrawRefused) as u32; // planted
         let outside = values.len();
-        for row in &rows {
+        for (place, row) in rows.iter().enumerate() {
             if self.draws == most {
                 return Err(TOO_MANY_DRAWS);
             }
-            let matched = self.matches(row, pattern, values);
-            if matched || !self.evaluator.has(Fault::DrawsCountedWhenMatching) {
+            let wrongly = faults::wrongly_matched(fault, format, from, row, pattern, values);
+            let matched = wrongly.unwrap_or_else(|| matches(format, row, pattern, values));
+            if !faults::not_counted(fault, format, row, pattern.len(), matched) {
                 self.draws += 1; // the condition is planted
             }
-            if matched {
-                self.pass(later, head, values, found)?;
+            if matched && !faults::passed_before(fault, format, &rows[..place], row, pattern.len()) {
+                self.pass(later, head, values, found)?; // the second condition is planted
             }
             values.truncate(outside);
         }
         Ok(())
     }
+}
 
-    /// Whether the row is of the pattern's width and equals its terms; new variables are bound on the way.
-    fn matches(&self, row: &Row, pattern: &[Slot], values: &mut Vec<u32>) -> bool {
-        let outside = values.len();
-        let wider = row.width as usize > pattern.len() && self.evaluator.has(Fault::WidthIgnored); // planted
-        (row.width as usize == pattern.len() || wider)
-            && pattern.iter().zip(row.used()).all(|(slot, &atom)| match slot {
-                Slot::New => {
-                    values.push(atom);
-                    true
-                }
-                Slot::Term(Term::Variable(number)) if *number >= outside && self.evaluator.has(Fault::PatternVariableNotCompared) => true, // planted
-                Slot::Term(term) => value(*term, values) == atom,
-            })
-    }
+/// Whether the pattern matches the row by the atoms that its format says; new variables are bound on the way.
+pub fn matches(format: Format, row: &Row, pattern: &[Slot], values: &mut Vec<u32>) -> bool {
+    format.held_against(pattern.len(), row).is_some_and(|atoms| equals(pattern, atoms, values))
+}
+
+/// Whether the terms of the pattern equal these atoms, one for each slot; new variables are bound on the way.
+pub fn equals(pattern: &[Slot], atoms: &[u32], values: &mut Vec<u32>) -> bool {
+    pattern.iter().zip(atoms).all(|(slot, &atom)| match slot {
+        Slot::New => {
+            values.push(atom);
+            true
+        }
+        Slot::Term(term) => value(*term, values) == atom,
+    })
 }
 
 fn written(rows: &[Vec<Term>], values: &[u32]) -> BTreeSet<Row> {
@@ -981,10 +1020,11 @@ impl Evaluator {
     }
 
     /// 1, 2.
-    pub fn table(&self, policy: &[u32]) -> Numbered<Vec<Entry>> {
-        if !(2..=MOST_POLICY_WORDS).contains(&policy.len()) || policy[0] != 1 || policy[1] > MOST_DEFINITIONS {
+    pub fn table(&self, policy: &[u32]) -> Numbered<Table> {
+        if !(2..=MOST_POLICY_WORDS).contains(&policy.len()) || policy[1] > MOST_DEFINITIONS {
             return Err(BAD_HEADER);
         }
+        let format = faults::wrong_format(self.fault, policy[0]).unwrap_or(Format::from_word(policy[0])).ok_or(BAD_HEADER)?;
         let first = 2 + 4 * policy[1] as usize;
         let table = policy.get(2..first).ok_or(BAD_HEADER)?;
         let mut next = first as u64;
@@ -1001,16 +1041,21 @@ impl Evaluator {
             }
             entries.push(Entry { name, polarity, part: offset as usize..next as usize });
         }
-        if next == policy.len() as u64 {
-            Ok(entries)
-        } else {
-            Err(BAD_TABLE)
+        if next != policy.len() as u64 {
+            return Err(BAD_TABLE);
         }
+        if self.has(Fault::FormatAfterTable) && Format::from_word(policy[0]).is_none() {
+            return Err(BAD_HEADER); // planted
+        }
+        Ok(Table { format, entries })
     }
 
     pub fn part(&self, policy: &[u32], query: &[u32], number: u32) -> Part {
         let empty = Part::Policy(0..0);
-        let Ok(entries) = self.table(policy) else { return empty };
+        let Ok(Table { entries, .. }) = self.table(policy) else { return empty };
+        if self.has(Fault::PartRefusesFormat2) && policy[0] == 2 {
+            return empty; // planted
+        }
         if number == QUERY_PART {
             return Part::Query(0..query.len());
         }
@@ -1019,13 +1064,13 @@ impl Evaluator {
 
     /// 1 to 7: each definition, then the query.
     pub fn judge(&self, policy: &[u32], query: &[u32]) -> Result<Judged, Refusal> {
-        let entries = self.table(policy).or_else(refused)?;
+        let Table { format, entries } = self.table(policy).or_else(refused)?;
         if self.has(Fault::QueryLengthFirst) && !(1..=MOST_QUERY_WORDS).contains(&query.len()) {
             return Err(Refusal { number: BAD_WORD, part: QUERY_PART }); // planted
         }
         let definitions = self.definitions(policy, &entries)?;
         let (query, verdict) = in_part(self.judge_query(query, &definitions), QUERY_PART)?;
-        Ok(Judged { definitions, query, verdict })
+        Ok(Judged { format, definitions, query, verdict })
     }
 
     /// 3 to 7 of each definition in turn.
@@ -1139,7 +1184,10 @@ impl Evaluator {
 
     /// 1 to 7 of the policy alone; 15; 11. Writes the output to the front of the area and gives its length.
     pub fn rewrite(&self, policy: &[u32], area: &mut [u32]) -> Result<usize, Refusal> {
-        let entries = self.table(policy).or_else(refused)?;
+        let Table { entries, .. } = self.table(policy).or_else(refused)?;
+        if self.has(Fault::RewriterRefusesFormat2) && policy[0] == 2 {
+            return refused(BAD_HEADER); // planted
+        }
         if let (true, Ok(parsed)) = (self.has(Fault::NotExternalBeforePolarity), self.parse_all(policy, &entries)) {
             self.external(&entries, &parsed)?; // planted
         }
@@ -1203,12 +1251,13 @@ impl Evaluator {
         }
     }
 
-    /// The output: each code 4 in a later definition becomes code 8 with the same words and then 0; without a definition of name 0 −, it equals the input.
+    /// The output: each code 4 in a later definition becomes code 8 with the same words and then 0; without a definition of name 0 −, it equals the input. It is
+    /// of the input's format.
     fn rewritten(&self, policy: &[u32], entries: &[Entry]) -> Vec<u32> {
         if !entries.first().is_some_and(|entry| self.lists_compromised(0, entry)) {
             return policy.to_vec();
         }
-        let mut table = vec![policy[0], policy[1]];
+        let mut table = vec![faults::format_written(self.fault, policy[0]), policy[1]];
         let mut parts: Vec<u32> = Vec::new();
         for (entry, number) in entries.iter().zip(0..) {
             let words = &policy[entry.part.clone()];
@@ -1307,8 +1356,9 @@ impl Evaluator {
     fn read(&self, judged: &Judged, held: Held, minute: u32) -> Result<Answer, Refusal> {
         let definitions_minute = if self.has(Fault::DefinitionsAtMinute0) { 0 } else { minute }; // planted
         let definitions_links = if self.has(Fault::DefinitionsWithoutLinks) { &[] } else { held.links }; // planted
-        let mut reading = Reading::new(Held { links: definitions_links, ..held }, definitions_minute, *self);
+        let mut reading = Reading::new(Held { links: definitions_links, ..held }, definitions_minute, judged.format, *self);
         for (definition, part) in judged.definitions.iter().zip(0..) {
+            reading.format = faults::format_of_part(self.fault, judged, part);
             let set = if self.has(Fault::UnusedDefinitionNotRead) && !judged.uses(part as usize) {
                 Set::Finite(BTreeSet::new()) // planted
             } else {
@@ -1321,9 +1371,10 @@ impl Evaluator {
         }
         if self.has(Fault::DefinitionsAtMinute0) || self.has(Fault::DefinitionsWithoutLinks) {
             let Reading { definitions, draws, .. } = reading;
-            reading = Reading { definitions, draws, ..Reading::new(held, minute, *self) };
+            reading = Reading { definitions, draws, ..Reading::new(held, minute, judged.format, *self) };
             // planted
         }
+        reading.format = faults::format_of_part(self.fault, judged, QUERY_PART);
         let set = in_part(reading.read(&judged.query, &mut Vec::new()), QUERY_PART)?;
         Ok(Answer { verdict: judged.verdict, draws: reading.draws, set })
     }

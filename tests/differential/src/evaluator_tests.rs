@@ -260,7 +260,7 @@ fn unsound_stores_get_8_and_empty_parts() {
 #[test]
 fn policies_refused_with_1() {
     let seventeen: Vec<(u32, u32, &[u32])> = (0..17).map(|name| (name, 0, &[1, 0][..])).collect();
-    let broken: [Vec<u32>; 6] = [vec![], vec![1], vec![2, 0], policy(&seventeen), vec![1, 1, 10, 0, 6], {
+    let broken: [Vec<u32>; 6] = [vec![], vec![1], vec![3, 0], policy(&seventeen), vec![1, 1, 10, 0, 6], {
         let mut long = vec![0; 8_193];
         long[0] = 1;
         long
@@ -665,7 +665,7 @@ fn broken_external_rules_get_15() {
 fn rewriting_refuses_1_to_7_first() {
     let difference: &[u32] = &[6, 4, 0, K2, 1, 0, 1, 0];
     let second = |words: &[u32]| policy(&[(10, 0, difference), (11, 0, words)]);
-    assert_eq!(rewrite(&[2, 0]), refusal(1, NO_PART));
+    assert_eq!(rewrite(&[3, 0]), refusal(1, NO_PART));
     assert_eq!(rewrite(&[1, 0, 0]), refusal(2, NO_PART));
     assert_eq!(rewrite(&second(&[9])), refusal(3, 1));
     assert_eq!(rewrite(&second(&[3, 1])), refusal(4, 1));
@@ -1091,6 +1091,278 @@ fn a_full_link_store_holds_and_refuses_with_19() {
     links[0] = 257;
     links[1_281..1_286].copy_from_slice(&some(256).words());
     assert_eq!(file_link(&mut links, some(5)), Filing::Refused(18));
+}
+
+// ---- document 02, N6 ----
+
+/// The same policy with another word 0.
+fn of_format(format: u32, mut policy: Vec<u32>) -> Vec<u32> {
+    policy[0] = format;
+    policy
+}
+
+/// k1's name 1, +, has these rows.
+fn list_of<const N: usize>(rows: [&[u32]; N]) -> Vec<u32> {
+    store_of(rows.map(|row| certificate(K1, 1, 0, row)))
+}
+
+/// Draws from k1's name 1, +, by this pattern; then other guards and the head.
+fn draw_list(pattern: &[u32], others: u32, rest: &[u32]) -> Vec<u32> {
+    [&[7, 1 + others, 1], LIST, pattern, rest].concat()
+}
+
+/// A pattern of this width, its slots all new, and a head of them.
+fn new_variables(width: u32) -> [Vec<u32>; 2] {
+    [2, 1].map(|tag| [width].into_iter().chain((0..width).flat_map(|variable| [tag, variable])).collect())
+}
+
+/// Rows of one to four atoms that share none.
+const OF_EACH_WIDTH: [&[u32]; 4] = [&[1], &[2, 3], &[4, 5, 6], &[7, 8, 9, 10]];
+
+#[test]
+fn a_pattern_matches_rows_of_its_width_or_in_format_2_wider_ones_by_their_first_atoms() {
+    let store = list_of(OF_EACH_WIDTH);
+    let matched: [[BTreeSet<Row>; 2]; 4] = [
+        [rows([&[1]]), rows([&[1], &[2], &[4], &[7]])],
+        [rows([&[2, 3]]), rows([&[2, 3], &[4, 5], &[7, 8]])],
+        [rows([&[4, 5, 6]]), rows([&[4, 5, 6], &[7, 8, 9]])],
+        [rows([&[7, 8, 9, 10]]), rows([&[7, 8, 9, 10]])],
+    ];
+    for (width, matched) in (1..).zip(matched) {
+        let [pattern, head] = new_variables(width);
+        for (format, matched) in (1..).zip(matched) {
+            // each of the four rows is a draw, matching or not
+            assert_eq!(ask(&[format, 0], &draw_list(&pattern, 0, &head), &store), answer(Lower, 4, Finite(matched)), "{width} {format}");
+        }
+    }
+}
+
+/// Each row that matches goes on to the later guards, also where it begins as another one does: a draw from a literal of one row counts them.
+#[test]
+fn rows_with_the_same_first_atoms_are_drawn_and_pass_one_by_one() {
+    let store = list_of([&[7], &[7, 8], &[7, 8, 9], &[7, 8, 9, 10]]);
+    for (width, passing) in [(1, [1, 4]), (2, [1, 3]), (3, [1, 2]), (4, [1, 1])] {
+        let [pattern, head] = new_variables(width);
+        let counted = draw_list(&pattern, 1, &[&[1, 1, 1, 1, 0, 5, 1, 0, 5], &head[..]].concat());
+        let first = rows([&[7, 8, 9, 10][..width as usize]]);
+        for (format, passing) in (1..).zip(passing) {
+            assert_eq!(ask(&[format, 0], &counted, &store), answer(Lower, 4 + passing, Finite(first.clone())), "{width} {format}");
+        }
+    }
+}
+
+#[test]
+fn a_variable_used_twice_is_compared_within_the_first_atoms() {
+    let store = list_of([&[7], &[7, 7], &[7, 8], &[6, 6, 9], &[8, 9, 9], &[9, 9, 9, 1]]);
+    // x, x: then the row drawn may go on
+    let twice = draw_list(&[2, 2, 0, 1, 0], 0, &[1, 1, 0]);
+    assert_eq!(ask(&[1, 0], &twice, &store), answer(Lower, 6, Finite(rows([&[7]]))));
+    assert_eq!(ask(&[2, 0], &twice, &store), answer(Lower, 6, Finite(rows([&[6], &[7], &[9]]))));
+    // x, y, y
+    let behind = draw_list(&[3, 2, 0, 2, 1, 1, 1], 0, &[2, 1, 0, 1, 1]);
+    assert_eq!(ask(&[1, 0], &behind, &store), answer(Lower, 6, Finite(rows([&[8, 9]]))));
+    assert_eq!(ask(&[2, 0], &behind, &store), answer(Lower, 6, Finite(rows([&[8, 9], &[9, 9]]))));
+    // x of {7, 8}, then x and y of the list: two draws, and six for each
+    let outside = [7, 2, 1, 1, 2, 1, 0, 7, 1, 0, 8, 1, 2, 0, 1, 4, 0, K1, 1, 0, 2, 1, 0, 2, 1, 2, 1, 0, 1, 1];
+    assert_eq!(ask(&[1, 0], &outside, &store), answer(Lower, 14, Finite(rows([&[7, 7], &[7, 8]]))));
+    assert_eq!(ask(&[2, 0], &outside, &store), answer(Lower, 14, Finite(rows([&[7, 7], &[7, 8], &[8, 9]]))));
+}
+
+#[test]
+fn a_variable_behind_the_pattern_is_the_next_draw_s() {
+    // x of k1's list, y of a literal: y is 5 also where the row drawn goes on behind x
+    let store = list_of([&[7, 8], &[6, 9, 9]]);
+    let query = draw_list(&[1, 2, 0], 1, &[1, 1, 1, 1, 0, 5, 1, 2, 1, 2, 1, 0, 1, 1]);
+    assert_eq!(ask(&[1, 0], &query, &store), answer(Lower, 2, Finite(rows([]))));
+    assert_eq!(ask(&[2, 0], &query, &store), answer(Lower, 4, Finite(rows([&[6, 5], &[7, 5]]))));
+}
+
+#[test]
+fn a_fixed_term_is_compared_within_the_first_atoms() {
+    let store = list_of([&[7], &[7, 1], &[7, 1, 2], &[8], &[8, 7]]);
+    // the draws of a literal of one row behind it say how many rows match
+    let passing = |format, pattern: &[u32]| {
+        let query = draw_list(pattern, 1, &[1, 1, 1, 1, 0, 5, 1, 0, 5, 1, 0, 5]);
+        ask(&[format, 0], &query, &store).unwrap().draws - 5
+    };
+    assert_eq!([1, 2].map(|format| passing(format, &[1, 0, 7])), [1, 3]);
+    assert_eq!([1, 2].map(|format| passing(format, &[1, 0, 8])), [1, 2]);
+    assert_eq!([1, 2].map(|format| passing(format, &[1, 0, 1])), [0, 0]);
+    assert_eq!([1, 2].map(|format| passing(format, &[2, 0, 7, 0, 1])), [1, 2]);
+    assert_eq!([1, 2].map(|format| passing(format, &[2, 2, 0, 0, 7])), [1, 1]);
+    assert_eq!([1, 2].map(|format| passing(format, &[2, 2, 0, 0, 2])), [0, 0]);
+    assert_eq!([1, 2].map(|format| passing(format, &[3, 2, 0, 2, 1, 0, 2])), [1, 1]);
+}
+
+/// Unused atoms are 0 in words, and no atoms.
+#[test]
+fn zeros_are_atoms_like_others() {
+    let store = list_of([&[7], &[7, 0], &[7, 0, 0], &[8, 0, 0, 0]]);
+    let matched = |format, pattern: &[u32], head: &[u32]| ask(&[format, 0], &draw_list(pattern, 0, head), &store).unwrap().set;
+    assert_eq!(matched(1, &[1, 2, 0], &[1, 1, 0]), Finite(rows([&[7]])));
+    assert_eq!(matched(2, &[1, 2, 0], &[1, 1, 0]), Finite(rows([&[7], &[8]])));
+    assert_eq!(matched(1, &[2, 2, 0, 0, 0], &[1, 1, 0]), Finite(rows([&[7]])));
+    assert_eq!(matched(2, &[2, 2, 0, 0, 0], &[1, 1, 0]), Finite(rows([&[7], &[8]])));
+    assert_eq!(matched(2, &[4, 2, 0, 0, 0, 0, 0, 0, 0], &[1, 1, 0]), Finite(rows([&[8]])));
+}
+
+#[test]
+fn an_absent_guard_s_row_is_whole_in_both_formats() {
+    let absent = |row: &[u32], from: &[u32]| [&[7, 1, 4], row, from, &[1, 0, 5]].concat();
+    let (seven, seven_eight): (&[u32], &[u32]) = (&[1, 0, 7], &[2, 0, 7, 0, 8]);
+    let [of_seven, of_both] = [[&[1, 1], seven].concat(), [&[1, 1], seven_eight].concat()];
+    let all_but = [&[2, 1], seven_eight].concat();
+    for format in [1, 2] {
+        let passes = |query: &[u32]| ask(&[format, 0], query, &empty_store()).unwrap().set == Finite(rows([&[5]]));
+        assert!(passes(&absent(seven, &of_both)));
+        assert!(passes(&absent(seven_eight, &of_seven)));
+        assert!(!passes(&absent(seven, &of_seven)));
+        assert!(!passes(&absent(seven_eight, &of_both)));
+        assert!(passes(&absent(seven_eight, &all_but)));
+        assert!(!passes(&absent(seven, &all_but)));
+        // nor is a difference's
+        assert_eq!(ask(&[format, 0], &[&[6], &of_both[..], &of_seven].concat(), &empty_store()).unwrap().set, Finite(rows([&[7, 8]])));
+    }
+}
+
+/// P, with an epoch behind what is released and not withdrawn.
+#[test]
+fn the_portal_with_epochs() {
+    let formats = [p(), of_format(2, p())];
+    let mut store = empty_store();
+    let nothing = |draws| answer(Lower, draws, Finite(rows([])));
+    file(&mut store, certificate(K1, 1, 0, &[7, 100]));
+    assert_eq!(formats.each_ref().map(|p| ask(p, Q, &store)), [nothing(1), nothing(1)]);
+    // the row 7 may still be withdrawn
+    file(&mut store, certificate(K1, 2, 1, &[7, 100]));
+    assert_eq!(formats.each_ref().map(|p| ask(p, Q, &store)), [nothing(1), nothing(1)]);
+    file(&mut store, certificate(K1, 2, 1, &[7]));
+    let seven = |draws| answer(Lower, draws, Finite(rows([&[7]])));
+    assert_eq!(formats.each_ref().map(|p| ask(p, Q, &store)), [nothing(1), seven(1)]);
+    file(&mut store, certificate(K1, 1, 0, &[7, 101]));
+    assert_eq!(formats.each_ref().map(|p| ask(p, Q, &store)), [nothing(2), seven(2)]);
+    file(&mut store, certificate(K1, 1, 0, &[7]));
+    assert_eq!(formats.each_ref().map(|p| ask(p, Q, &store)), [seven(3), seven(3)]);
+    // what is not drawn is as it was
+    let withdrawn = [4, 0, K1, 2, 1];
+    let all_but = Complement(rows([&[7], &[7, 100]]));
+    assert_eq!(formats.each_ref().map(|p| ask(p, &withdrawn, &store)), [answer(Upper, 3, all_but.clone()), answer(Upper, 3, all_but)]);
+}
+
+#[test]
+fn code_8_looks_up_the_issuer_s_whole_row_in_both_formats() {
+    let store = store_of([certificate(K2, 1, 0, &[7])]);
+    let vetted = |format, compromised: &[u32]| {
+        let policy = of_format(format, policy(&[(0, 1, compromised)]));
+        ask(&policy, &[8, 0, K2, 1, 0, 0], &store).unwrap().set.listed().len()
+    };
+    // k2 and 7 in one row; all rows but that one; k2 by itself
+    assert_eq!([1, 2].map(|format| vetted(format, &[1, 1, 2, 0, K2, 0, 7])), [1, 1]);
+    assert_eq!([1, 2].map(|format| vetted(format, &[2, 1, 2, 0, K2, 0, 7])), [0, 0]);
+    assert_eq!([1, 2].map(|format| vetted(format, &[1, 1, 1, 0, K2])), [0, 0]);
+    // each x of the row of k2 and 7, which is drawn from
+    assert_eq!([1, 2].map(|format| vetted(format, &[7, 1, 1, 1, 1, 2, 0, K2, 0, 7, 1, 2, 0, 1, 1, 0])), [1, 0]);
+}
+
+#[test]
+fn definitions_and_query_follow_their_policy_s_format() {
+    let store = list_of([&[7, 8], &[6, 5, 4]]);
+    let first = draw_list(&[1, 2, 0], 0, &[1, 1, 0]);
+    let two = draw_list(&[2, 2, 0, 2, 1], 0, &[2, 1, 1, 1, 0]);
+    // no definitions, one that the query does not use, and the query as a definition
+    for format in [1, 2] {
+        let matched = if format == 1 { rows([]) } else { rows([&[6], &[7]]) };
+        for definitions in [&[][..], &[(10, 0, NOTHING)], &[(10, 0, NOTHING), (11, 1, &[2, 0])]] {
+            assert_eq!(ask(&of_format(format, policy(definitions)), &first, &store), answer(Lower, 2, Finite(matched.clone())));
+        }
+        assert_eq!(ask(&of_format(format, policy(&[(10, 0, &first)])), &[3, 0], &store), answer(Lower, 2, Finite(matched)));
+        // a definition that swaps two atoms, and a query that draws the first of what it has
+        let swapped = of_format(format, policy(&[(10, 0, &two)]));
+        let (of_definition, drawn) = if format == 1 { (rows([&[8, 7]]), rows([])) } else { (rows([&[8, 7], &[5, 6]]), rows([&[8], &[5]])) };
+        let count = of_definition.len() as u32;
+        assert_eq!(ask(&swapped, &[3, 0], &store), answer(Lower, 2, Finite(of_definition)));
+        assert_eq!(ask(&swapped, &[7, 1, 1, 3, 0, 1, 2, 0, 1, 1, 0], &store), answer(Lower, 2 + count, Finite(drawn)));
+        // inside a drawn comprehension, and inside an absent guard's
+        let inner = [7, 1, 1, 1, 1, 2, 0, 7, 0, 8, 1, 2, 0, 1, 1, 0];
+        let drawn = [&[7, 1, 1], &inner[..], &[1, 2, 0, 1, 1, 0]].concat();
+        let absent = [&[7, 1, 4, 1, 0, 7], &inner[..], &[1, 0, 5]].concat();
+        let (of_drawn, of_absent) = if format == 1 { (rows([]), rows([&[5]])) } else { (rows([&[7]]), rows([])) };
+        assert_eq!(ask(&[format, 0], &drawn, &store), answer(Exact, format, Finite(of_drawn)));
+        assert_eq!(ask(&[format, 0], &absent, &store), answer(Exact, 1, Finite(of_absent)));
+    }
+}
+
+#[test]
+fn polarity_openness_and_limits_are_those_of_format_1() {
+    let alone = |query: &[u32]| ask(&[2, 0], query, &empty_store());
+    assert_eq!(alone(&[6, 4, 0, K1, 1, 0, 4, 0, K1, 1, 0]), refusal(6, QUERY_PART));
+    assert_eq!(alone(&[7, 1, 1, 4, 0, K1, 2, 1, 1, 2, 0, 1, 1, 0]), refusal(7, QUERY_PART));
+    assert_eq!(alone(&nested_unions(15)), refusal(5, QUERY_PART));
+    assert_eq!(alone(&variables(17)), refusal(4, QUERY_PART));
+    assert_eq!(alone(&[9]), refusal(3, QUERY_PART));
+    assert_eq!(alone(&draws_over([100, 100, 98])), answer(Exact, 990_100, Finite(rows([&[7]]))));
+    assert_eq!(alone(&draws_over([100, 100, 100])), refusal(14, QUERY_PART));
+    assert_eq!(ask(&[2, 0], &[1, 0], &[]), refusal(8, NO_PART));
+    // 128 rows of two atoms have 64 first atoms: 128 draws; one row more is 13 before it is drawn
+    let store = |count| store_of((0..count).map(|n| certificate(K1, 1, 0, &[n / 2, n])));
+    let first = draw_list(&[1, 2, 0], 0, &[1, 1, 0]);
+    let drawn = ask(&[2, 0], &first, &store(128)).unwrap();
+    assert_eq!((drawn.draws, drawn.set.listed().len()), (128, 64));
+    assert_eq!(ask(&[2, 0], &first, &store(129)), refusal(13, QUERY_PART));
+}
+
+#[test]
+fn formats_1_and_2_pass_and_no_others() {
+    let definition = policy(&[(10, 0, &[1, 0])]);
+    for format in [1, 2] {
+        let policy = of_format(format, definition.clone());
+        assert_eq!(ask(&policy, &[3, 0], &empty_store()), answer(Lower, 0, Finite(rows([]))));
+        assert_eq!(ask(&[format, 0], &[1, 0], &empty_store()), answer(Exact, 0, Finite(rows([]))));
+        assert_eq!(rewrite(&policy), Ok(policy.clone()));
+        let part = |number| Evaluator::default().part(&policy, &[9, 9], number);
+        assert_eq!([0, 16].map(part), [Part::Policy(6..8), Part::Query(0..2)]);
+        // the rest of the header and the table are tested as before
+        for (words, number) in
+            [(&[format][..], 1), (&[format, 17], 1), (&[format, 1, 10, 0, 6], 1), (&[format, 0, 0], 2), (&[format, 1, 10, 0, 7, 1, 1], 2)]
+        {
+            assert_eq!(ask(words, &[1, 0], &empty_store()), refusal(number, NO_PART), "{words:?}");
+        }
+    }
+    for format in [0, 3, 4, 257, 258, 65_538, K1, key(2), u32::MAX] {
+        // whatever follows: a sound policy, n over 16, a table that is cut short or breaks a rule, and a query that is malformed
+        for rest in [&[0][..], &definition[1..], &[17], &[1, 10, 0], &[0, 0], &[1, 10, 0, 7, 1, 1]] {
+            let policy = [&[format], rest].concat();
+            assert_eq!(ask(&policy, &[9], &[]), refusal(1, NO_PART), "{policy:?}");
+            assert_eq!(Evaluator::default().judge(&policy, &[1, 0]).map(|judged| judged.verdict), refusal(1, NO_PART));
+            assert_eq!(rewrite(&policy), refusal(1, NO_PART));
+            for number in [0, 16] {
+                assert_eq!(Evaluator::default().part(&policy, &[1, 0], number), Part::Policy(0..0));
+            }
+        }
+    }
+}
+
+#[test]
+fn the_rewritten_policy_keeps_its_format() {
+    let external = of_format(2, delegated_to_alice());
+    let rewritten = rewrite(&external).unwrap();
+    assert_eq!(rewritten, [2, 2, 0, 1, 10, 5, 10, 0, 15, 6, 4, 0, K1, 0, 1, 8, 0, K2, 1, 0, 0]);
+    assert_eq!(rewrite(&delegated_to_alice()).unwrap(), of_format(1, rewritten));
+    for same in [vec![2, 0], of_format(2, policy(&[(10, 0, LIST)])), of_format(2, policy(&[(0, 0, LIST)]))] {
+        assert_eq!(rewrite(&same), Ok(same));
+    }
+    // 15 and 11 as before
+    assert_eq!(rewrite(&of_format(2, policy(&[(10, 0, &[6, 1, 0, 1, 0])]))), refusal(15, NO_PART));
+    assert_eq!(Evaluator::default().rewrite(&external, &mut [0; 20]), refusal(11, NO_PART));
+    // keys that are the first of a compromised row are compromised in format 2, where the policy draws them
+    let drawn = [7, 1, 1, 1, 1, 2, 0, K2, 0, 7, 1, 2, 0, 1, 1, 0];
+    let external = policy(&[(0, 1, &drawn), (10, 0, &[4, 0, K2, 1, 0])]);
+    let store = store_of([certificate(K2, 1, 0, &[7])]);
+    let listed = [1, 2].map(|format| {
+        let rewritten = rewrite(&of_format(format, external.clone())).unwrap();
+        ask(&rewritten, &[3, 1], &store).unwrap().set
+    });
+    assert_eq!(listed, [Finite(rows([&[7]])), Finite(rows([]))]);
 }
 
 #[test]

@@ -1,9 +1,10 @@
 //! Mistakes that can be planted in the evaluator, to see that the comparison notices each of them.
 
 use crate::evaluator::{
-    certified, is_key, limited, reached, value, Certified, Date, Expression, Judged, Link, Name, Numbered, Record, Row, Set, Term, Validity,
+    certified, equals, is_key, limited, matches, reached, value, Certified, Date, Expression, Format, Judged, Link, Name, Numbered, Record, Row, Set,
+    Slot, Term, Validity,
 };
-use crate::numbers::{LAST_NAME, LINKS_WORDS, LINK_WORDS, MOST_CERTIFICATES, MOST_LINKS, MOST_ROWS, RECORD_WORDS, TOO_MANY_ROWS};
+use crate::numbers::{LAST_NAME, LINKS_WORDS, LINK_WORDS, MOST_CERTIFICATES, MOST_LINKS, MOST_ROWS, QUERY_PART, RECORD_WORDS, TOO_MANY_ROWS};
 use std::cmp::{Ordering, Reverse};
 use std::collections::BTreeSet;
 use std::ops::Range;
@@ -44,7 +45,6 @@ pub enum Fault {
     RefusedQueryClearsAnswer,
     FilingClearsPastTheEnd,
     VariableIssuerUnknown,
-    WidthIgnored,
     ParsedBeforeJudged,
     QueryLengthFirst,
     OperandReadOnce,
@@ -211,11 +211,51 @@ pub enum Fault {
     LinksTestedWhereRead,
     UnsoundLinksTakenAsNone,
     BadLinkHasAPart,
+    Format1Wider,
+    Format2Equal,
+    Format1Padded,
+    NarrowerRowMatched,
+    NarrowerRowPadded,
+    LastAtomsMatched,
+    OneAtomMoreAtMost,
+    EqualWidthPassedOver,
+    BehindPatternBound,
+    FixedTermOfWiderRowPasses,
+    VariableOfWiderRowPasses,
+    LastSlotOfWiderRowPasses,
+    OtherWidthsNotCounted,
+    NarrowerRowsNotCounted,
+    RowsCutBeforeDrawn,
+    SameAtomsPassedOnce,
+    QueryEqual,
+    QueryWider,
+    DefinitionsEqual,
+    DefinitionsWider,
+    QueryAloneEqual,
+    UnderAbsentEqual,
+    UnderDrawEqual,
+    LiteralsDrawnEqual,
+    NamesDrawnEqual,
+    AbsentByFirstAtoms,
+    AbsentByShorterRow,
+    AbsentFromLiteralByFirstAtoms,
+    LookUpByFirstAtomInFormat2,
+    SubtractedByFirstAtoms,
+    Format2Refused,
+    Format0Passes,
+    Format3Passes,
+    FormatWordCut,
+    FormatAfterTable,
+    PartRefusesFormat2,
+    JudgeRefusesFormat2,
+    RewriterRefusesFormat2,
+    RewriterWritesFormat1,
+    RewriterWritesFormat2,
 }
 
 impl Fault {
     /// Every fault; `--plant K` plants the one at K, counted from 1.
-    pub const ALL: [Fault; 200] = [
+    pub const ALL: [Fault; 239] = [
         Fault::UnknownListTakenAsEmpty,
         Fault::ComparedTermsCounted,
         Fault::AbsentNotTurnedRound,
@@ -249,7 +289,6 @@ impl Fault {
         Fault::RefusedQueryClearsAnswer,
         Fault::FilingClearsPastTheEnd,
         Fault::VariableIssuerUnknown,
-        Fault::WidthIgnored,
         Fault::ParsedBeforeJudged,
         Fault::QueryLengthFirst,
         Fault::OperandReadOnce,
@@ -416,6 +455,46 @@ impl Fault {
         Fault::LinksTestedWhereRead,
         Fault::UnsoundLinksTakenAsNone,
         Fault::BadLinkHasAPart,
+        Fault::Format1Wider,
+        Fault::Format2Equal,
+        Fault::Format1Padded,
+        Fault::NarrowerRowMatched,
+        Fault::NarrowerRowPadded,
+        Fault::LastAtomsMatched,
+        Fault::OneAtomMoreAtMost,
+        Fault::EqualWidthPassedOver,
+        Fault::BehindPatternBound,
+        Fault::FixedTermOfWiderRowPasses,
+        Fault::VariableOfWiderRowPasses,
+        Fault::LastSlotOfWiderRowPasses,
+        Fault::OtherWidthsNotCounted,
+        Fault::NarrowerRowsNotCounted,
+        Fault::RowsCutBeforeDrawn,
+        Fault::SameAtomsPassedOnce,
+        Fault::QueryEqual,
+        Fault::QueryWider,
+        Fault::DefinitionsEqual,
+        Fault::DefinitionsWider,
+        Fault::QueryAloneEqual,
+        Fault::UnderAbsentEqual,
+        Fault::UnderDrawEqual,
+        Fault::LiteralsDrawnEqual,
+        Fault::NamesDrawnEqual,
+        Fault::AbsentByFirstAtoms,
+        Fault::AbsentByShorterRow,
+        Fault::AbsentFromLiteralByFirstAtoms,
+        Fault::LookUpByFirstAtomInFormat2,
+        Fault::SubtractedByFirstAtoms,
+        Fault::Format2Refused,
+        Fault::Format0Passes,
+        Fault::Format3Passes,
+        Fault::FormatWordCut,
+        Fault::FormatAfterTable,
+        Fault::PartRefusesFormat2,
+        Fault::JudgeRefusesFormat2,
+        Fault::RewriterRefusesFormat2,
+        Fault::RewriterWritesFormat1,
+        Fault::RewriterWritesFormat2,
     ];
 
     pub fn meaning(self) -> &'static str {
@@ -453,7 +532,6 @@ impl Fault {
             Fault::RefusedQueryClearsAnswer => "a refused query clears the answer area",
             Fault::FilingClearsPastTheEnd => "filing clears the word past the last record",
             Fault::VariableIssuerUnknown => "a list whose issuer is a variable is read as if nothing were held of it",
-            Fault::WidthIgnored => "a row that is wider than the pattern is matched by its first atoms",
             Fault::ParsedBeforeJudged => "all definitions are parsed before any is judged",
             Fault::QueryLengthFirst => "the query's length is tested before the definitions",
             Fault::OperandReadOnce => "the draws of an absent guard's operand are counted the first time only",
@@ -620,6 +698,50 @@ impl Fault {
             Fault::LinksTestedWhereRead => "18 is asked only where a name is written",
             Fault::UnsoundLinksTakenAsNone => "an unsound link store is read as an empty one",
             Fault::BadLinkHasAPart => "18 comes with the query as its part",
+            Fault::Format1Wider => "format 1 is read as format 2: a row that is wider than the pattern is matched by its first atoms",
+            Fault::Format2Equal => "format 2 is read as format 1: a row that is wider than the pattern is passed over",
+            Fault::Format1Padded => "format 1: pattern and row are compared as if zeros followed the shorter one",
+            Fault::NarrowerRowMatched => "format 2: a row that is narrower than the pattern is matched by the atoms that it has",
+            Fault::NarrowerRowPadded => "format 2: a row that is narrower than the pattern is matched as if zeros followed its atoms",
+            Fault::LastAtomsMatched => "format 2: a wider row is matched by its last atoms",
+            Fault::OneAtomMoreAtMost => "format 2: a row that has over one atom more than the pattern is passed over",
+            Fault::EqualWidthPassedOver => "format 2: a row of the pattern's own width is passed over",
+            Fault::BehindPatternBound => "format 2: the atom of a wider row behind those matched is bound as a new variable",
+            Fault::FixedTermOfWiderRowPasses => "format 2: a fixed term is not compared with a wider row's atom",
+            Fault::VariableOfWiderRowPasses => "format 2: a variable is not compared with a wider row's atom",
+            Fault::LastSlotOfWiderRowPasses => "format 2: a wider row is matched by one atom less than the pattern has",
+            Fault::OtherWidthsNotCounted => "format 2: a row of another width than the pattern's is not counted as a draw",
+            Fault::NarrowerRowsNotCounted => "format 2: a row that is narrower than the pattern is not counted as a draw",
+            Fault::RowsCutBeforeDrawn => {
+                "format 2: rows are cut to the pattern's width before they are drawn, so that those with the same first atoms are drawn once"
+            }
+            Fault::SameAtomsPassedOnce => "format 2: of rows with the same first atoms one alone goes on to the later guards",
+            Fault::QueryEqual => "the query is read under format 1 whatever its policy's format",
+            Fault::QueryWider => "the query is read under format 2 whatever its policy's format",
+            Fault::DefinitionsEqual => "definitions are read under format 1 whatever their policy's format",
+            Fault::DefinitionsWider => "definitions are read under format 2 whatever their policy's format",
+            Fault::QueryAloneEqual => "the query of a policy without definitions is read under format 1",
+            Fault::UnderAbsentEqual => "draws inside an absent guard's operand are read under format 1",
+            Fault::UnderDrawEqual => "draws inside a drawn expression are read under format 1",
+            Fault::LiteralsDrawnEqual => "format 2: rows drawn from a literal match by equal widths",
+            Fault::NamesDrawnEqual => "format 2: rows drawn from a name match by equal widths",
+            Fault::AbsentByFirstAtoms => "format 2: an absent guard's row is taken to be listed where a longer row begins with it",
+            Fault::AbsentByShorterRow => "format 2: an absent guard's row is taken to be listed where it begins with a shorter row",
+            Fault::AbsentFromLiteralByFirstAtoms => {
+                "format 2: an absent guard's row is taken to be among a literal's where a longer row begins with it"
+            }
+            Fault::LookUpByFirstAtomInFormat2 => "format 2: code 8 takes a longer row that begins with the issuer for the issuer's",
+            Fault::SubtractedByFirstAtoms => "format 2: a difference takes away every row that begins with one on its right",
+            Fault::Format2Refused => "refusal 1 lets format 1 alone pass",
+            Fault::Format0Passes => "format 0 is taken as format 1",
+            Fault::Format3Passes => "format 3 is taken as format 2",
+            Fault::FormatWordCut => "of a format's word the last eight bits are looked at",
+            Fault::FormatAfterTable => "the format is tested after the table, 1 after 2",
+            Fault::PartRefusesFormat2 => "a policy of format 2 has no parts to hand back",
+            Fault::JudgeRefusesFormat2 => "judging alone refuses format 2",
+            Fault::RewriterRefusesFormat2 => "rewriting refuses format 2",
+            Fault::RewriterWritesFormat1 => "a rewritten policy is of format 1 whatever the input's",
+            Fault::RewriterWritesFormat2 => "a rewritten policy is of format 2 whatever the input's",
         }
     }
 }
@@ -667,6 +789,174 @@ pub fn wrongly_drawn(fault: Fault, records: &[Record], held: &Certified, joined:
     match fault {
         Fault::DrawnForEachRecord => Some(rows_of_records(records, joined, minute).collect()),
         Fault::DrawnForEachName => Some(rows_of_names(held, joined).collect()),
+        _ => None,
+    }
+}
+
+// ---- formats ----
+
+fn begins_with(row: &Row, first: &Row) -> bool {
+    row.used().starts_with(first.used())
+}
+
+/// What a policy's word 0 is wrongly taken for: a format, or none.
+pub fn wrong_format(fault: Option<Fault>, word: u32) -> Option<Option<Format>> {
+    match (fault?, word) {
+        (Fault::Format2Refused, 2) => Some(None),
+        (Fault::Format0Passes, 0) => Some(Some(Format::EqualWidths)),
+        (Fault::Format3Passes, 3) => Some(Some(Format::WiderRows)),
+        (Fault::FormatWordCut, _) => Some(Format::from_word(word & 0xFF)),
+        (Fault::FormatAfterTable, _) => Some(Format::from_word(word).or(Some(Format::EqualWidths))),
+        _ => None,
+    }
+}
+
+/// Word 0 of a rewritten policy: the input's, unless a fault writes another.
+pub fn format_written(fault: Option<Fault>, word: u32) -> u32 {
+    match fault {
+        Some(Fault::RewriterWritesFormat1) => 1,
+        Some(Fault::RewriterWritesFormat2) => 2,
+        _ => word,
+    }
+}
+
+/// The format that a definition or the query is read under: its policy's, unless a fault takes the other one.
+pub fn format_of_part(fault: Option<Fault>, judged: &Judged, part: u32) -> Format {
+    let query = part == QUERY_PART;
+    match fault {
+        Some(Fault::Format1Wider) => Format::WiderRows,
+        Some(Fault::Format2Equal) => Format::EqualWidths,
+        Some(Fault::QueryEqual) if query => Format::EqualWidths,
+        Some(Fault::QueryWider) if query => Format::WiderRows,
+        Some(Fault::DefinitionsEqual) if !query => Format::EqualWidths,
+        Some(Fault::DefinitionsWider) if !query => Format::WiderRows,
+        Some(Fault::QueryAloneEqual) if judged.definitions.is_empty() => Format::EqualWidths,
+        _ => judged.format,
+    }
+}
+
+/// The format that an absent guard's operand is read under: that of the whole, unless a fault takes another.
+pub fn format_under_absent(fault: Option<Fault>, format: Format) -> Format {
+    if fault == Some(Fault::UnderAbsentEqual) {
+        Format::EqualWidths
+    } else {
+        format
+    }
+}
+
+/// The same of a drawn expression.
+pub fn format_under_draw(fault: Option<Fault>, format: Format) -> Format {
+    if fault == Some(Fault::UnderDrawEqual) {
+        Format::EqualWidths
+    } else {
+        format
+    }
+}
+
+/// The rows of a drawn set, in the order in which they are drawn: ascending, unless a fault orders or cuts them.
+pub fn rows_drawn(fault: Option<Fault>, format: Format, width: usize, rows: BTreeSet<Row>) -> Vec<Row> {
+    let mut rows: Vec<Row> = rows.into_iter().collect();
+    match fault {
+        Some(Fault::DrawnByWidth) => rows.sort_by_key(|row| row.width),
+        Some(Fault::RowsCutBeforeDrawn) if format == Format::WiderRows => {
+            rows = rows.iter().map(|row| cut(row, width)).collect();
+            rows.dedup();
+        }
+        _ => {}
+    }
+    rows
+}
+
+/// The row's first atoms, so many of them at most.
+fn cut(row: &Row, width: usize) -> Row {
+    Row::new(&row.used()[..width.min(row.used().len())])
+}
+
+/// Whether a row is wrongly matched, or passed over.
+pub fn wrongly_matched(fault: Option<Fault>, format: Format, from: &Expression, row: &Row, pattern: &[Slot], values: &mut Vec<u32>) -> Option<bool> {
+    let (fault, outside) = (fault?, values.len());
+    match format {
+        _ if fault == Fault::PatternVariableNotCompared => {
+            let new = |term| matches!(term, Term::Variable(number) if number >= outside);
+            Some(format.held_against(pattern.len(), row).is_some_and(|atoms| equals_but(pattern, atoms, values, new)))
+        }
+        Format::EqualWidths if fault == Fault::Format1Padded => {
+            let zeros = row.atoms[pattern.len()..].iter().all(|&atom| atom == 0);
+            Some(zeros && equals(pattern, &row.atoms, values))
+        }
+        Format::EqualWidths => None,
+        Format::WiderRows => wrongly_matched_in_format_2(fault, from, row, pattern, values),
+    }
+}
+
+fn wrongly_matched_in_format_2(fault: Fault, from: &Expression, row: &Row, pattern: &[Slot], values: &mut Vec<u32>) -> Option<bool> {
+    let (width, atoms) = (pattern.len(), row.used());
+    let (literal, name) = (matches!(from, Expression::Rows(_)), matches!(from, Expression::List { .. } | Expression::Vetted { .. }));
+    match fault {
+        Fault::LiteralsDrawnEqual if literal => Some(matches(Format::EqualWidths, row, pattern, values)),
+        Fault::NamesDrawnEqual if name => Some(matches(Format::EqualWidths, row, pattern, values)),
+        Fault::NarrowerRowMatched if atoms.len() < width => {
+            let (first, others) = pattern.split_at(atoms.len());
+            let matched = equals(first, atoms, values);
+            values.extend(others.iter().filter(|slot| **slot == Slot::New).map(|_| 0));
+            Some(matched)
+        }
+        Fault::NarrowerRowPadded if atoms.len() < width => Some(equals(pattern, &row.atoms, values)),
+        Fault::EqualWidthPassedOver if atoms.len() == width => Some(false),
+        // The others are about wider rows.
+        _ if atoms.len() <= width => None,
+        Fault::LastAtomsMatched => Some(equals(pattern, &atoms[atoms.len() - width..], values)),
+        Fault::OneAtomMoreAtMost if atoms.len() > width + 1 => Some(false),
+        Fault::BehindPatternBound => {
+            let matched = equals(pattern, atoms, values);
+            values.push(atoms[width]);
+            Some(matched)
+        }
+        Fault::FixedTermOfWiderRowPasses => Some(equals_but(pattern, atoms, values, |term| matches!(term, Term::Atom(_)))),
+        Fault::VariableOfWiderRowPasses => Some(equals_but(pattern, atoms, values, |term| matches!(term, Term::Variable(_)))),
+        Fault::LastSlotOfWiderRowPasses => {
+            let (last, others) = pattern.split_last()?;
+            let matched = equals(others, atoms, values);
+            values.extend((*last == Slot::New).then_some(atoms[width - 1]));
+            Some(matched)
+        }
+        _ => None,
+    }
+}
+
+/// As `equals`, but that some terms are not compared.
+fn equals_but(pattern: &[Slot], atoms: &[u32], values: &mut Vec<u32>, passes: impl Fn(Term) -> bool) -> bool {
+    pattern.iter().zip(atoms).all(|(slot, &atom)| match slot {
+        Slot::Term(term) if passes(*term) => true,
+        slot => equals(&[*slot], &[atom], values),
+    })
+}
+
+/// Whether a draw is wrongly not counted.
+pub fn not_counted(fault: Option<Fault>, format: Format, row: &Row, width: usize, matched: bool) -> bool {
+    match fault {
+        Some(Fault::DrawsCountedWhenMatching) => !matched,
+        Some(Fault::OtherWidthsNotCounted) => format == Format::WiderRows && row.used().len() != width,
+        Some(Fault::NarrowerRowsNotCounted) => format == Format::WiderRows && row.used().len() < width,
+        _ => false,
+    }
+}
+
+/// Whether a row that matches is wrongly taken as done with those drawn before it.
+pub fn passed_before(fault: Option<Fault>, format: Format, earlier: &[Row], row: &Row, width: usize) -> bool {
+    let same = |other: &Row| cut(other, width) == cut(row, width);
+    fault == Some(Fault::SameAtomsPassedOnce) && format == Format::WiderRows && earlier.iter().any(same)
+}
+
+/// Whether an absent guard's row is wrongly taken as being in the set, or as not being there.
+pub fn wrongly_present(fault: Option<Fault>, format: Format, from: &Expression, set: &Set, row: &Row) -> Option<bool> {
+    let literal = matches!(from, Expression::Rows(_) | Expression::AllBut(_));
+    let finite = matches!(set, Set::Finite(_));
+    match fault? {
+        _ if format == Format::EqualWidths => None,
+        Fault::AbsentFromLiteralByFirstAtoms if !literal => None,
+        Fault::AbsentByFirstAtoms | Fault::AbsentFromLiteralByFirstAtoms => Some(set.listed().iter().any(|other| begins_with(other, row)) == finite),
+        Fault::AbsentByShorterRow => Some(set.listed().iter().any(|other| begins_with(row, other)) == finite),
         _ => None,
     }
 }
@@ -1045,8 +1335,12 @@ pub fn wrong_union(fault: Option<Fault>, left: &Set, right: &Set) -> Option<Numb
     Some(limited(value))
 }
 
-pub fn wrong_difference(fault: Option<Fault>, left: &Set, right: &Set) -> Option<Numbered<Set>> {
+pub fn wrong_difference(fault: Option<Fault>, format: Format, left: &Set, right: &Set) -> Option<Numbered<Set>> {
+    let by_first_atoms = |row: &&Row| matches!(right, Set::Finite(_)) != right.listed().iter().any(|other| begins_with(row, other));
     let value = match (fault?, left, right) {
+        (Fault::SubtractedByFirstAtoms, Set::Finite(a), _) if format == Format::WiderRows => {
+            Set::Finite(a.iter().filter(by_first_atoms).copied().collect())
+        }
         (Fault::ComplementsSubtractedStraight, Set::Complement(a), Set::Complement(b)) => Set::Finite(a - b),
         (Fault::FiniteSubtractedKept, Set::Finite(a), Set::Finite(_)) => Set::Finite(a.clone()),
         (Fault::ComplementSubtractedStraight, Set::Finite(a), Set::Complement(b)) => Set::Finite(a - b),
@@ -1075,9 +1369,12 @@ fn longer_first(a: &&Row, b: &&Row) -> Ordering {
 }
 
 /// Whether the issuer's row is wrongly found among the compromised ones.
-pub fn wrong_look_up(fault: Option<Fault>, compromised: &Set, issuer: &Row) -> Option<bool> {
+pub fn wrong_look_up(fault: Option<Fault>, format: Format, compromised: &Set, issuer: &Row) -> Option<bool> {
     let listed = compromised.listed();
     match fault? {
+        Fault::LookUpByFirstAtomInFormat2 if format == Format::WiderRows => {
+            Some(listed.iter().any(|row| begins_with(row, issuer)) == matches!(compromised, Set::Finite(_)))
+        }
         Fault::VettedNotLookedUp => Some(false),
         Fault::LookUpTurnedRound => Some(!compromised.holds(issuer)),
         Fault::LookUpAmongListed => Some(listed.contains(issuer)),

@@ -1,10 +1,11 @@
 //! Random policies, queries, stores and link stores, lists of filings, minutes and dates.
 //!
 //! Expressions are written by the grammar, with a polarity and openness in mind, so that most are answered and many answers are not empty: keys, names and
-//! atoms come from a small universe. Then single words are changed, words cut off or added, and each limit of document 01 is approached from both sides.
+//! atoms come from a small universe, and many rows begin as others do. Then single words are changed, words cut off or added, and each limit of document 01 is
+//! approached from both sides. Policies of formats 1 and 2 come half and half.
 
 use crate::engine::{Kind, Stores};
-use crate::evaluator::{key, Areas, Date, Evaluator, Link, Name, Record, Refusal, Row, Validity};
+use crate::evaluator::{key, Areas, Date, Evaluator, Format, Link, Name, Record, Refusal, Row, Validity};
 use crate::numbers::{
     COMPROMISED, FIRST_YEAR, LAST_NAME, LAST_YEAR, LINKS_WORDS, LINK_WORDS, MOST_CERTIFICATES, MOST_LINKS, MOST_POLICY_WORDS, MOST_VARIABLES,
     RECORD_WORDS, STORE_WORDS,
@@ -18,6 +19,8 @@ pub struct Universe {
     pub names: &'static [u32],
     pub atoms: &'static [u32],
     pub widths: &'static [u32],
+    /// Of rows that begin as others do.
+    pub widest: u32,
     /// Terms of validity: some overlap, some touch. Queries are asked at their edges.
     pub terms: &'static [Validity],
     /// How deep grammar-directed expressions go.
@@ -31,6 +34,7 @@ pub const PORTAL: Universe = Universe {
     names: &[1, 1, 1, 2, 2, 2, 0, CROWD, LAST_NAME],
     atoms: &[5, 6, 7, 8, 9, key(1), key(2), 0, u32::MAX],
     widths: &[1, 1, 1, 1, 1, 1, 2, 2, 2, 3, 4],
+    widest: 4,
     terms: &[
         ALWAYS,
         ALWAYS,
@@ -181,7 +185,10 @@ impl<'a> Writer<'a> {
 
     fn operands(&mut self, code: u32, want: Want, depth: u32) {
         match code {
-            1 | 2 => self.rows(),
+            1 | 2 => {
+                let count = self.random.pick(&[0, 1, 1, 1, 2, 2, 3, 4]);
+                self.rows(count, self.universe.widths, 350);
+            }
             3 => self.definition(want),
             4 => self.list(!want.plus as u32),
             5 => {
@@ -197,19 +204,45 @@ impl<'a> Writer<'a> {
         }
     }
 
-    fn rows(&mut self) {
-        let count = self.random.pick(&[0, 1, 1, 1, 2, 2, 3, 4]);
+    /// So many rows of these widths; so many of a thousand of them begin as the one before does.
+    fn rows(&mut self, count: u32, widths: &[u32], alike: u32) {
         self.words.push(count);
-        for _ in 0..count {
-            self.row();
+        let mut last = 0;
+        for place in 0..count {
+            let start = self.words.len();
+            if place > 0 && self.random.chance(alike) {
+                self.row_alike(last);
+            } else {
+                let width = self.random.pick(widths);
+                self.row_of(width, 500);
+            }
+            last = start;
         }
     }
 
     fn row(&mut self) {
         let width = self.random.pick(self.universe.widths);
+        self.row_of(width, 500);
+    }
+
+    /// Its terms are variables in so many of a thousand cases.
+    fn row_of(&mut self, width: u32, variable: u32) {
         self.words.push(width);
         for _ in 0..width {
-            self.term(500);
+            self.term(variable);
+        }
+    }
+
+    /// Some of the first terms of the row that stands there, and others behind them.
+    fn row_alike(&mut self, place: usize) {
+        let widest = self.universe.widest;
+        let kept = self.random.between(1, self.words[place].min(widest - 1));
+        let width = self.random.between(kept + 1, widest);
+        let terms = self.words[place + 1..][..2 * kept as usize].to_vec();
+        self.words.push(width);
+        self.words.extend(terms);
+        for _ in kept..width {
+            self.term(300);
         }
     }
 
@@ -269,7 +302,8 @@ impl<'a> Writer<'a> {
             1 => {
                 self.draws += 1;
                 self.expression(Want { closed: true, ..want }, depth + 1);
-                self.pattern();
+                let width = self.random.pick(self.universe.widths);
+                self.pattern(width);
             }
             4 => {
                 self.row();
@@ -282,17 +316,84 @@ impl<'a> Writer<'a> {
         }
     }
 
-    fn pattern(&mut self) {
-        let width = self.random.pick(self.universe.widths);
+    /// Sometimes with a variable used twice.
+    fn pattern(&mut self, width: u32) {
+        let outside = self.variables;
         self.words.push(width);
         for _ in 0..width {
             if self.variables < MOST_VARIABLES as u32 && self.random.chance(650) {
                 self.words.extend([2, self.variables]);
                 self.variables += 1;
+            } else if self.variables > outside && self.random.chance(300) {
+                let again = self.random.between(outside, self.variables - 1);
+                self.words.extend([1, again]);
             } else {
                 self.term(500);
             }
         }
+    }
+
+    /// A draw, perhaps more guards behind it, and a head that shows what was drawn.
+    fn one_draw(&mut self) {
+        let guards = self.random.pick(&[1, 1, 2, 3]);
+        self.words.extend([7, guards]);
+        for place in 0..guards {
+            match if place == 0 { 0 } else { self.random.below(3) } {
+                0 => {
+                    self.words.push(1);
+                    self.one_source(0);
+                    self.any_pattern();
+                }
+                1 => {
+                    self.words.push(4);
+                    self.row();
+                    self.one_source(1);
+                }
+                _ => {
+                    let guard = self.random.between(2, 3);
+                    self.words.push(guard);
+                    self.term(800);
+                    self.term(600);
+                }
+            }
+        }
+        let width = self.random.between(1, self.variables.clamp(1, 4));
+        self.row_of(width, 900);
+    }
+
+    /// Of any width, but rather of few.
+    fn any_pattern(&mut self) {
+        let [one, other] = [0; 2].map(|_| self.random.between(1, self.universe.widest));
+        self.pattern(one.min(other));
+    }
+
+    /// A name of this polarity; or what has both: a literal, or what is drawn from one in turn; or definition 0, which is +.
+    fn one_source(&mut self, polarity: u32) {
+        match self.random.below(10) {
+            0..=3 => {
+                let key = self.random.pick(self.universe.keys);
+                let name = self.random.between(1, 2);
+                self.words.extend([4, 0, key, name, polarity]);
+            }
+            4 | 5 if polarity == 0 && !self.definitions.is_empty() => self.words.extend([3, 0]),
+            6 | 7 => {
+                let outside = self.variables;
+                self.words.extend([7, 1, 1]);
+                self.any_rows();
+                self.any_pattern();
+                let width = self.random.between(1, 2);
+                self.row_of(width, 800);
+                self.variables = outside;
+            }
+            _ => self.any_rows(),
+        }
+    }
+
+    /// A literal with rows of any width, many of which begin alike.
+    fn any_rows(&mut self) {
+        let count = self.random.between(1, 4);
+        self.words.push(1);
+        self.rows(count, &[1, 2, 3, 4][..self.universe.widest as usize], 600);
     }
 }
 
@@ -353,9 +454,9 @@ pub fn rewritten(policy: &[u32]) -> Result<Vec<u32>, Refusal> {
 /// Name, polarity and words.
 type Definition = (u32, u32, Vec<u32>);
 
-/// The policy's table and parts.
-pub fn assemble(definitions: &[Definition]) -> Vec<u32> {
-    let mut words = vec![1, definitions.len() as u32];
+/// The policy's header, table and parts.
+pub fn assemble(format: u32, definitions: &[Definition]) -> Vec<u32> {
+    let mut words = vec![format, definitions.len() as u32];
     let mut offset = 2 + 4 * definitions.len() as u32;
     for (name, polarity, part) in definitions {
         words.extend([*name, *polarity, offset, part.len() as u32]);
@@ -412,18 +513,36 @@ impl Generator {
         Record { name: self.name(), row: Row::new(&atoms), validity: self.random.pick(self.universe.terms) }
     }
 
-    /// Some rows have several terms.
+    /// Of the same name, and mostly of the same term: some of the first atoms of its row, and others behind them, as where an epoch is appended. One of these is
+    /// often an atom that the row has already.
+    pub fn appended(&mut self, record: Record) -> Record {
+        let widest = self.universe.widest;
+        let kept = self.random.between(1, record.row.width.min(widest - 1));
+        let mut atoms = record.row.used()[..kept as usize].to_vec();
+        for _ in kept..self.random.between(kept + 1, widest) {
+            let atom = if self.random.chance(300) { self.random.pick(&atoms) } else { self.random.pick(self.universe.atoms) };
+            atoms.push(atom);
+        }
+        let validity = if self.random.chance(200) { self.random.pick(self.universe.terms) } else { record.validity };
+        Record { row: Row::new(&atoms), validity, ..record }
+    }
+
+    /// Some rows have several terms, and some begin as others do.
     fn records(&mut self, count: usize) -> BTreeSet<Record> {
         let mut record = self.record();
         let mut next = || {
-            record = if self.random.chance(300) { Record { validity: self.random.pick(self.universe.terms), ..record } } else { self.record() };
+            record = match self.random.below(10) {
+                0 | 1 => Record { validity: self.random.pick(self.universe.terms), ..record },
+                2..=4 => self.appended(record),
+                _ => self.record(),
+            };
             record
         };
         (0..count).map(|_| next()).collect()
     }
 
     /// 126 to 130 rows of one name with one term, up to 130 with another, some of which are the same rows, and some others. The second ones are of the same name
-    /// or of another key's, where both may have 126 to 130 rows together.
+    /// or of another key's, where both may have 126 to 130 rows together. The rows have one atom, or two, of which the first is that of four rows.
     fn crowd(&mut self) -> BTreeSet<Record> {
         let mut records = self.records(20);
         for polarity in [0, 1] {
@@ -437,9 +556,11 @@ impl Generator {
                 2 => [(key, 0..count), (other_key, second)],
                 _ => [(key, 0..count - 40), (other_key, count - 80..count)],
             };
+            let wide = self.random.chance(300);
+            let row = |n| if wide { Row::new(&[n / 4, n]) } else { Row::new(&[n]) };
             for (key, rows) in parts {
                 let validity = if self.random.chance(500) { ALWAYS } else { self.random.pick(self.universe.terms) };
-                records.extend(rows.map(|n| Record { name: [key, CROWD, polarity], row: Row::new(&[n]), validity }));
+                records.extend(rows.map(|n| Record { name: [key, CROWD, polarity], row: row(n), validity }));
             }
         }
         records
@@ -795,6 +916,11 @@ impl Generator {
         if self.random.chance(40) {
             return self.one_list();
         }
+        if self.random.chance(60) {
+            let format = self.format();
+            let (policy, query) = self.one_draw(format);
+            return self.asked(policy, query);
+        }
         let (policy, declared) = if self.random.chance(250) { self.external_policy() } else { self.policy() };
         let query = self.query(&declared);
         self.asked(policy, query)
@@ -805,14 +931,56 @@ impl Generator {
     fn one_list(&mut self) -> Case {
         let [key, name, polarity] = if self.random.chance(400) { [self.universe.keys[0], CROWD, self.random.between(0, 1)] } else { self.name() };
         let (list, atom) = ([4, 0, key, name, polarity], self.random.pick(self.universe.atoms));
-        let compromised = (COMPROMISED, 1, vec![1, 1, 1, 0, self.some_key()]);
+        let listed = if self.random.chance(600) { key } else { self.some_key() };
+        let compromised = (COMPROMISED, 1, self.compromised(listed));
         let (definitions, query) = match self.random.below(4) {
             0 => (vec![], list.to_vec()),
             1 => (vec![compromised], vec![8, 0, key, name, 0, 0]),
             2 => (vec![], [&[7, 1, 4, 1, 0, atom], &list[..], &[1, 0, atom]].concat()),
             _ => (vec![], draws_from(&[vec![1, 1, 1, 0, key], vec![4, 1, 0, name, 0]], &[1, 1, 1])),
         };
-        self.asked(assemble(&definitions), query)
+        let format = self.format();
+        self.asked(assemble(format, &definitions), query)
+    }
+
+    /// The key by itself, or a row that begins with it: that one, all but that one, or what is drawn from it, which is the key by itself in format 2.
+    fn compromised(&mut self, key: u32) -> Vec<u32> {
+        let atom = self.random.pick(self.universe.atoms);
+        match self.random.below(5) {
+            0 => vec![1, 1, 2, 0, key, 0, atom],
+            1 => vec![2, 1, 2, 0, key, 0, atom],
+            2 => vec![7, 1, 1, 1, 1, 2, 0, key, 0, atom, 1, 2, 0, 1, 1, 0],
+            _ => vec![1, 1, 1, 0, key],
+        }
+    }
+
+    /// One draw in the query, in a definition, or in a query that may draw from such a definition.
+    fn one_draw(&mut self, format: u32) -> (Vec<u32>, Vec<u32>) {
+        let first = self.drawn(&[]);
+        match self.random.below(4) {
+            0 | 1 => (assemble(format, &[]), first),
+            2 => (assemble(format, &[(10, 0, first)]), vec![3, 0]),
+            _ => (assemble(format, &[(10, 0, first)]), self.drawn(&[Declared { polarity: 0, open: false }])),
+        }
+    }
+
+    fn drawn(&mut self, declared: &[Declared]) -> Vec<u32> {
+        let mut writer = Writer::new(&mut self.random, self.universe, declared, false);
+        writer.one_draw();
+        writer.words
+    }
+
+    /// 1 or 2, now and then a word that is no format.
+    fn format(&mut self) -> u32 {
+        if self.random.chance(15) {
+            self.random.pick(&[0, 0, 3, 3, 4, 257, 258, key(1), u32::MAX])
+        } else {
+            self.sound_format()
+        }
+    }
+
+    fn sound_format(&mut self) -> u32 {
+        self.random.pick(&Format::BOTH) as u32
     }
 
     fn asked(&mut self, policy: Vec<u32>, query: Vec<u32>) -> Case {
@@ -837,17 +1005,31 @@ impl Generator {
 
     /// A policy and a query over this universe alone, without damage.
     pub fn sound_pair(&mut self) -> (Vec<u32>, Vec<u32>) {
+        let format = self.sound_format();
+        match self.random.below(20) {
+            0 => {
+                let ([key, name, _], listed) = (self.name(), self.some_key());
+                return (assemble(format, &[(COMPROMISED, 1, self.compromised(listed))]), vec![8, 0, key, name, 0, 0]);
+            }
+            1..=5 => return self.one_draw(format),
+            _ => {}
+        }
         let count = self.random.between(0, 2);
         let (definitions, declared) = self.definitions(count, 0);
-        (assemble(&definitions), self.expression(Want::any, &declared, false))
+        (assemble(format, &definitions), self.expression(Want::any, &declared, false))
     }
 
     /// The same with an external policy that lists compromised keys; the query is for the rewritten one.
     pub fn external_pair(&mut self) -> (Vec<u32>, Vec<u32>) {
         let entries = [(COMPROMISED, 1), (10, 0), (11, 0)];
         let count = self.random.between(2, 3) as usize;
-        let (definitions, declared) = self.external_definitions(&entries[..count], None);
-        (assemble(&definitions), self.expression(Want::any, &declared, false))
+        let (mut definitions, mut declared) = self.external_definitions(&entries[..count], None);
+        if self.random.chance(350) {
+            let listed = self.some_key();
+            definitions[0].2 = self.compromised(listed);
+            declared[0].open = true;
+        }
+        (assemble(self.sound_format(), &definitions), self.expression(Want::any, &declared, false))
     }
 
     fn areas(&mut self) -> Areas {
@@ -904,8 +1086,10 @@ impl Generator {
             let unlike = self.random.below(count as usize);
             definitions[unlike].0 = self.random.pick(&[10, 10, LAST_NAME, LAST_NAME + 1]);
         }
-        let mut words = assemble(&definitions);
-        if self.random.chance(60) {
+        let mut words = assemble(self.format(), &definitions);
+        // Where the format is none, which of 1 and 2 comes first is to be seen.
+        let damaged = if Format::from_word(words[0]).is_some() { 60 } else { 500 };
+        if self.random.chance(damaged) {
             self.damage_table(&mut words, count as usize);
         }
         (words, declared)
@@ -935,7 +1119,7 @@ impl Generator {
         let chosen = self.random.below(entries.len().max(1));
         let (mut definitions, declared) = self.external_definitions(&entries, (rule == 4).then_some(chosen));
         if let Some((_, polarity, words)) = definitions.get_mut(chosen) {
-            if *polarity == 0 && self.random.chance(50) {
+            if *polarity == 0 && self.random.chance(80) {
                 *words = self.deep_lists();
             }
             let vetted = [8, 0, self.universe.keys[0], 1, 0, 0];
@@ -950,7 +1134,7 @@ impl Generator {
                 words.resize(words.len().max(1), 0);
             }
         }
-        let words = assemble(&definitions);
+        let words = assemble(self.format(), &definitions);
         match rewritten(&words) {
             Ok(output) if self.random.chance(400) => (output, declared),
             _ => (words, declared),
@@ -1003,7 +1187,7 @@ impl Generator {
         let rest = MOST_POLICY_WORDS - (2 + 4 * 7) - 6 * (7 * lists - 1);
         let compromised = literal_of(rest - 2 + self.random.below(5));
         definitions.insert(0, (COMPROMISED, 1, compromised));
-        assemble(&definitions)
+        assemble(self.sound_format(), &definitions)
     }
 
     /// Of 8,190 to 8,194 words.
@@ -1011,7 +1195,7 @@ impl Generator {
         let mut parts = vec![1_154; 7];
         parts.push(self.random.between(78, 82) as usize);
         let definitions: Vec<_> = (0..).zip(parts).map(|(name, length)| (name, 0, literal_of(length))).collect();
-        assemble(&definitions)
+        assemble(self.sound_format(), &definitions)
     }
 
     fn damage_table(&mut self, words: &mut Vec<u32>, count: usize) {
@@ -1056,6 +1240,11 @@ impl Generator {
                 let list = [4, 0, self.universe.keys[0], 1, 0];
                 let left_over = self.random.pick(&[&[][..], &[0]]);
                 [&[6], &list[..], &list, left_over].concat()
+            }
+            // A lower complement.
+            24 => {
+                let ([key, name, _], atoms) = (self.name(), [0; 2].map(|_| self.random.pick(self.universe.atoms)));
+                vec![5, 2, 2, 1, 0, atoms[0], 2, 0, atoms[0], 0, atoms[1], 4, 0, key, name, 0]
             }
             _ => self.expression(Want::any, declared, false),
         };
@@ -1151,15 +1340,15 @@ impl Generator {
         let sources = sizes.map(|size| numbers(1, 0, size));
         let comprehension = draws_from(&sources, &head);
         let part = if self.random.chance(500) { [vec![5], numbers(1, 1_000, 100), comprehension].concat() } else { comprehension };
-        let policy = assemble(&[(1, 0, part), (2, 0, numbers(1, 0, 1))]);
+        let policy = assemble(self.sound_format(), &[(1, 0, part), (2, 0, numbers(1, 0, 1))]);
         let query = self.random.pick(&[&[3, 0][..], &[1, 0], &[7, 1, 1, 3, 1, 1, 2, 0, 1, 1, 0]]).to_vec();
         self.asked(policy, query)
     }
 
-    /// 201 draws are left to the query, which draws rows of one atom and of two and matches those of one width. Where the others lie decides whether its 129th
-    /// head (13) comes before the draws are made (14).
+    /// 201 draws are left to the query, which draws rows of one atom and of two and matches those of one width, or in format 2 perhaps all. Where the others lie
+    /// decides whether its 129th head (13) comes before the draws are made (14).
     fn many_draws_of_two_widths(&mut self) -> Case {
-        let policy = assemble(&[(1, 0, draws_from(&[101, 98, 100].map(|size| numbers(1, 0, size)), &[1, 0, 7]))]);
+        let policy = assemble(self.sound_format(), &[(1, 0, draws_from(&[101, 98, 100].map(|size| numbers(1, 0, size)), &[1, 0, 7]))]);
         let pairs = self.random.pick(&[2, 40, 100, 126]);
         let mut mixed = numbers(1, 0, 128 - pairs);
         mixed[1] = 128;

@@ -87,9 +87,11 @@ fn print_tally(tally: &Tally, seen: &Seen) {
     for ((verdict, table), count) in &tally.answers {
         println!("answer {}, {table}: {count}", ["exact", "lower", "upper"][*verdict as usize]);
     }
-    let [exact, lower, upper] = seen.points;
+    for (format, [exact, lower, upper]) in (1..).zip(seen.points) {
+        println!("held against worlds: {exact} exact, {lower} lower and {upper} upper answers of format {format}");
+    }
     println!(
-        "held against worlds: {exact} exact, {lower} lower and {upper} upper answers, {} policies rewritten, {} links, {} worlds, {} rows that worlds differ on",
+        "held against worlds: {} policies rewritten, {} links, {} worlds, {} rows that worlds differ on",
         seen.rewritten, seen.links, seen.worlds, seen.undecided_rows
     );
     for report in &tally.reports {

@@ -10,9 +10,10 @@
 //!   policy, query nor certificates mention are interchangeable, so a few unmentioned rows stand for the others.
 //! - The values of variables need be sought only among the atoms written in policy and query and those of the world's listed rows: a draw's rows come from
 //!   an expression that is not open, and such an expression has only rows made of those atoms. Rows past the universe (`rest`) are in − names alone.
+//! - In format 2 a pattern matches every row that begins as it says. Those too are sought among the rows that such an expression may have.
 
 use crate::engine::{Engine, Kind, Stores};
-use crate::evaluator::{key, row_of, value, Areas, Evaluator, Expression, Guard, Judged, Link, Name, Record, Row, Set, Slot, Term, Verdict};
+use crate::evaluator::{key, row_of, value, Areas, Evaluator, Expression, Format, Guard, Judged, Link, Name, Record, Row, Set, Slot, Term, Verdict};
 use crate::generate::{empty_stores, rewritten, term, Generator, Universe, ALWAYS};
 use crate::numbers::{FIRST_KEY, MOST_POLICY_WORDS};
 use crate::random::Random;
@@ -24,13 +25,14 @@ pub const SMALL: Universe = Universe {
     names: &[1, 2],
     atoms: &[5, 6, key(1)],
     widths: &[1, 1, 1, 1, 2],
+    widest: 3,
     terms: &[ALWAYS, ALWAYS, ALWAYS, term(0, 20), term(10, 20), term(10, 30), term(20, 40)],
     depth: 3,
     guards: 3,
 };
 
-/// Rows that worlds may list beside the certified ones; the last three are made of atoms that nothing mentions.
-const ROWS: [&[u32]; 7] = [&[5], &[6], &[key(1)], &[5, key(1)], &[98], &[99], &[98, 5]];
+/// Rows that worlds may list beside the certified ones; the last four have atoms that nothing mentions.
+const ROWS: [&[u32]; 8] = [&[5], &[6], &[key(1)], &[5, key(1)], &[98], &[99], &[98, 5], &[5, 98]];
 
 /// Up to so many undecided rows every world is tried, and over it so many worlds.
 const MOST_UNDECIDED: usize = 8;
@@ -200,13 +202,46 @@ impl Belonging<'_> {
     fn some_values(&self, row: &Row, guards: &[Guard], head: &[Term], values: &[u32]) -> bool {
         let Some((guard, others)) = guards.split_first() else { return row_of(head, values) == *row };
         match guard {
-            Guard::Draw { from, pattern } => self.choices(pattern, values).iter().any(|chosen| {
-                // With these values the pattern matches one row alone.
-                let matched = pattern_row(pattern, values.len(), chosen);
-                self.belongs(&matched, from, values) && self.some_values(row, others, head, chosen)
-            }),
+            Guard::Draw { from, pattern } => {
+                let format = self.judged.format;
+                let candidates = if format == Format::WiderRows { self.rows_at_most(from, values) } else { BTreeSet::new() };
+                self.choices(pattern, values).iter().any(|chosen| {
+                    let filled = pattern_row(pattern, values.len(), chosen);
+                    let matched = match format {
+                        // With these values the pattern matches one row alone,
+                        Format::EqualWidths => self.belongs(&filled, from, values),
+                        // or every row that begins with it; they come one after the other.
+                        Format::WiderRows => {
+                            let mut beginning = candidates.range(filled..).take_while(|row| row.used().starts_with(filled.used()));
+                            beginning.any(|row| self.belongs(row, from, values))
+                        }
+                    };
+                    matched && self.some_values(row, others, head, chosen)
+                })
+            }
             guard => self.passes(guard, values) && self.some_values(row, others, head, values),
         }
+    }
+
+    /// Rows that an expression which is not open may have, and no others belong to it: those written there, those that lists may have, and heads with any values.
+    fn rows_at_most(&self, expression: &Expression, values: &[u32]) -> BTreeSet<Row> {
+        match expression {
+            Expression::Rows(rows) => rows.iter().map(|terms| row_of(terms, values)).collect(),
+            Expression::List { .. } | Expression::Vetted { .. } => self.world.universe.clone(),
+            Expression::Definition(number) => self.rows_at_most(&self.judged.definitions[*number].expression, &[]),
+            Expression::Union(left, right) => &self.rows_at_most(left, values) | &self.rows_at_most(right, values),
+            Expression::Difference(left, _) => self.rows_at_most(left, values),
+            Expression::Comprehension { head, .. } => self.heads(head, values),
+            Expression::AllBut(_) => unreachable!("it is open"),
+        }
+    }
+
+    /// The head with each choice for those of the comprehension's own variables that it has.
+    fn heads(&self, head: &[Term], values: &[u32]) -> BTreeSet<Row> {
+        let own = |term: &Term| matches!(term, Term::Variable(number) if *number >= values.len());
+        let Some(chosen) = head.iter().find(|term| own(term)) else { return BTreeSet::from([row_of(head, values)]) };
+        let with = |atom: u32| head.iter().map(|term| if term == chosen { Term::Atom(atom) } else { *term }).collect::<Vec<Term>>();
+        self.atoms.iter().flat_map(|atom| self.heads(&with(*atom), values)).collect()
     }
 
     fn passes(&self, guard: &Guard, values: &[u32]) -> bool {
@@ -263,7 +298,8 @@ pub struct Seen {
     pub refused: u64,
     /// Policies that were rewritten.
     pub rewritten: u64,
-    pub points: [u64; 3],
+    /// By format and verdict.
+    pub points: [[u64; 3]; 2],
     pub worlds: u64,
     /// Rows that are in some of a point's worlds and not in others: there the bounds say something.
     pub undecided_rows: u64,
@@ -304,7 +340,7 @@ pub fn check(engine: &dyn Engine, generator: &mut Generator, seen: &mut Seen) ->
             seen.undecided_rows += (belongs.contains(&true) && belongs.contains(&false)) as u64;
             bounded(point, &row, &belongs).map_err(show)?;
         }
-        seen.points[point.verdict as usize] += 1;
+        seen.points[judged.format as usize - 1][point.verdict as usize] += 1;
         seen.worlds += worlds.len() as u64;
     }
     points.windows(2).try_for_each(|pair| in_step(&pair[0], &pair[1])).map_err(show)
@@ -355,7 +391,7 @@ fn points(engine: &dyn Engine, generator: &mut Generator, asked: &BTreeSet<Name>
     for _ in 0..3 {
         for _ in 0..generator.random.between(1, 6) {
             let kind = generator.random.pick(&[Kind::Certificate, Kind::Certificate, Kind::Link]);
-            let words = filed(generator, asked, kind);
+            let words = filed(generator, asked, &accepted.records, kind);
             if stores.file(engine, kind, &words) == 0 {
                 accepted.take(kind, &words).ok_or_else(|| format!("{kind:?} {words:?} was accepted"))?;
             }
@@ -386,8 +422,8 @@ fn rewritten_by(engine: &dyn Engine, policy: &[u32]) -> Result<Vec<u32>, String>
     Ok(area)
 }
 
-/// Mostly a certificate of a name that the query asks, or a link from one; sometimes words that are none.
-fn filed(generator: &mut Generator, asked: &BTreeSet<Name>, kind: Kind) -> Vec<u32> {
+/// Mostly a certificate of a name that the query asks, or a link from one; often one whose row begins as that of one held; sometimes words that are none.
+fn filed(generator: &mut Generator, asked: &BTreeSet<Name>, held: &BTreeSet<Record>, kind: Kind) -> Vec<u32> {
     let (mut record, mut link) = (generator.record(), generator.link());
     // Links bring the certificates of other names in.
     let of_asked = if kind == Kind::Link { 800 } else { 500 };
@@ -395,6 +431,10 @@ fn filed(generator: &mut Generator, asked: &BTreeSet<Name>, kind: Kind) -> Vec<u
         let name = asked.iter().nth(generator.random.below(asked.len())).expect("it is one of them");
         record.name = *name;
         [link.key, link.name, link.polarity] = *name;
+    }
+    if !held.is_empty() && generator.random.chance(250) {
+        let earlier = held.iter().nth(generator.random.below(held.len())).expect("it is one of them");
+        record = generator.appended(*earlier);
     }
     let odd = generator.random.below(10);
     match kind {
@@ -512,7 +552,7 @@ mod tests {
             let (result, seen) = run(engine, 400);
             assert_eq!(result, Ok(()));
             println!("{seen:?}");
-            assert!(seen.points.iter().all(|&count| count > 100) && seen.undecided_rows > 1_000, "{seen:?}");
+            assert!(seen.points.as_flattened().iter().all(|&count| count > 50) && seen.undecided_rows > 1_000, "{seen:?}");
             assert!(seen.rewritten > 50 && seen.not_holding > 1_000 && seen.links > 1_000, "{seen:?}");
         }
     }
@@ -554,6 +594,78 @@ mod tests {
         assert_eq!(links_between_three_names(&Evaluator::default()), Ok(()));
         for fault in [Fault::LinksFollowedOneStep, Fault::LinksTheWrongWay, Fault::MinusListsUnited, Fault::CirclesCut, Fault::LinksGoneThroughOnce] {
             assert!(links_between_three_names(&Evaluator { fault: Some(fault) }).is_err(), "{fault:?} is not noticed");
+        }
+    }
+
+    /// The words of each pattern of this width: fixed terms, new variables, and those used again.
+    fn patterns(width: u32) -> Vec<Vec<u32>> {
+        let slots = |pattern: &Vec<u32>| {
+            let new = pattern[1..].chunks(2).filter(|slot| slot[0] == 2).count() as u32;
+            (0..new).map(|variable| [1, variable]).chain([[0, 5], [2, new]]).map(|slot| [&pattern[..], &slot].concat()).collect::<Vec<_>>()
+        };
+        (0..width).fold(vec![vec![width]], |patterns, _| patterns.iter().flat_map(slots).collect())
+    }
+
+    /// Each pattern of one to three slots, drawn from a list, in both formats, with each choice of rows certified of it, against every world over these rows.
+    fn patterns_over_lists(engine: &dyn Engine) -> Result<(), String> {
+        let mut random = Random::new(1);
+        let rows = [&[5][..], &[5, 5], &[6, 5], &[5, 6, 5], &[6, 6, 5], &[5, 5, 5, 6]].map(Row::new);
+        let (universe, atoms, name) = (BTreeSet::from(rows), BTreeSet::from([5, 6]), [key(1), 1, 0]);
+        for chosen in 0..1 << rows.len() {
+            let mut stores = empty_stores(&mut random);
+            let mut accepted = Accepted::default();
+            for (_, row) in rows.into_iter().enumerate().filter(|(place, _)| chosen >> place & 1 == 1) {
+                let words = Record { name, row, validity: ALWAYS }.words();
+                assert_eq!(stores.file(engine, Kind::Certificate, &words), 0);
+                accepted.take(Kind::Certificate, &words).expect("it is sound");
+            }
+            let worlds = worlds_of_minute(&BTreeSet::from([name]), &universe, &accepted, &mut random);
+            for (format, pattern) in Format::BOTH.into_iter().flat_map(|format| (1..=3).flat_map(patterns).map(move |pattern| (format, pattern))) {
+                // The head has the new variables, and 5 where there is none.
+                let new: Vec<u32> = pattern[1..].chunks(2).filter(|slot| slot[0] == 2).flat_map(|slot| [1, slot[1]]).collect();
+                let head = if new.is_empty() { vec![1, 0, 5] } else { [&[new.len() as u32 / 2], &new[..]].concat() };
+                let (policy, query) = ([format as u32, 0], [&[7, 1, 1, 4, 0, key(1), 1, 0], &pattern[..], &head].concat());
+                let judged = Evaluator::default().judge(&policy, &query).expect("it passes");
+                let point = point(engine, &policy, &query, 0, &stores, &accepted)?;
+                let belongs = |row: &Row, world| {
+                    let belonging = Belonging { judged: &judged, world, atoms: &atoms, external: false, later: false };
+                    belonging.belongs(row, &judged.query, &[])
+                };
+                for row in point.answer.listed() | &rows_of_atoms(head[0] as usize, &[5, 6]) {
+                    bounded(&point, &row, &worlds.iter().map(|world| belongs(&row, world)).collect::<Vec<bool>>())?;
+                }
+            }
+        }
+        Ok(())
+    }
+
+    /// Every row of so many of these atoms.
+    fn rows_of_atoms(width: usize, atoms: &[u32]) -> BTreeSet<Row> {
+        let longer = |row: &Vec<u32>| atoms.iter().map(|&atom| [&row[..], &[atom]].concat()).collect::<Vec<_>>();
+        let rows = (0..width).fold(vec![vec![]], |rows, _| rows.iter().flat_map(longer).collect());
+        rows.iter().map(|atoms: &Vec<u32>| Row::new(atoms)).collect()
+    }
+
+    #[test]
+    fn every_pattern_is_read_as_its_worlds_have_it() {
+        assert_eq!([1, 2, 3].map(|width| patterns(width).len()), [2, 5, 15]);
+        assert_eq!(patterns_over_lists(&Library), Ok(()));
+        assert_eq!(patterns_over_lists(&Evaluator::default()), Ok(()));
+        let meanings = [
+            Fault::Format1Wider,
+            Fault::Format2Equal,
+            Fault::Format1Padded,
+            Fault::NarrowerRowMatched,
+            Fault::NarrowerRowPadded,
+            Fault::LastAtomsMatched,
+            Fault::OneAtomMoreAtMost,
+            Fault::EqualWidthPassedOver,
+            Fault::FixedTermOfWiderRowPasses,
+            Fault::VariableOfWiderRowPasses,
+            Fault::LastSlotOfWiderRowPasses,
+        ];
+        for fault in meanings {
+            assert!(patterns_over_lists(&Evaluator { fault: Some(fault) }).is_err(), "{fault:?} is not noticed");
         }
     }
 
@@ -611,6 +723,34 @@ mod tests {
             Fault::MinusListsUnited,
             Fault::ReachedAtAnyMinute,
             Fault::ReachedOfBothPolarities,
+            Fault::Format1Wider,
+            Fault::Format2Equal,
+            Fault::Format1Padded,
+            Fault::NarrowerRowMatched,
+            Fault::NarrowerRowPadded,
+            Fault::LastAtomsMatched,
+            Fault::OneAtomMoreAtMost,
+            Fault::EqualWidthPassedOver,
+            Fault::BehindPatternBound,
+            Fault::FixedTermOfWiderRowPasses,
+            Fault::VariableOfWiderRowPasses,
+            Fault::LastSlotOfWiderRowPasses,
+            Fault::QueryEqual,
+            Fault::QueryWider,
+            Fault::DefinitionsEqual,
+            Fault::DefinitionsWider,
+            Fault::QueryAloneEqual,
+            Fault::UnderAbsentEqual,
+            Fault::UnderDrawEqual,
+            Fault::LiteralsDrawnEqual,
+            Fault::NamesDrawnEqual,
+            Fault::AbsentByFirstAtoms,
+            Fault::AbsentByShorterRow,
+            Fault::AbsentFromLiteralByFirstAtoms,
+            Fault::LookUpByFirstAtomInFormat2,
+            Fault::SubtractedByFirstAtoms,
+            Fault::RewriterWritesFormat1,
+            Fault::RewriterWritesFormat2,
         ];
         for fault in meanings {
             let (result, _) = run(&Evaluator { fault: Some(fault) }, 8_000);
