@@ -295,8 +295,8 @@ fn left_and_right(asked: &Asked) -> Option<[Vec<&Record>; 2]> {
     Some([rows(LEFT)?, rows(RIGHT)?])
 }
 
-/// Each right row is drawn for each left one.
-pub fn join(asked: &Asked, answer: &mut [u32]) -> Option<u32> {
+/// Each right row is drawn for each left one. `fits` says which widths a pattern of two atoms matches.
+fn join_where(asked: &Asked, answer: &mut [u32], fits: impl Fn(u32) -> bool) -> Option<u32> {
     let [left, right] = left_and_right(asked)?;
     let mut pairs = Vec::with_capacity(MOST_ROWS);
     let mut draws = 0;
@@ -304,7 +304,7 @@ pub fn join(asked: &Asked, answer: &mut [u32]) -> Option<u32> {
         draws += 1;
         for r in &right {
             draws += 1;
-            if l[3] == 2 && r[3] == 2 && l[5] == r[4] {
+            if fits(l[3]) && fits(r[3]) && l[5] == r[4] {
                 pairs.push([l[4], r[5]]);
             }
         }
@@ -313,17 +313,34 @@ pub fn join(asked: &Asked, answer: &mut [u32]) -> Option<u32> {
     Some(draws)
 }
 
+pub fn join(asked: &Asked, answer: &mut [u32]) -> Option<u32> {
+    join_where(asked, answer, |width| width == 2)
+}
+
+/// By the first two atoms of rows that have more.
+pub fn join_wider(asked: &Asked, answer: &mut [u32]) -> Option<u32> {
+    join_where(asked, answer, |width| width >= 2)
+}
+
 /// The right rows are in order of the shared atom, their first.
-pub fn join_free(asked: &Asked, answer: &mut [u32]) -> Option<u32> {
+fn join_free_where(asked: &Asked, answer: &mut [u32], fits: impl Fn(u32) -> bool) -> Option<u32> {
     let [left, right] = left_and_right(asked)?;
     let mut pairs = Vec::with_capacity(MOST_ROWS);
-    for l in left.iter().filter(|l| l[3] == 2) {
+    for l in left.iter().filter(|l| fits(l[3])) {
         let shared = l[5];
         let start = right.partition_point(|r| r[4] < shared);
-        pairs.extend(right[start..].iter().take_while(|r| r[4] == shared).filter(|r| r[3] == 2).map(|r| [l[4], r[5]]));
+        pairs.extend(right[start..].iter().take_while(|r| r[4] == shared).filter(|r| fits(r[3])).map(|r| [l[4], r[5]]));
     }
     sorted(pairs, answer);
     Some((left.len() * (1 + right.len())) as u32)
+}
+
+pub fn join_free(asked: &Asked, answer: &mut [u32]) -> Option<u32> {
+    join_free_where(asked, answer, |width| width == 2)
+}
+
+pub fn join_wider_free(asked: &Asked, answer: &mut [u32]) -> Option<u32> {
+    join_free_where(asked, answer, |width| width >= 2)
 }
 
 /// The numbers of a literal of one-atom rows, in order.

@@ -1,4 +1,4 @@
-//! The library beside a straightforward evaluator, hand-tuned programs and SQLite, on nineteen tasks.
+//! The library beside a straightforward evaluator, hand-tuned programs and SQLite, on twenty tasks.
 //!
 //!     cargo run --release --offline [-- ROUNDS]
 //!     cargo run --release --offline -- --check
@@ -254,7 +254,7 @@ fn unions_task(unions: &Certificates) -> Task {
 fn tasks() -> Vec<Task> {
     let (certificates, delegations, observations) = (tasks::certificates(), tasks::delegations(), tasks::observations());
     let (vetted_delegations, unions, half_expired) = (tasks::vetted_delegations(), tasks::unions(), tasks::half_expired());
-    let (joined, joined_withdrawn) = (tasks::joined(), tasks::joined_withdrawn());
+    let (joined, joined_withdrawn, with_epochs) = (tasks::joined(), tasks::joined_withdrawn(), tasks::with_epochs());
     let [chain, circle, star, withdrawn] = [tasks::chain(tasks::RELEASED, 0), tasks::circle(), tasks::star(), tasks::chain(tasks::WITHDRAWN, 1)];
     let filed = tasks::in_random_order(tasks::words_of(&certificates));
     let links_filed = tasks::in_random_order(tasks::words_of_links(&chain));
@@ -340,8 +340,15 @@ fn tasks() -> Vec<Task> {
             |engine, links, link| engine.file_link(links, link),
             [hand::file_link, hand::file_link_free],
         ),
+        query_task(
+            "t: join of two names of 100 rows in format 2, two of three rows with an epoch appended",
+            of_store(&with_epochs, tasks::EMPTY_POLICY_WIDER_ROWS, tasks::join_query()),
+            10_100,
+            hand::join_wider,
+            hand::join_wider_free,
+        ),
     ];
-    let stores = [&certificates, &delegations, &observations, &vetted_delegations, &unions, &half_expired];
+    let stores = [&certificates, &delegations, &observations, &vetted_delegations, &unions, &half_expired, &with_epochs];
     let linked = [(&joined, &chain), (&joined, &circle), (&joined, &star), (&joined_withdrawn, &withdrawn)];
     for (task, run) in tasks.iter_mut().zip(sqlite_runs(stores, linked, filed, links_filed)) {
         task.contestants.extend(run.map(|run| Contestant { name: SQLITE, run }));
@@ -352,14 +359,14 @@ fn tasks() -> Vec<Task> {
 /// In the order of the tasks, none for rewriting and converting. The databases live as long as the program.
 #[cfg(sqlite)]
 fn sqlite_runs(
-    stores: [&Certificates; 6],
+    stores: [&Certificates; 7],
     linked: [(&Certificates, &Links); 4],
     filed: Vec<Record>,
     links_filed: Vec<LinkWords>,
-) -> [Option<Run>; 19] {
+) -> [Option<Run>; 20] {
     let kept = |database: Database| -> &'static Database { Box::leak(Box::new(database)) };
     let stores = stores.map(|certificates| kept(Database::holding(tasks::words_of(certificates))));
-    let [held, delegations, observations, vetted_delegations, unions, half_expired] = stores;
+    let [held, delegations, observations, vetted_delegations, unions, half_expired, with_epochs] = stores;
     let linked = linked.map(|(certificates, links)| kept(Database::linked(tasks::words_of(certificates), tasks::words_of_links(links))));
     let [chain, circle, star, withdrawn] = linked;
     let (empty, literals) = (kept(Database::linked([], [])), kept(Database::of_literals()));
@@ -389,11 +396,12 @@ fn sqlite_runs(
         answered(star.joined(), 1),
         answered(withdrawn.public_joined(), 1),
         Some(Box::new(move || Some(empty.file_all(&mut insert_link, &mut link_transaction, &links_filed)))),
+        answered(with_epochs.join_wider(), 2),
     ]
 }
 
 #[cfg(not(sqlite))]
-fn sqlite_runs(_: [&Certificates; 6], _: [(&Certificates, &Links); 4], _: Vec<Record>, _: Vec<LinkWords>) -> [Option<Run>; 0] {
+fn sqlite_runs(_: [&Certificates; 7], _: [(&Certificates, &Links); 4], _: Vec<Record>, _: Vec<LinkWords>) -> [Option<Run>; 0] {
     []
 }
 
@@ -527,6 +535,30 @@ mod tests {
             for contestant in &mut joined_task("a task", &tasks::joined(), &links).contestants {
                 assert_eq!((contestant.run)(), Some(found), "{}", contestant.name);
             }
+        }
+    }
+
+    /// Each left row (n, 1,000 + m) meets the right row (1,000 + m, 2,000 + m), where m is 37 n without the hundreds.
+    #[test]
+    fn rows_with_epochs_join_as_those_without() {
+        let sum = (0..100).map(|n| (n + 1) * (n + 2_000 + (37 * n) % 100)).sum();
+        let joins: Vec<Task> = tasks().into_iter().filter(|task| task.name.contains("join of two names")).collect();
+        assert_eq!(joins.len(), 2);
+        for mut task in joins {
+            for Contestant { name, run } in &mut task.contestants {
+                let found = run().map(|Outcome { rows, sum, .. }| (rows, sum));
+                assert_eq!(found, Some((100, sum)), "{}: {name}", task.name);
+            }
+        }
+    }
+
+    /// 34 left rows have no epoch, and of the right rows that these meet, 11 have none.
+    #[test]
+    fn rows_with_epochs_are_passed_over_in_format_1() {
+        let asked = of_store(&tasks::with_epochs(), tasks::EMPTY_POLICY, tasks::join_query());
+        for (name, engine) in engines() {
+            let found = Lendable::new().ask(engine.as_ref(), &asked).map(|outcome| (outcome.rows, outcome.draws));
+            assert_eq!(found, Some((11, Some(100 + 34 * 100))), "{name}");
         }
     }
 

@@ -42,6 +42,11 @@ fn of_width(certificate: &str, key: impl Display, name: impl Display, polarity: 
     format!("{} AND {certificate}.width = {width}", of_name(certificate, key, name, polarity))
 }
 
+/// The same of at least this width.
+fn of_least_width(certificate: &str, key: impl Display, name: impl Display, polarity: u32, least: u32) -> String {
+    format!("{} AND {certificate}.width >= {least}", of_name(certificate, key, name, polarity))
+}
+
 /// The keys and names that links reach from the observatory's list, as a table `reached`.
 fn reached(name: u32, polarity: u32) -> String {
     let step = format!("link.key = reached.key AND link.name = reached.name AND link.polarity = {polarity}");
@@ -217,7 +222,15 @@ impl Database {
     }
 
     pub fn join(&self) -> Statement<'_> {
-        let (left, right) = (of_width("l", OBSERVATORY, LEFT, 0, 2), of_width("r", OBSERVATORY, RIGHT, 0, 2));
+        self.pairs([of_width("l", OBSERVATORY, LEFT, 0, 2), of_width("r", OBSERVATORY, RIGHT, 0, 2)])
+    }
+
+    /// By the first two atoms of rows that have more.
+    pub fn join_wider(&self) -> Statement<'_> {
+        self.pairs([of_least_width("l", OBSERVATORY, LEFT, 0, 2), of_least_width("r", OBSERVATORY, RIGHT, 0, 2)])
+    }
+
+    fn pairs(&self, [left, right]: [String; 2]) -> Statement<'_> {
         self.prepare(&format!("SELECT DISTINCT l.a, r.b FROM certificate l, certificate r WHERE {left} AND {right} AND r.a = l.b ORDER BY 1, 2"))
     }
 

@@ -4,8 +4,8 @@ use differential::evaluator::{self, Date, Evaluator, Row, Validity};
 use differential::generate::{assemble, rewritten, united};
 use differential::random::Random;
 use std::collections::BTreeSet;
-use txindurbe::key;
 use txindurbe::sizes::{CERTIFICATE_WORDS, LINKS_WORDS, LINK_WORDS, MOST_CERTIFICATES, MOST_LINKS, STORE_WORDS};
+use txindurbe::{key, Format};
 
 pub const ARCHIVE: u32 = key(0);
 pub const OBSERVATORY: u32 = key(1);
@@ -50,12 +50,18 @@ pub struct Asked {
     pub links: Vec<u32>,
 }
 
-pub const EMPTY_POLICY: &[u32] = &[1, 0];
+/// The formats of the policies, as words.
+const EQUAL_WIDTHS: u32 = Format::EqualWidths as u32;
+const WIDER_ROWS: u32 = Format::WiderRows as u32;
+
+pub const EMPTY_POLICY: &[u32] = &[EQUAL_WIDTHS, 0];
+/// Under it, the patterns of a query match wider rows by their first atoms.
+pub const EMPTY_POLICY_WIDER_ROWS: &[u32] = &[WIDER_ROWS, 0];
 
 /// Released and not withdrawn: document 01's P, and its Q.
 pub fn policy_p() -> Vec<u32> {
     let k1 = OBSERVATORY;
-    vec![1, 1, 10, 0, 6, 23, 7, 2, 1, 4, 0, k1, RELEASED, 0, 1, 2, 0, 4, 1, 1, 0, 4, 0, k1, WITHDRAWN, 1, 1, 1, 0]
+    vec![EQUAL_WIDTHS, 1, 10, 0, 6, 23, 7, 2, 1, 4, 0, k1, RELEASED, 0, 1, 2, 0, 4, 1, 1, 0, 4, 0, k1, WITHDRAWN, 1, 1, 1, 0]
 }
 
 pub const QUERY_Q: &[u32] = &[3, 0];
@@ -104,7 +110,7 @@ pub fn embargoed() -> impl ExactSizeIterator<Item = u32> {
 /// The embargo is declared −, so that absence from it is +.
 pub fn embargo_policy() -> Vec<u32> {
     let definition = literal(embargoed());
-    [vec![1, 1, 11, 1, 6, definition.len() as u32], definition].concat()
+    [vec![EQUAL_WIDTHS, 1, 11, 1, 6, definition.len() as u32], definition].concat()
 }
 
 /// Released, and absent from the embargo.
@@ -122,7 +128,7 @@ fn delegation(key: u32) -> Vec<u32> {
 /// An external policy, rewritten: the archive says which observatories it trusts and which keys are compromised.
 pub fn vetted_policy() -> Vec<u32> {
     let compromised = vec![4, 0, ARCHIVE, COMPROMISED, 1];
-    let external = assemble(&[(COMPROMISED, 1, compromised), (10, 0, delegation(ARCHIVE))]);
+    let external = assemble(EQUAL_WIDTHS, &[(COMPROMISED, 1, compromised), (10, 0, delegation(ARCHIVE))]);
     rewritten(&external).expect("it is external")
 }
 
@@ -135,7 +141,7 @@ pub fn released(key: u32) -> Vec<u32> {
 /// The last two lists, united by the one definition.
 pub fn unions_policy() -> Vec<u32> {
     let [.., third, fourth] = OBSERVATORIES.map(released);
-    assemble(&[(10, 0, united(&[third, fourth]))])
+    assemble(EQUAL_WIDTHS, &[(10, 0, united(&[third, fourth]))])
 }
 
 /// The first list, united with the second united with the definition.
@@ -152,7 +158,7 @@ pub fn long_external_policy() -> Vec<u32> {
         let lists: Vec<Vec<u32>> = (0..70).map(|n| vec![4, 0, key(64 + n), name, 0]).collect();
         definitions.push((name, 0, [vec![5], delegation(key(name)), united(&lists)].concat()));
     }
-    assemble(&definitions)
+    assemble(EQUAL_WIDTHS, &definitions)
 }
 
 /// It holds in the semester.
@@ -177,6 +183,18 @@ pub fn half_expired() -> Certificates {
         record
     };
     all.iter().copied().chain(all.iter().map(a_year_earlier)).collect()
+}
+
+/// What observatories append to their rows.
+const EPOCH: u32 = 2_027;
+
+/// 1,600 certificates: the first ones, with an epoch appended to 66 left and 67 right rows.
+pub fn with_epochs() -> Certificates {
+    let appended = |record: &evaluator::Record| match *record.row.used() {
+        [a, b] if a % 3 > 0 => evaluator::Record { row: Row::new(&[a, b, EPOCH]), ..*record },
+        _ => *record,
+    };
+    certificates().iter().map(appended).collect()
 }
 
 /// Others fill up the count.
@@ -316,6 +334,10 @@ mod tests {
         assert_eq!([joined(), joined_withdrawn()].map(|all| all.len()), [1_542, 1_413]);
         assert_eq!([chain(RELEASED, 0), chain(WITHDRAWN, 1), circle(), star()].map(|all| all.len()), [256; 4]);
         assert_eq!(half_expired().iter().filter(|record| record.validity.end <= NOW).count(), 800);
+        let (all, widths) = (with_epochs(), [1, 2, 3, 4]);
+        let count = |name, width| all.iter().filter(|record| record.name == [OBSERVATORY, name, 0] && record.row.width == width).count();
+        assert_eq!(all.len(), 1_600);
+        assert_eq!([LEFT, RIGHT].map(|name| widths.map(|width| count(name, width))), [[0, 34, 66, 0], [0, 33, 67, 0]]);
     }
 
     #[test]
