@@ -29,7 +29,16 @@ pub fits-equal : {format : ℕ} (w n : ℕ) → (format ≡ widerRows → ⊥) �
 unfolding fits
 fits-equal {format} w n e = rw (ne-eqb format widerRows e, fits)
 
--- in either format a row is no narrower than the pattern
+-- in either format a row of the pattern's width fits
+pub fits-same : (format w n : ℕ) → w ≡ n → fits format w n ≡ true
+unfolding fits
+fits-same format w n e = go (eqb format widerRows)
+  where
+    go : (b : Bool) → (elim b as (λ c. Bool) [ true ↦ leb w n | false ↦ eqb w n ]) ≡ true
+    go true = le-leb w n (omega arith)
+    go false = eq-eqb w n e
+
+-- and none is narrower
 pub fits-long : (format w n : ℕ) → T (fits format w n) → w ≤ n
 unfolding fits
 fits-long format w n t = go (eqb format widerRows) t

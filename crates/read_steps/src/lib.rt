@@ -124,14 +124,17 @@ pub fn has_row(words: &[u32], at: usize, values: &[u32; 16], count: usize, set: 
     has(set, row)
 }
 
-// The matching rule: may a pattern of this width match a row of so many atoms, in a policy of this format?
+// The matching rule: may a pattern of this width match a row of so many atoms, in a policy of this format? Most rows have its own width.
 fn fits(format: u32, width: u32, atoms: u32) -> bool
     ensures { λ r. ⌜ r ≡ fits format width atoms ⌝ }
 {
+    if width == atoms {
+        return true;
+    }
     if format == WIDER_ROWS {
         return width <= atoms;
     }
-    width == atoms
+    false
 }
 
 // A pattern against the row whose words stand at `row`. The atoms of its new variables are written behind the values.
