@@ -1,5 +1,5 @@
--- A policy's format: its word 0. Document 01 has the one, 1; document 02, N6, a second: "Refusal 1 now lets formats 1 and 2 pass." What the two tell apart is
--- how patterns match rows, in `meaning/specs/Matching.antt`.
+-- A policy's format: its word 0. Document 01 has the one, 1; document 02, N6, a second: "Refusal 1 now lets formats 1 and 2 pass." They differ in how
+-- patterns match rows, in `meaning/specs/Matching.antt`.
 use Prim.Native.Nat.{ℕ}
 use mathlib.Core.Bool.{Bool, _||_}
 use mathlib.Core.List.{List}
