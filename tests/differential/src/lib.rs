@@ -1,4 +1,4 @@
-//! The compiled library beside an independent evaluator, written from the documents alone.
+//! The compiled library beside an evaluator of its own, written from the documents. (Of its matching rule, N6, the engine's definition had been seen before.)
 
 pub mod compare;
 pub mod engine;
