@@ -1,9 +1,10 @@
 -- The table holds, by computation.
 use mathlib.Core.Path.{refl}
+use Rattle.rows.specs.Name.{polarityOf}
 use Rattle.policy.specs.Decoded.{Decodes, again, unions, four, AllHold}
 
 pub table : AllHold
-unfolding Decodes again unions four
+unfolding polarityOf Decodes again unions four
 table = record {
   runOut = (refl, refl, refl, refl);
   codes = (refl, refl);
@@ -14,6 +15,9 @@ table = record {
   issuers = (refl, refl, refl, refl);
   definitions = (refl, refl);
   vetted = (refl, refl, refl, refl, refl, refl);
+  ownNames = (refl, refl, refl, refl, refl, refl, refl, refl, refl, refl);
+  ownVetted = (refl, refl, refl, refl, refl, refl);
+  ownByVariable = refl;
   leftOver = refl;
   noneAtFirst = (refl, refl);
   earlierInPattern = (refl, refl);

@@ -10,6 +10,7 @@ use borrow.Author.Tests.{ltb-true, lt-ltb}
 use Rattle.refusals.specs.RefusalTable.{badWord, tooDeep}
 use Rattle.rows.proofs.Case.{iff-refl}
 use Rattle.policy.specs.Syntax.{Term, Expr, leaf, union, difference, comprehension, Body, head, draw, same, different, absent}
+use Rattle.policy.specs.OwnKey.{Scope}
 use Rattle.policy.specs.Leaf.{leafCode, leafRest, leafOf, leafAs}
 use Rattle.policy.specs.Words.{termWords, fresh, guardCount, exprWords, bodyWords}
 use Rattle.policy.specs.WellFormed.{FitTerm, Fit, FitBody, depth, bodyDepth, drawCount, bodyDraws, WellFormed}
@@ -22,21 +23,21 @@ use Rattle.policy.proofs.Leaves.{where-reads, term-reads, width-reads, 
 use Rattle.policy.proofs.LeafDecoding.{leafAs-reads, leaf-coded}
 
 -- an expression of so many levels at most
-pub record FitExpr (known levels n : ℕ) (e : Expr) : Type 0 where
-  pub fit : Fit known n e
+pub record FitExpr (scope : Scope) (levels n : ℕ) (e : Expr) : Type 0 where
+  pub fit : Fit scope n e
   pub shallow : depth e ≤ levels
 
-abbrev pub expression : ℕ → ℕ → ℕ → Spelling Expr
-expression known levels n = record { words = λ e. exprWords e n; draws = drawCount; Good = FitExpr known levels n }
+abbrev pub expression : Scope → ℕ → ℕ → Spelling Expr
+expression scope levels n = record { words = λ e. exprWords e n; draws = drawCount; Good = FitExpr scope levels n }
 
 -- a body of c guards, its expressions of so many levels at most
-pub record FitGuards (known levels c n : ℕ) (b : Body) : Type 0 where
-  pub fit : FitBody known n b
+pub record FitGuards (scope : Scope) (levels c n : ℕ) (b : Body) : Type 0 where
+  pub fit : FitBody scope n b
   pub shallow : bodyDepth b ≤ levels
   pub guards : guardCount b ≡ c
 
-abbrev pub guards : ℕ → ℕ → ℕ → ℕ → Spelling Body
-guards known levels c n = record { words = λ b. bodyWords b n; draws = bodyDraws; Good = FitGuards known levels c n }
+abbrev pub guards : Scope → ℕ → ℕ → ℕ → Spelling Body
+guards scope levels c n = record { words = λ b. bodyWords b n; draws = bodyDraws; Good = FitGuards scope levels c n }
 
 -- no words, one draw
 abbrev oneDraw : Spelling (Unit {0})
@@ -58,16 +59,16 @@ count-reads = record {
         record { words = []; draws = 1; front = l; count = omega arith; few = omega (arith, ltb-true k 8 h); so = made tt }
     taking ws k t rest j false h e = impossible cc
 
-module _ (known levels : ℕ) (inner : ℕ → Reader Expr) (inner-reads : (m : ℕ) → Reads (inner m) (expression known levels m)) where
+module _ (scope : Scope) (levels : ℕ) (inner : ℕ → Reader Expr) (inner-reads : (m : ℕ) → Reads (inner m) (expression scope levels m)) where
   -- a guard, and c more after it
-  module _ (c n : ℕ) (rest : ℕ → Reader Body) (rest-reads : (m : ℕ) → Reads (rest m) (guards known levels c m)) where
+  module _ (c n : ℕ) (rest : ℕ → Reader Body) (rest-reads : (m : ℕ) → Reads (rest m) (guards scope levels c m)) where
     -- same and different: two terms
     terms-take : (make : Term → Term → Body → Body) (Q : Body → List ℕ → ℕ → Type 0) →
-        ((x y : Term) (b : Body) → FitTerm n x → FitTerm n y → FitGuards known levels c n b → Q (make x y b) (termWords x ++ (termWords y ++ bodyWords b n)) (0 + (0 + bodyDraws b))) →
+        ((x y : Term) (b : Body) → FitTerm n x → FitTerm n y → FitGuards scope levels c n b → Q (make x y b) (termWords x ++ (termWords y ++ bodyWords b n)) (0 + (0 + bodyDraws b))) →
         Takes (λ ws k. after (term n ws k) (λ x us i. after (term n us i) (λ y vs j. after (rest n vs j) (λ b. give (make x y b))))) Q
     terms-take make Q q = then-takes (term-reads n) (λ x f. then-takes (term-reads n) (λ y g. last-takes (make x y) (rest-reads n) (λ b h. q x y b f g h)))
 
-    guardAs-takes : (w : ℕ) → Takes (guardAs inner n rest (guardOf w)) (λ b u d. Made (guards known levels (suc c) n) b (w ∷ u) d)
+    guardAs-takes : (w : ℕ) → Takes (guardAs inner n rest (guardOf w)) (λ b u d. Made (guards scope levels (suc c) n) b (w ∷ u) d)
     unfolding guardAs guardOf bodyWords bodyDepth bodyDraws guardCount FitBody
     guardAs-takes zero = refuse-takes badWord
     guardAs-takes (suc zero) =
@@ -93,13 +94,13 @@ module _ (known levels : ℕ) (inner : ℕ → Reader Expr) (inner-reads : (m : 
         })))
     guardAs-takes (suc (suc (suc (suc (suc w))))) = refuse-takes badWord
 
-    terms-return : (make : Term → Term → Body → Body) (x y : Term) (b : Body) → FitTerm n x → FitTerm n y → FitGuards known levels c n b →
+    terms-return : (make : Term → Term → Body → Body) (x y : Term) (b : Body) → FitTerm n x → FitTerm n y → FitGuards scope levels c n b →
         Returns (λ ws k. after (term n ws k) (λ x us i. after (term n us i) (λ y vs j. after (rest n vs j) (λ b. give (make x y b))))) (make x y b)
         (termWords x ++ (termWords y ++ bodyWords b n)) (bodyDraws b)
     terms-return make x y b f g h =
         returns-as (then-returns _ (term-reads n) x f (then-returns _ (term-reads n) y g (last-returns (make x y) (rest-reads n) b h))) (omega arith)
 
-    guard-returns : (b : Body) → FitGuards known levels (suc c) n b → Returns (λ ws k. after (word ws k) (λ t. guardAs inner n rest (guardOf t))) b (bodyWords b n) (bodyDraws b)
+    guard-returns : (b : Body) → FitGuards scope levels (suc c) n b → Returns (λ ws k. after (word ws k) (λ t. guardAs inner n rest (guardOf t))) b (bodyWords b n) (bodyDraws b)
     unfolding guardAs guardOf bodyWords bodyDepth bodyDraws guardCount FitBody
     guard-returns (head r) f = absurd (omega (arith, f .guards))
     guard-returns (draw e p b) f =
@@ -118,25 +119,25 @@ module _ (known levels : ℕ) (inner : ℕ → Reader Expr) (inner-reads : (m : 
         (then-returns _ (inner-reads n) e (record { fit = f .fit .1; shallow = omega (arith, f .shallow) })
         (last-returns (absent r e) (rest-reads n) b (record { fit = f .fit .2; shallow = omega (arith, f .shallow); guards = omega (arith, f .guards) })))) (omega arith))
 
-  head-reads : (n : ℕ) → Reads (body inner zero n) (guards known levels zero n)
+  head-reads : (n : ℕ) → Reads (body inner zero n) (guards scope levels zero n)
   unfolding body bodyWords bodyDepth bodyDraws guardCount FitBody
   head-reads n = record {
     takes = last-takes head (row-reads n) (λ r g. made (record { fit = g; shallow = omega arith; guards = refl }));
     returns = returning;
   }
     where
-      returning : (b : Body) → FitGuards known levels zero n b → Returns (body inner zero n) b (bodyWords b n) (bodyDraws b)
+      returning : (b : Body) → FitGuards scope levels zero n b → Returns (body inner zero n) b (bodyWords b n) (bodyDraws b)
       returning (head r) f = last-returns head (row-reads n) r (f .fit)
       returning (draw e p b) f = absurd (omega (arith, f .guards))
       returning (same x y b) f = absurd (omega (arith, f .guards))
       returning (different x y b) f = absurd (omega (arith, f .guards))
       returning (absent r e b) f = absurd (omega (arith, f .guards))
 
-  body-reads : (c n : ℕ) → Reads (body inner c n) (guards known levels c n)
+  body-reads : (c n : ℕ) → Reads (body inner c n) (guards scope levels c n)
   unfolding body
   body-reads zero n = head-reads n
   body-reads (suc c) n =
-      let rest : (m : ℕ) → Reads (body inner c m) (guards known levels c m) = λ m. body-reads c m in
+      let rest : (m : ℕ) → Reads (body inner c m) (guards scope levels c m) = λ m. body-reads c m in
       record { takes = word-takes (guardAs-takes c n (λ m. body inner c m) rest); returns = guard-returns c n (λ m. body inner c m) rest }
 
   -- the count of guards
@@ -146,21 +147,21 @@ module _ (known levels : ℕ) (inner : ℕ → Reader Expr) (inner-reads : (m : 
   module _ (n : ℕ) where
     -- union and difference: two expressions
     parts-take : (make : Expr → Expr → Expr) (Q : Expr → List ℕ → ℕ → Type 0) →
-        ((a b : Expr) → FitExpr known levels n a → FitExpr known levels n b → Q (make a b) (exprWords a n ++ exprWords b n) (drawCount a + drawCount b)) →
+        ((a b : Expr) → FitExpr scope levels n a → FitExpr scope levels n b → Q (make a b) (exprWords a n ++ exprWords b n) (drawCount a + drawCount b)) →
         Takes (λ ws k. after (inner n ws k) (λ a us i. after (inner n us i) (λ b. give (make a b)))) Q
     parts-take make Q q = then-takes (inner-reads n) (λ a f. last-takes (make a) (inner-reads n) (λ b g. q a b f g))
 
-    parts-return : (make : Expr → Expr → Expr) (a b : Expr) → FitExpr known levels n a → FitExpr known levels n b →
+    parts-return : (make : Expr → Expr → Expr) (a b : Expr) → FitExpr scope levels n a → FitExpr scope levels n b →
         Returns (λ ws k. after (inner n ws k) (λ a us i. after (inner n us i) (λ b. give (make a b)))) (make a b) (exprWords a n ++ exprWords b n) (drawCount a + drawCount b)
     parts-return make a b f g = then-returns _ (inner-reads n) a f (last-returns (make a) (inner-reads n) b g)
 
     -- a leaf, its code being w
-    leaf-takes : (w : ℕ) → Takes (λ ws k. after (leafAs known n (leafOf w) ws k) (λ x. give (leaf x))) (λ e u d. Made (expression known (suc levels) n) e (w ∷ u) d)
+    leaf-takes : (w : ℕ) → Takes (λ ws k. after (leafAs scope n (leafOf w) ws k) (λ x. give (leaf x))) (λ e u d. Made (expression scope (suc levels) n) e (w ∷ u) d)
     unfolding exprWords depth drawCount Fit
     leaf-takes w =
-        last-takes leaf (leafAs-reads known n w) (λ x g. record { spelled = ap (λ c. c ∷ leafRest x) (sym (g .1)); met = refl; good = record { fit = g .0; shallow = omega arith } })
+        last-takes leaf (leafAs-reads scope n w) (λ x g. record { spelled = ap (λ c. c ∷ leafRest x) (sym (g .1)); met = refl; good = record { fit = g .0; shallow = omega arith } })
 
-    exprAs-takes : (w : ℕ) → Takes (exprAs known inner n (codeOf w)) (λ e u d. Made (expression known (suc levels) n) e (w ∷ u) d)
+    exprAs-takes : (w : ℕ) → Takes (exprAs scope inner n (codeOf w)) (λ e u d. Made (expression scope (suc levels) n) e (w ∷ u) d)
     unfolding exprAs codeOf exprWords depth drawCount Fit
     exprAs-takes zero = leaf-takes 0
     exprAs-takes (suc zero) = leaf-takes 1
@@ -180,9 +181,9 @@ module _ (known levels : ℕ) (inner : ℕ → Reader Expr) (inner-reads : (m : 
         }))
     exprAs-takes (suc (suc (suc (suc (suc (suc (suc (suc w)))))))) = leaf-takes (suc (suc (suc (suc (suc (suc (suc (suc w))))))))
 
-    expr-returns : (e : Expr) → FitExpr known (suc levels) n e → Returns (λ ws k. after (word ws k) (λ c. exprAs known inner n (codeOf c))) e (exprWords e n) (drawCount e)
+    expr-returns : (e : Expr) → FitExpr scope (suc levels) n e → Returns (λ ws k. after (word ws k) (λ c. exprAs scope inner n (codeOf c))) e (exprWords e n) (drawCount e)
     unfolding exprAs codeOf exprWords depth drawCount Fit
-    expr-returns (leaf x) f = word-returns (leafCode x) (rw (leaf-coded x) (last-returns leaf (leafAs-reads known n (leafCode x)) x (f .fit, refl)))
+    expr-returns (leaf x) f = word-returns (leafCode x) (rw (leaf-coded x) (last-returns leaf (leafAs-reads scope n (leafCode x)) x (f .fit, refl)))
     expr-returns (union a b) f =
         word-returns 5 (parts-return union a b (record { fit = f .fit .0; shallow = omega (arith, f .shallow) }) (record { fit = f .fit .1; shallow = omega (arith, f .shallow) }))
     expr-returns (difference a b) f =
@@ -200,15 +201,15 @@ depth-some (union a b) = omega arith
 depth-some (difference a b) = omega arith
 depth-some (comprehension b) = omega arith
 
-pub expr-reads : (known levels n : ℕ) → Reads (expr known levels n) (expression known levels n)
+pub expr-reads : (scope : Scope) (levels n : ℕ) → Reads (expr scope levels n) (expression scope levels n)
 unfolding expr
-expr-reads known zero n = record {
+expr-reads scope zero n = record {
   takes = then-takes (where-reads badWord isCode (λ c. iff-refl)) (λ c g. refuse-takes tooDeep);
   returns = λ e f. absurd (omega (arith, depth-some e, f .shallow));
 }
-expr-reads known (suc levels) n =
-    let inner : (m : ℕ) → Reads (expr known levels m) (expression known levels m) = λ m. expr-reads known levels m in
-    record { takes = word-takes (exprAs-takes known levels (λ m. expr known levels m) inner n); returns = expr-returns known levels (λ m. expr known levels m) inner n }
+expr-reads scope (suc levels) n =
+    let inner : (m : ℕ) → Reads (expr scope levels m) (expression scope levels m) = λ m. expr-reads scope levels m in
+    record { takes = word-takes (exprAs-takes scope levels (λ m. expr scope levels m) inner n); returns = expr-returns scope levels (λ m. expr scope levels m) inner n }
 
 none-left : (r : Read Expr) (e : Expr) → noneLeft r ≡ parsed e → (k : ℕ) × (r ≡ got e [] k)
 unfolding noneLeft
@@ -218,22 +219,22 @@ none-left (refused n) e h = impossible cc
 
 pub parse-iff : Theorem
 unfolding parse noneLeft
-parse-iff known ws e = (there, back)
+parse-iff scope ws e = (there, back)
   where
-    there : parse known ws ≡ parsed e → (ws ≡ exprWords e 0) × WellFormed known e
+    there : parse scope ws ≡ parsed e → (ws ≡ exprWords e 0) × WellFormed scope e
     there h =
-        let r = none-left (expr known 15 0 ws 0) e h in
-        let t = expr-reads known 15 0 .takes .taken ws 0 e [] (r .0) (omega arith) (r .1) in
+        let r = none-left (expr scope 15 0 ws 0) e h in
+        let t = expr-reads scope 15 0 .takes .taken ws 0 e [] (r .0) (omega arith) (r .1) in
         let d = t .so .met in
         (t .front ∙ append-nil (t .words) ∙ t .so .spelled, record { fit = t .so .good .fit; shallow = t .so .good .shallow; draws = omega arith })
 
-    back : (ws ≡ exprWords e 0) × WellFormed known e → parse known ws ≡ parsed e
+    back : (ws ≡ exprWords e 0) × WellFormed scope e → parse scope ws ≡ parsed e
     back h =
-        let r = expr-reads known 15 0 .returns e (record { fit = h .1 .fit; shallow = h .1 .shallow }) .back [] 0 (omega (arith, h .1 .draws)) in
+        let r = expr-reads scope 15 0 .returns e (record { fit = h .1 .fit; shallow = h .1 .shallow }) .back [] 0 (omega (arith, h .1 .draws)) in
         rw (h .0, ← (append-nil (exprWords e 0)), r)
 
-pub parse-words : (known : ℕ) (ws : List ℕ) (e : Expr) → parse known ws ≡ parsed e → ws ≡ exprWords e 0
-parse-words known ws e h = parse-iff known ws e .0 h .0
+pub parse-words : (scope : Scope) (ws : List ℕ) (e : Expr) → parse scope ws ≡ parsed e → ws ≡ exprWords e 0
+parse-words scope ws e h = parse-iff scope ws e .0 h .0
 
-pub parse-fits : (known : ℕ) (ws : List ℕ) (e : Expr) → parse known ws ≡ parsed e → WellFormed known e
-parse-fits known ws e h = parse-iff known ws e .0 h .1
+pub parse-fits : (scope : Scope) (ws : List ℕ) (e : Expr) → parse scope ws ≡ parsed e → WellFormed scope e
+parse-fits scope ws e h = parse-iff scope ws e .0 h .1

@@ -1,10 +1,10 @@
 -- The table holds, by computation.
 use mathlib.Core.Path.{refl}
 use Rattle.policy.specs.Decoded.{again, unions}
-use Rattle.policy.specs.Judged.{Judges, literal, AllHold}
+use Rattle.policy.specs.Judged.{JudgesUnder, Judges, literal, AllHold}
 
 pub table : AllHold
-unfolding Judges again unions literal
+unfolding JudgesUnder Judges again unions literal
 table = record {
   portal = (refl, refl, refl, refl, refl, refl, refl, refl, refl, refl, refl);
   header = (refl, refl, refl, refl, refl);
@@ -17,6 +17,12 @@ table = record {
   ofDefinitions = (refl, refl, refl);
   ofVetted = (refl, refl, refl, refl, refl, refl, refl, refl, refl);
   vettedInDefinitions = (refl, refl, refl, refl, refl);
+  ownNames = (refl, refl, refl, refl, refl, refl, refl, refl);
+  ofOwnNames = (refl, refl, refl, refl, refl);
+  openOwnNames = (refl, refl, refl, refl);
+  ownVetteds = (refl, refl, refl, refl, refl, refl, refl);
+  ourKeys = (refl, refl, refl, refl);
+  otherKeys = (refl, refl, refl);
   ofUnions = (refl, refl, refl);
   ofDifferences = (refl, refl, refl, refl);
   ofGuards = (refl, refl, refl, refl);

@@ -7,17 +7,18 @@ use mathlib.Core.List.{List, [], _∷_, _++_}
 use lib.Dec.{T, leb, leb→le}
 use lib.ListN.{length, drop}
 use Rattle.rows.specs.Word.{IsWord, Words}
+use Rattle.rows.specs.Row.{isKey}
 use Rattle.rows.specs.Name.{plus, minus, polarityOf}
 use Rattle.rows.proofs.Case.{T-and}
 use Rattle.rows.proofs.Lists.{all-take, all-drop}
-use Rattle.refusals.specs.RefusalTable.{badWord, noPart, queryPart}
+use Rattle.refusals.specs.RefusalTable.{badWord, notAKey, noPart, queryPart}
 use Rattle.policy.specs.Syntax.{Expr}
 use Rattle.policy.specs.Parse.{Parsed, parsed, parse}
 use Rattle.policy.specs.Parse as Parse
-use Rattle.policy.specs.Polarity.{Known, hasPolarity, drawsClosed, Verdict, exact, lower, upper}
+use Rattle.policy.specs.Polarity.{Known, scopeOf, hasPolarity, drawsClosed, Verdict, exact, lower, upper}
 use Rattle.policy.specs.Table.{Entry, entryWords, Table, table, readTable}
 use Rattle.policy.specs.Table as Tables
-use Rattle.policy.specs.Definitions.{polarized, checkDefinition, knownOf, PolicyChecked, passed, pushDefinition, definitionsFrom, checkPolicy}
+use Rattle.policy.specs.Definitions.{polarized, checkDefinition, knownOf, PolicyChecked, passed, pushDefinition, definitionsFrom, checkTable, checkPolicy}
 use Rattle.policy.specs.Definitions as Definitions
 use Rattle.policy.specs.Checking.{Checked, checked, checkQuery, verdictOf, checkAfter, check}
 use Rattle.policy.specs.Checking as Checking
@@ -25,34 +26,35 @@ use Rattle.policy.specs.Judgement.{verdict, refused, replyOf, judge}
 use Rattle.policy.proofs.Basics.{impossible}
 
 -- a definition that passed: the words of entry x are those of e, which has the declared polarity and draws from nothing open
-pub record AcceptedDefinition (policy : List ℕ) (ks : List Known) (x : Entry) (e : Expr) : Type 0 where
-  pub parses : parse (length ks) (entryWords policy x) ≡ parsed e
+pub record AcceptedDefinition (ours : ℕ) (policy : List ℕ) (ks : List Known) (x : Entry) (e : Expr) : Type 0 where
+  pub parses : parse (scopeOf ours ks) (entryWords policy x) ≡ parsed e
   pub has : T (hasPolarity e ks (knownOf x e ks .declared))
   pub closed : T (drawsClosed e ks)
 
 -- definitions that passed one after the other, `ks` being known before the first and `ls` after the last
-pub data Accepted (policy : List ℕ) : List Entry → List Known → List Expr → List Known → Type 0 where
-  none : {ks : List Known} → Accepted policy [] ks [] ks
+pub data Accepted (ours : ℕ) (policy : List ℕ) : List Entry → List Known → List Expr → List Known → Type 0 where
+  none : {ks : List Known} → Accepted ours policy [] ks [] ks
   one : {x : Entry} {xs : List Entry} {ks ls : List Known} {e : Expr} {es : List Expr} →
-      AcceptedDefinition policy ks x e → Accepted policy xs (ks ++ (knownOf x e ks ∷ [])) es ls → Accepted policy (x ∷ xs) ks (e ∷ es) ls
+      AcceptedDefinition ours policy ks x e → Accepted ours policy xs (ks ++ (knownOf x e ks ∷ [])) es ls → Accepted ours policy (x ∷ xs) ks (e ∷ es) ls
 
 -- a query that passed: its words are those of q, and it has the polarities that its verdict tells
-pub record AcceptedQuery (ls : List Known) (query : List ℕ) (q : Expr) (v : Verdict) : Type 0 where
+pub record AcceptedQuery (ours : ℕ) (ls : List Known) (query : List ℕ) (q : Expr) (v : Verdict) : Type 0 where
   pub some : 1 ≤ length query
   pub few : length query ≤ 1024
-  pub parses : parse (length ls) query ≡ parsed q
+  pub parses : parse (scopeOf ours ls) query ≡ parsed q
   pub closed : T (drawsClosed q ls)
   pub isExact : v ≡ exact → T (hasPolarity q ls plus) × T (hasPolarity q ls minus)
   pub isLower : v ≡ lower → T (hasPolarity q ls plus)
   pub isUpper : v ≡ upper → T (hasPolarity q ls minus)
 
 -- a policy and a query that passed
-pub record AcceptedPair (policy query : List ℕ) (es : List Expr) (q : Expr) (v : Verdict) : Type 0 where
+pub record AcceptedPair (ours : ℕ) (policy query : List ℕ) (es : List Expr) (q : Expr) (v : Verdict) : Type 0 where
   pub entries : List Entry
   pub known : List Known
+  pub key : isKey ours ≡ true
   pub listed : readTable policy ≡ table entries
-  pub definitions : Accepted policy entries [] es known
-  pub asked : AcceptedQuery known query q v
+  pub definitions : Accepted ours policy entries [] es known
+  pub asked : AcceptedQuery ours known query q v
 
 -- 6 and 7 passed
 polarized-parsed : (fine closed : Bool) (d e : Expr) → polarized fine closed d ≡ parsed e → (d ≡ e) × T fine × T closed
@@ -69,10 +71,10 @@ polarity-passed fine closed (parsed d) e h =
     (ap parsed (t .0), subst (λ c. T (fine c)) (t .0) (t .1), subst (λ c. T (closed c)) (t .0) (t .2))
 polarity-passed fine closed (Parse.refused n) e h = impossible cc
 
-definition-accepted : (policy : List ℕ) (ks : List Known) (x : Entry) (e : Expr) → checkDefinition policy ks x ≡ parsed e → AcceptedDefinition policy ks x e
+definition-accepted : (ours : ℕ) (policy : List ℕ) (ks : List Known) (x : Entry) (e : Expr) → checkDefinition ours policy ks x ≡ parsed e → AcceptedDefinition ours policy ks x e
 unfolding checkDefinition knownOf
-definition-accepted policy ks x e h =
-    let t = polarity-passed (λ d. hasPolarity d ks (polarityOf (x .polarity))) (λ d. drawsClosed d ks) (parse (length ks) (entryWords policy x)) e h in
+definition-accepted ours policy ks x e h =
+    let t = polarity-passed (λ d. hasPolarity d ks (polarityOf (x .polarity))) (λ d. drawsClosed d ks) (parse (scopeOf ours ks) (entryWords policy x)) e h in
     record { parses = t .0; has = t .1; closed = t .2 }
 
 -- what passes 3 to 7 is accepted, and back
@@ -82,9 +84,9 @@ polarized-fine true true e t u = refl
 polarized-fine true false e t u = absurd u
 polarized-fine false closed e t u = absurd t
 
-definition-passes : (policy : List ℕ) (ks : List Known) (x : Entry) (e : Expr) → AcceptedDefinition policy ks x e → checkDefinition policy ks x ≡ parsed e
+definition-passes : (ours : ℕ) (policy : List ℕ) (ks : List Known) (x : Entry) (e : Expr) → AcceptedDefinition ours policy ks x e → checkDefinition ours policy ks x ≡ parsed e
 unfolding checkDefinition knownOf
-definition-passes policy ks x e a =
+definition-passes ours policy ks x e a =
     subst (λ (p : Parsed). (elim p as (λ c. Parsed) [ parsed d ↦ polarized (hasPolarity d ks (polarityOf (x .polarity))) (drawsClosed d ks) d | Parse.refused n ↦ Parse.refused n ]) ≡ parsed e)
     (sym (a .parses)) (polarized-fine (hasPolarity e ks (polarityOf (x .polarity))) (drawsClosed e ks) e (a .has) (a .closed))
 
@@ -106,56 +108,63 @@ push-passed x e (Definitions.refused n part) xs es ls h = impossible cc
 none-passed : (ks ls : List Known) (ys : List Entry) (es : List Expr) → passed [] [] ks ≡ passed ys es ls → (ys ≡ []) × (es ≡ []) × (ks ≡ ls)
 none-passed ks ls ys es h = (cc, cc, cc)
 
-from-accepted : (policy : List ℕ) (xs : List Entry) (ks : List Known) (ys : List Entry) (es : List Expr) (ls : List Known) → definitionsFrom policy xs ks ≡ passed ys es ls →
-    (xs ≡ ys) × Accepted policy xs ks es ls
+from-accepted : (ours : ℕ) (policy : List ℕ) (xs : List Entry) (ks : List Known) (ys : List Entry) (es : List Expr) (ls : List Known) → definitionsFrom ours policy xs ks ≡ passed ys es ls →
+    (xs ≡ ys) × Accepted ours policy xs ks es ls
 unfolding definitionsFrom
-from-accepted policy [] ks ys es ls h =
+from-accepted ours policy [] ks ys es ls h =
     let t = none-passed ks ls ys es h in
     (sym (t .0), rw (t .1, ← (t .2)) (none))
-from-accepted policy (x ∷ xs) ks ys es ls h = go (λ l zs fs g. from-accepted policy xs l zs fs ls g) (checkDefinition policy ks x) refl h
+from-accepted ours policy (x ∷ xs) ks ys es ls h = go (λ l zs fs g. from-accepted ours policy xs l zs fs ls g) (checkDefinition ours policy ks x) refl h
   where
-    go : ((l : List Known) (zs : List Entry) (fs : List Expr) → definitionsFrom policy xs l ≡ passed zs fs ls → (xs ≡ zs) × Accepted policy xs l fs ls) →
-        (p : Parsed) → checkDefinition policy ks x ≡ p →
+    go : ((l : List Known) (zs : List Entry) (fs : List Expr) → definitionsFrom ours policy xs l ≡ passed zs fs ls → (xs ≡ zs) × Accepted ours policy xs l fs ls) →
+        (p : Parsed) → checkDefinition ours policy ks x ≡ p →
         (elim p as (λ c. PolicyChecked) [
-          | parsed e ↦ pushDefinition x e (definitionsFrom policy xs (ks ++ (knownOf x e ks ∷ [])))
+          | parsed e ↦ pushDefinition x e (definitionsFrom ours policy xs (ks ++ (knownOf x e ks ∷ [])))
           | Parse.refused n ↦ Definitions.refused n (length ks)
-        ]) ≡ passed ys es ls → (x ∷ xs ≡ ys) × Accepted policy (x ∷ xs) ks es ls
+        ]) ≡ passed ys es ls → (x ∷ xs ≡ ys) × Accepted ours policy (x ∷ xs) ks es ls
     go rest (parsed e) p f =
-        let t = push-passed x e (definitionsFrom policy xs (ks ++ (knownOf x e ks ∷ []))) ys es ls f in
+        let t = push-passed x e (definitionsFrom ours policy xs (ks ++ (knownOf x e ks ∷ []))) ys es ls f in
         let u = rest (ks ++ (knownOf x e ks ∷ [])) (t .entries) (t .exprs) (t .rest) in
-        (ap (λ (l : List Entry). x ∷ l) (u .0) ∙ t .front, subst (λ fs. Accepted policy (x ∷ xs) ks fs ls) (t .first) (one (definition-accepted policy ks x e p) (u .1)))
+        (ap (λ (l : List Entry). x ∷ l) (u .0) ∙ t .front, subst (λ fs. Accepted ours policy (x ∷ xs) ks fs ls) (t .first) (one (definition-accepted ours policy ks x e p) (u .1)))
     go rest (Parse.refused n) p f = impossible cc
 
 -- a policy that passed
-pub record AcceptedPolicy (policy : List ℕ) (xs : List Entry) (es : List Expr) (ls : List Known) : Type 0 where
+pub record AcceptedPolicy (ours : ℕ) (policy : List ℕ) (xs : List Entry) (es : List Expr) (ls : List Known) : Type 0 where
+  pub key : isKey ours ≡ true
   pub listed : readTable policy ≡ table xs
-  pub definitions : Accepted policy xs [] es ls
+  pub definitions : Accepted ours policy xs [] es ls
 
-pub policy-accepted : (policy : List ℕ) (xs : List Entry) (es : List Expr) (ls : List Known) → checkPolicy policy ≡ passed xs es ls → AcceptedPolicy policy xs es ls
-unfolding checkPolicy
-policy-accepted policy xs es ls h = go (readTable policy) refl h
+pub policy-accepted : (ours : ℕ) (policy : List ℕ) (xs : List Entry) (es : List Expr) (ls : List Known) → checkPolicy ours policy ≡ passed xs es ls → AcceptedPolicy ours policy xs es ls
+unfolding checkPolicy checkTable
+policy-accepted ours policy xs es ls h = keyed (isKey ours) refl h
   where
-    go : (t : Table) → readTable policy ≡ t → (elim t as (λ c. PolicyChecked) [ table ys ↦ definitionsFrom policy ys [] | Tables.refused n ↦ Definitions.refused n noPart ]) ≡ passed xs es ls →
-        AcceptedPolicy policy xs es ls
-    go (table ys) r f =
-        let t = from-accepted policy ys [] xs es ls f in
-        record { listed = r ∙ ap table (t .0); definitions = subst (λ zs. Accepted policy zs [] es ls) (t .0) (t .1) }
-    go (Tables.refused n) r f = impossible cc
+    go : isKey ours ≡ true → (t : Table) → readTable policy ≡ t → (elim t as (λ c. PolicyChecked) [ table ys ↦ definitionsFrom ours policy ys [] | Tables.refused n ↦ Definitions.refused n noPart ]) ≡ passed xs es ls →
+        AcceptedPolicy ours policy xs es ls
+    go k (table ys) r f =
+        let t = from-accepted ours policy ys [] xs es ls f in
+        record { key = k; listed = r ∙ ap table (t .0); definitions = subst (λ zs. Accepted ours policy zs [] es ls) (t .0) (t .1) }
+    go k (Tables.refused n) r f = impossible cc
 
-accepted-from : {policy : List ℕ} {xs : List Entry} {ks ls : List Known} {es : List Expr} → Accepted policy xs ks es ls → definitionsFrom policy xs ks ≡ passed xs es ls
+    keyed : (b : Bool) → isKey ours ≡ b → (elim b as (λ c. PolicyChecked) [ true ↦ checkTable ours policy | false ↦ Definitions.refused notAKey noPart ]) ≡ passed xs es ls →
+        AcceptedPolicy ours policy xs es ls
+    keyed true k f = go k (readTable policy) refl f
+    keyed false k f = impossible cc
+
+accepted-from : {ours : ℕ} {policy : List ℕ} {xs : List Entry} {ks ls : List Known} {es : List Expr} → Accepted ours policy xs ks es ls → definitionsFrom ours policy xs ks ≡ passed xs es ls
 unfolding definitionsFrom pushDefinition
 accepted-from none = refl
-accepted-from {policy} (one {x = x} {xs = xs} {ks = ks} {ls = ls} {e = e} {es = es} a rest) =
+accepted-from {ours} {policy} (one {x = x} {xs = xs} {ks = ks} {ls = ls} {e = e} {es = es} a rest) =
     subst (λ (p : Parsed). (elim p as (λ c. PolicyChecked) [
-      | parsed d ↦ pushDefinition x d (definitionsFrom policy xs (ks ++ (knownOf x d ks ∷ [])))
+      | parsed d ↦ pushDefinition x d (definitionsFrom ours policy xs (ks ++ (knownOf x d ks ∷ [])))
       | Parse.refused n ↦ Definitions.refused n (length ks)
-    ]) ≡ passed (x ∷ xs) (e ∷ es) ls) (sym (definition-passes policy ks x e a)) (ap (pushDefinition x e) (accepted-from rest))
+    ]) ≡ passed (x ∷ xs) (e ∷ es) ls) (sym (definition-passes ours policy ks x e a)) (ap (pushDefinition x e) (accepted-from rest))
 
-pub accepted-passes : (policy : List ℕ) (xs : List Entry) (es : List Expr) (ls : List Known) → AcceptedPolicy policy xs es ls → checkPolicy policy ≡ passed xs es ls
-unfolding checkPolicy
-accepted-passes policy xs es ls a =
-    subst (λ (t : Table). (elim t as (λ c. PolicyChecked) [ table ys ↦ definitionsFrom policy ys [] | Tables.refused n ↦ Definitions.refused n noPart ]) ≡ passed xs es ls)
-    (sym (a .listed)) (accepted-from (a .definitions))
+pub accepted-passes : (ours : ℕ) (policy : List ℕ) (xs : List Entry) (es : List Expr) (ls : List Known) → AcceptedPolicy ours policy xs es ls → checkPolicy ours policy ≡ passed xs es ls
+unfolding checkPolicy checkTable
+accepted-passes ours policy xs es ls a =
+    subst (λ (b : Bool). (elim b as (λ c. PolicyChecked) [ true ↦ checkTable ours policy | false ↦ Definitions.refused notAKey noPart ]) ≡ passed xs es ls) (sym (a .key))
+    (subst (λ (t : Table). (elim t as (λ c. PolicyChecked) [ table ys ↦ definitionsFrom ours policy ys [] | Tables.refused n ↦ Definitions.refused n noPart ]) ≡ passed xs es ls)
+    (sym (a .listed)) (accepted-from (a .definitions)))
 
 -- a query
 
@@ -177,22 +186,22 @@ verdict-upper true true h e = tt
 verdict-upper true false h e = impossible cc
 verdict-upper false b h e = h
 
-query-accepted : (ks : List Known) (query : List ℕ) (q : Expr) → checkQuery ks query ≡ parsed q →
-    AcceptedQuery ks query q (verdictOf (hasPolarity q ks plus) (hasPolarity q ks minus))
+query-accepted : (ours : ℕ) (ks : List Known) (query : List ℕ) (q : Expr) → checkQuery ours ks query ≡ parsed q →
+    AcceptedQuery ours ks query q (verdictOf (hasPolarity q ks plus) (hasPolarity q ks minus))
 unfolding checkQuery
-query-accepted ks query q h = go (leb 1 (length query) && leb (length query) 1024) refl h
+query-accepted ours ks query q h = go (leb 1 (length query) && leb (length query) 1024) refl h
   where
     go : (b : Bool) → (leb 1 (length query) && leb (length query) 1024) ≡ b →
         (elim b as (λ c. Parsed) [
-          | true ↦ elim (parse (length ks) query) as (λ c. Parsed) [
+          | true ↦ elim (parse (scopeOf ours ks) query) as (λ c. Parsed) [
             | parsed d ↦ polarized (hasPolarity d ks plus || hasPolarity d ks minus) (drawsClosed d ks) d
             | Parse.refused n ↦ Parse.refused n
           ]
           | false ↦ Parse.refused badWord
-        ]) ≡ parsed q → AcceptedQuery ks query q (verdictOf (hasPolarity q ks plus) (hasPolarity q ks minus))
+        ]) ≡ parsed q → AcceptedQuery ours ks query q (verdictOf (hasPolarity q ks plus) (hasPolarity q ks minus))
     go true b f =
         let l = T-and (leb 1 (length query)) (leb (length query) 1024) .0 (rw b tt) in
-        let t = polarity-passed (λ d. hasPolarity d ks plus || hasPolarity d ks minus) (λ d. drawsClosed d ks) (parse (length ks) query) q f in
+        let t = polarity-passed (λ d. hasPolarity d ks plus || hasPolarity d ks minus) (λ d. drawsClosed d ks) (parse (scopeOf ours ks) query) q f in
         record {
           some = leb→le 1 (length query) (l .0);
           few = leb→le (length query) 1024 (l .1);
@@ -205,45 +214,50 @@ query-accepted ks query q h = go (leb 1 (length query) && leb (length query) 102
     go false b f = impossible cc
 
 -- the query after the definitions
-after-accepted : (fs : List Expr) (ks : List Known) (query : List ℕ) (es : List Expr) (q : Expr) (v : Verdict) → checkAfter fs ks query ≡ checked es q v →
-    (fs ≡ es) × AcceptedQuery ks query q v
+after-accepted : (ours : ℕ) (fs : List Expr) (ks : List Known) (query : List ℕ) (es : List Expr) (q : Expr) (v : Verdict) → checkAfter ours fs ks query ≡ checked es q v →
+    (fs ≡ es) × AcceptedQuery ours ks query q v
 unfolding checkAfter
-after-accepted fs ks query es q v h = go (checkQuery ks query) refl h
+after-accepted ours fs ks query es q v h = go (checkQuery ours ks query) refl h
   where
-    go : (p : Parsed) → checkQuery ks query ≡ p →
+    go : (p : Parsed) → checkQuery ours ks query ≡ p →
         (elim p as (λ c. Checked) [ parsed d ↦ checked fs d (verdictOf (hasPolarity d ks plus) (hasPolarity d ks minus)) | Parse.refused n ↦ Checking.refused n queryPart ]) ≡ checked es q v →
-        (fs ≡ es) × AcceptedQuery ks query q v
+        (fs ≡ es) × AcceptedQuery ours ks query q v
     go (parsed d) p f =
         let e : d ≡ q = cc in
         let w : verdictOf (hasPolarity q ks plus) (hasPolarity q ks minus) ≡ v = rw (← e) (cc) in
-        (cc, rw w at (query-accepted ks query q (p ∙ ap parsed e)))
+        (cc, rw w at (query-accepted ours ks query q (p ∙ ap parsed e)))
     go (Parse.refused n) p f = impossible cc
 
 -- what passes `check` is accepted, the policy and then the query
-pub check-accepted : (policy query : List ℕ) (es : List Expr) (q : Expr) (v : Verdict) → check policy query ≡ checked es q v → AcceptedPair policy query es q v
+pub check-accepted : (ours : ℕ) (policy query : List ℕ) (es : List Expr) (q : Expr) (v : Verdict) → check ours policy query ≡ checked es q v → AcceptedPair ours policy query es q v
 unfolding check
-check-accepted policy query es q v h = go (checkPolicy policy) refl h
+check-accepted ours policy query es q v h = go (checkPolicy ours policy) refl h
   where
-    go : (c : PolicyChecked) → checkPolicy policy ≡ c →
-        (elim c as (λ d. Checked) [ passed xs fs ks ↦ checkAfter fs ks query | Definitions.refused n part ↦ Checking.refused n part ]) ≡ checked es q v → AcceptedPair policy query es q v
+    go : (c : PolicyChecked) → checkPolicy ours policy ≡ c →
+        (elim c as (λ d. Checked) [ passed xs fs ks ↦ checkAfter ours fs ks query | Definitions.refused n part ↦ Checking.refused n part ]) ≡ checked es q v → AcceptedPair ours policy query es q v
     go (passed xs fs ks) c f =
-        let t = after-accepted fs ks query es q v f in
-        let a = policy-accepted policy xs es ks (rw (t .0) at c) in
-        record { entries = xs; known = ks; listed = a .listed; definitions = a .definitions; asked = t .1 }
+        let t = after-accepted ours fs ks query es q v f in
+        let a = policy-accepted ours policy xs es ks (rw (t .0) at c) in
+        record { entries = xs; known = ks; key = a .key; listed = a .listed; definitions = a .definitions; asked = t .1 }
     go (Definitions.refused n part) c f = impossible cc
 
+-- "20 .. before all others"
+pub number-refused : (ours : ℕ) (policy query : List ℕ) → isKey ours ≡ false → check ours policy query ≡ Checking.refused notAKey noPart
+unfolding check checkPolicy
+number-refused ours policy query e = rw (e, check, checkPolicy)
+
 -- `judge` tells just what `check` finds
-pub judge-checked : (policy query : List ℕ) (v : Verdict) → (judge policy query ≡ verdict v) ↔ ((es : List Expr) × (q : Expr) × (check policy query ≡ checked es q v))
+pub judge-checked : (ours : ℕ) (policy query : List ℕ) (v : Verdict) → (judge ours policy query ≡ verdict v) ↔ ((es : List Expr) × (q : Expr) × (check ours policy query ≡ checked es q v))
 unfolding judge replyOf
-judge-checked policy query v = (go (check policy query), λ t. ap replyOf (t .2))
+judge-checked ours policy query v = (go (check ours policy query), λ t. ap replyOf (t .2))
   where
     go : (c : Checked) → replyOf c ≡ verdict v → (es : List Expr) × (q : Expr) × (c ≡ checked es q v)
     go (checked es q w) h = (es, q, cc)
     go (Checking.refused n part) h = impossible cc
 
-pub judge-refused : (policy query : List ℕ) (n part : ℕ) → (judge policy query ≡ refused n part) ↔ (check policy query ≡ Checking.refused n part)
+pub judge-refused : (ours : ℕ) (policy query : List ℕ) (n part : ℕ) → (judge ours policy query ≡ refused n part) ↔ (check ours policy query ≡ Checking.refused n part)
 unfolding judge replyOf
-judge-refused policy query n part = (go (check policy query), λ h. ap replyOf h)
+judge-refused ours policy query n part = (go (check ours policy query), λ h. ap replyOf h)
   where
     go : (c : Checked) → replyOf c ≡ refused n part → c ≡ Checking.refused n part
     go (checked es q w) h = impossible cc

@@ -5,6 +5,7 @@ pub mod LeafDecoding
 pub mod Decoding
 pub mod Decoded
 pub mod Scope
+pub mod OwnKey
 pub mod Judging
 pub mod Judged
 pub mod SoundTable

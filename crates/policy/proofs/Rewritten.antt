@@ -2,12 +2,15 @@
 use mathlib.Core.Path.{refl}
 use Rattle.policy.specs.Decoded.{again}
 use Rattle.policy.specs.Judged.{literal}
+use Rattle.policy.specs.External.{rewrite}
 use Rattle.policy.specs.Rewritten.{Rewrites, RewritesInto, nine, AllHold}
 
 pub table : AllHold
-unfolding Rewrites RewritesInto again literal nine
+unfolding rewrite Rewrites RewritesInto again literal nine
 table = record {
   later = (refl, refl, refl, refl);
+  ownNames = (refl, refl, refl, refl, refl);
+  ourKeys = (refl, refl, refl);
   elsewhere = (refl, refl, refl);
   withoutKeys = (refl, refl, refl, refl);
   formats = (refl, refl, (refl, refl), refl, refl, refl, refl, refl, refl);

@@ -12,7 +12,7 @@ use Rattle.policy.specs.Terms.{termWords, termRowWords}
 use Rattle.policy.specs.Leaf.{Leaf, finite, cofinite, definition, listed, vetted, leafWords}
 use Rattle.policy.specs.Syntax.{Expr, leaf, union, difference, comprehension, Body, head, draw, same, different, absent}
 use Rattle.policy.specs.Words.{slotWords, fresh, guardCount, each, exprWords, bodyWords}
-use Rattle.policy.specs.Polarity.{Known}
+use Rattle.policy.specs.Polarity.{Known, scopeOf}
 use Rattle.policy.specs.Format.{formatOf}
 use Rattle.policy.specs.Table.{Entry, entryWords}
 use Rattle.policy.specs.Definitions.{passed, checkPolicy}
@@ -38,9 +38,9 @@ unfolding leafWords vetLeaf All
 leaf-words (finite rs) w = w
 leaf-words (cofinite rs) w = w
 leaf-words (definition d) w = w
-leaf-words (listed t n plus) w = (omega arith, later-words (termWords t) _ _ (λ v. (v .0, (v .1 .0, (omega arith, tt)))) (w .1))
-leaf-words (listed t n minus) w = w
-leaf-words (vetted t n d) w = w
+leaf-words (listed t n plus o) w = (omega arith, later-words (termWords t) _ _ (λ v. (v .0, (v .1 .0, (omega arith, tt)))) (w .1))
+leaf-words (listed t n minus o) w = w
+leaf-words (vetted t n o d) w = w
 
 mutual
   unfolding exprWords eachLeaf
@@ -67,11 +67,11 @@ mutual
 abbrev OfWords : Expr → Type 0
 OfWords e = Words (exprWords e 0)
 
-accepted-words : (policy : List ℕ) → Words policy → {xs : List Entry} {ks ls : List Known} {es : List Expr} → Accepted policy xs ks es ls → All OfWords es
+accepted-words : (ours : ℕ) (policy : List ℕ) → Words policy → {xs : List Entry} {ks ls : List Known} {es : List Expr} → Accepted ours policy xs ks es ls → All OfWords es
 unfolding All
-accepted-words policy w none = tt
-accepted-words policy w (one {x = x} {ks = ks} {e = e} a rest) =
-    (subst Words (parse-words (length ks) (entryWords policy x) e (a .parses)) (entry-words policy x w), accepted-words policy w rest)
+accepted-words ours policy w none = tt
+accepted-words ours policy w (one {x = x} {ks = ks} {e = e} a rest) =
+    (subst Words (parse-words (scopeOf ours ks) (entryWords policy x) e (a .parses)) (entry-words policy x w), accepted-words ours policy w rest)
 
 all-words : (es : List Expr) → All OfWords es → All OfWords (vetAll es)
 unfolding All vetAll
@@ -101,15 +101,15 @@ cells-words due policy at was earlier (x ∷ xs) (e ∷ es) fine short =
     let rest = cells-words (due + length (exprWords e 0)) policy (at + 4) (x .offset + x .size) (x ∷ earlier) xs es (fine .2) (omega arith) in
     (omega arith, (omega arith, (omega arith, (omega arith, rest))))
 
-pub rewritten-words : (policy : List ℕ) (xs : List Entry) (es : List Expr) (ls : List Known) → checkPolicy policy ≡ passed xs es ls →
+pub rewritten-words : (ours : ℕ) (policy : List ℕ) (xs : List Entry) (es : List Expr) (ls : List Known) → checkPolicy ours policy ≡ passed xs es ls →
     length (policyWords (formatOf policy) xs (vetLater es)) ≤ 8192 → Words policy → Words (policyWords (formatOf policy) xs (vetLater es))
 unfolding All policyWords
-rewritten-words policy xs es ls h short w =
-    let a = policy-accepted policy xs es ls h in
+rewritten-words ours policy xs es ls h short w =
+    let a = policy-accepted ours policy xs es ls h in
     let sound = table-sound policy xs (a .listed) in
     let few : length xs ≤ 16 = omega (arith, sound .count, sound .header .count) in
     let format = all-at IsWord policy w 0 0 (omega (arith, sound .header .two)) in
     let size = policy-length (formatOf policy) xs (vetLater es) (accepted-lengths (a .definitions) ∙ sym (later-lengths es)) in
     let cells = cells-words (2 + 4 * length xs) policy 2 (2 + 4 * getD policy 1 0) [] xs (vetLater es) (sound .entries) (omega arith) in
-    let rest = parts-words (vetLater es) (vetted-words es (accepted-words policy w (a .definitions))) in
+    let rest = parts-words (vetLater es) (vetted-words es (accepted-words ours policy w (a .definitions))) in
     (format, (omega arith, all-both IsWord (each entryFour (placed (2 + 4 * length xs) xs (vetLater es))) (parts (vetLater es)) cells rest))

@@ -7,7 +7,8 @@ use lib.Dec.{T}
 use lib.ListN.{getD}
 use Rattle.rows.specs.Name.{Polarity, plus, minus, samePolarity}
 use Rattle.rows.proofs.Case.{T-left, T-right, T-and}
-use Rattle.policy.specs.Leaf.{Leaf, finite, cofinite, definition, listed, vetted, FitLeaf, leafHas, leafOpen}
+use Rattle.policy.specs.OwnKey.{Scope, reach}
+use Rattle.policy.specs.Leaf.{Leaf, finite, cofinite, definition, listed, vetted, FitLeaf, nameHas, leafHas, leafOpen}
 use Rattle.policy.specs.Syntax.{Expr, leaf, union, difference, comprehension, Body, head, draw, same, different, absent}
 use Rattle.policy.specs.Words.{fresh, guardCount}
 use Rattle.policy.specs.WellFormed.{Fit, FitBody, depth, bodyDepth, drawCount, bodyDraws, WellFormed}
@@ -39,26 +40,26 @@ mutual
   each-same-in (different x y b) = rw (each-same-in b)
   each-same-in (absent r e b) = rw (each-same e, each-same-in b)
 
-module _ (m : ℕ) (first : 0 < m) where
-  fit-leaf : (n : ℕ) (x : Leaf) → FitLeaf m n x → FitLeaf m n (vetLeaf x)
+module _ (scope : Scope) (first : 0 < reach scope) where
+  fit-leaf : (n : ℕ) (x : Leaf) → FitLeaf scope n x → FitLeaf scope n (vetLeaf x)
   unfolding FitLeaf vetLeaf
   fit-leaf n (finite rs) f = f
   fit-leaf n (cofinite rs) f = f
   fit-leaf n (definition d) f = f
-  fit-leaf n (listed t name plus) f = (f .0, f .1, first)
-  fit-leaf n (listed t name minus) f = f
-  fit-leaf n (vetted t name d) f = f
+  fit-leaf n (listed t name plus o) f = (f .0, f .1, f .2, first)
+  fit-leaf n (listed t name minus o) f = f
+  fit-leaf n (vetted t name o d) f = f
 
   mutual
     unfolding Fit eachLeaf
 
-    pub vet-fit : (n : ℕ) (e : Expr) → Fit m n e → Fit m n (vet e)
+    pub vet-fit : (n : ℕ) (e : Expr) → Fit scope n e → Fit scope n (vet e)
     vet-fit n (leaf x) f = fit-leaf n x f
     vet-fit n (union a b) f = (vet-fit n a (f .0), vet-fit n b (f .1))
     vet-fit n (difference a b) f = (vet-fit n a (f .0), vet-fit n b (f .1))
     vet-fit n (comprehension b) f = (omega (arith, f .0, each-guards vetLeaf b), body-fit n b (f .1))
 
-    body-fit : (n : ℕ) (b : Body) → FitBody m n b → FitBody m n (vetBody b)
+    body-fit : (n : ℕ) (b : Body) → FitBody scope n b → FitBody scope n (vetBody b)
     body-fit n (head r) f = f
     body-fit n (draw e s b) f = (vet-fit n e (f .0), f .1, body-fit (n + fresh s) b (f .2))
     body-fit n (same x y b) f = (f .0, f .1, body-fit n b (f .2))
@@ -97,8 +98,8 @@ mutual
   body-draws (different x y b) = body-draws b
   body-draws (absent r e b) = rw (vet-draws e, body-draws b)
 
-pub vet-formed : (m : ℕ) → 0 < m → (e : Expr) → WellFormed m e → WellFormed m (vet e)
-vet-formed m h e w = record { fit = vet-fit m h 0 e (w .fit); shallow = omega (arith, w .shallow, vet-depth e); draws = omega (arith, w .draws, vet-draws e) }
+pub vet-formed : (scope : Scope) → 0 < reach scope → (e : Expr) → WellFormed scope e → WellFormed scope (vet e)
+vet-formed scope h e w = record { fit = vet-fit scope h 0 e (w .fit); shallow = omega (arith, w .shallow, vet-depth e); draws = omega (arith, w .draws, vet-draws e) }
 
 module _ (ks : List Known) where
   open-leaf : (x : Leaf) → leafOpen (vetLeaf x) ks ≡ leafOpen x ks
@@ -106,9 +107,9 @@ module _ (ks : List Known) where
   open-leaf (finite rs) = refl
   open-leaf (cofinite rs) = refl
   open-leaf (definition d) = refl
-  open-leaf (listed t n plus) = refl
-  open-leaf (listed t n minus) = refl
-  open-leaf (vetted t n d) = refl
+  open-leaf (listed t n plus o) = refl
+  open-leaf (listed t n minus o) = refl
+  open-leaf (vetted t n o d) = refl
 
   pub vet-open : (e : Expr) → openExpr (vet e) ks ≡ openExpr e ks
   unfolding openExpr eachLeaf
@@ -140,9 +141,10 @@ module _ (ks : List Known) where
     has-leaf (finite rs) t h = h
     has-leaf (cofinite rs) t h = h
     has-leaf (definition d) t h = h
-    has-leaf (listed i n plus) t h = subst (λ (p : Polarity). T (samePolarity p minus)) (sym keys) tt
-    has-leaf (listed i n minus) t h = h
-    has-leaf (vetted i n d) t h = h
+    has-leaf (listed i n plus o) t h =
+        T-and (nameHas plus o ks plus) (samePolarity (getD ks 0 unknown .declared) minus) .1 (h, subst (λ (p : Polarity). T (samePolarity p minus)) (sym keys) tt)
+    has-leaf (listed i n minus o) t h = h
+    has-leaf (vetted i n o d) t h = h
 
     mutual
       unfolding externalExpr hasPolarity eachLeaf

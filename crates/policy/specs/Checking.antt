@@ -1,4 +1,4 @@
--- Document 01, refusals 1 to 7 of a policy and a query in their order: the policy's, then the query's.
+-- Document 01, refusals 1 to 7 of a policy and a query in their order: the policy's, then the query's; before them document 02's 20 (N7).
 use Prim.Native.Nat.{ℕ}
 use mathlib.Core.Bool.{Bool, true, false, _&&_, _||_}
 use mathlib.Core.List.{List}
@@ -9,7 +9,7 @@ use Rattle.rows.specs.Name.{plus, minus}
 use Rattle.policy.specs.Syntax.{Expr}
 use Rattle.policy.specs.Parse.{Parsed, parsed, parse}
 use Rattle.policy.specs.Parse as Parse
-use Rattle.policy.specs.Polarity.{Known, hasPolarity, drawsClosed, Verdict, exact, lower, upper}
+use Rattle.policy.specs.Polarity.{Known, scopeOf, hasPolarity, drawsClosed, Verdict, exact, lower, upper}
 use Rattle.policy.specs.Definitions.{polarized, passed, checkPolicy}
 use Rattle.policy.specs.Definitions as Definitions
 
@@ -19,10 +19,10 @@ pub data Checked : Type 0 where
   refused : ℕ → ℕ → Checked
 
 -- "A query is one expression of 1 to 1,024 words."
-unfoldable pub checkQuery : List Known → List ℕ → Parsed
+unfoldable pub checkQuery : ℕ → List Known → List ℕ → Parsed
 unfolding parse polarized hasPolarity drawsClosed
-checkQuery ks query = elim (leb 1 (length query) && leb (length query) 1024) [
-  | true ↦ elim (parse (length ks) query) [
+checkQuery ours ks query = elim (leb 1 (length query) && leb (length query) 1024) [
+  | true ↦ elim (parse (scopeOf ours ks) query) [
     | parsed e ↦ polarized (hasPolarity e ks plus || hasPolarity e ks minus) (drawsClosed e ks) e
     | Parse.refused n ↦ Parse.refused n
   ]
@@ -36,13 +36,14 @@ verdictOf true false = lower
 verdictOf false hasMinus = upper
 
 -- a query after these definitions
-unfoldable pub checkAfter : List Expr → List Known → List ℕ → Checked
+unfoldable pub checkAfter : ℕ → List Expr → List Known → List ℕ → Checked
 unfolding checkQuery verdictOf hasPolarity
-checkAfter es ks query = elim (checkQuery ks query) [
+checkAfter ours es ks query = elim (checkQuery ours ks query) [
   | parsed q ↦ checked es q (verdictOf (hasPolarity q ks plus) (hasPolarity q ks minus))
   | Parse.refused n ↦ refused n queryPart
 ]
 
-unfoldable pub check : List ℕ → List ℕ → Checked
+-- under this key of ours
+unfoldable pub check : ℕ → List ℕ → List ℕ → Checked
 unfolding checkPolicy checkAfter
-check policy query = elim (checkPolicy policy) [ passed xs es ks ↦ checkAfter es ks query | Definitions.refused n part ↦ refused n part ]
+check ours policy query = elim (checkPolicy ours policy) [ passed xs es ks ↦ checkAfter ours es ks query | Definitions.refused n part ↦ refused n part ]

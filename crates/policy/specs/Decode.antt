@@ -5,6 +5,7 @@ use mathlib.Core.Bool.{Bool, true, false, _&&_}
 use mathlib.Core.List.{List, [], _∷_}
 use lib.Dec.{leb, ltb, eqb}
 use Rattle.refusals.specs.RefusalTable.{badWord, notInScope, tooDeep}
+use Rattle.policy.specs.OwnKey.{Scope}
 use Rattle.policy.specs.Leaf.{LeafCode, leafOf, someLeaf, leafAs}
 pub use Rattle.policy.specs.Readers.{Read, got, refused, Reader, after, _>>=_, _>>_, give, refuse, need, word, Tag, isAtom, isVar, isNew, noTag}
 unfoldable pub use Rattle.policy.specs.Readers.{wordWhere, times, polarity, tagOf, termAs, anyAtom, term, issuer, width, row, rows}
@@ -127,30 +128,30 @@ unfolding someCode codeOf
 isCode c = someCode (codeOf c)
 
 -- what follows a code that is read
-unfoldable pub exprAs : ℕ → (ℕ → Reader Expr) → ℕ → Code → Reader Expr
+unfoldable pub exprAs : Scope → (ℕ → Reader Expr) → ℕ → Code → Reader Expr
 unfolding leafAs wordWhere body
-exprAs known inner n (isLeaf l) = do
-  x ← leafAs known n l
+exprAs s inner n (isLeaf l) = do
+  x ← leafAs s n l
   give (leaf x)
-exprAs known inner n isUnion = do
+exprAs s inner n isUnion = do
   a ← inner n
   b ← inner n
   give (union a b)
-exprAs known inner n isDifference = do
+exprAs s inner n isDifference = do
   a ← inner n
   b ← inner n
   give (difference a b)
-exprAs known inner n isComprehension = do
+exprAs s inner n isComprehension = do
   c ← wordWhere badWord (λ c. leb c 8)
   b ← body inner c n
   give (comprehension b)
 
 -- an expression with so many levels of depth left; with none left it is refused "at its code word"
-unfoldable pub expr : ℕ → ℕ → ℕ → Reader Expr
+unfoldable pub expr : Scope → ℕ → ℕ → Reader Expr
 unfolding wordWhere isCode exprAs codeOf
-expr known zero n = do
+expr s zero n = do
   c ← wordWhere badWord isCode
   refuse tooDeep
-expr known (suc levels) n = do
+expr s (suc levels) n = do
   c ← word
-  exprAs known (λ m. expr known levels m) n (codeOf c)
+  exprAs s (λ m. expr s levels m) n (codeOf c)

@@ -1,8 +1,10 @@
--- Words with the number that the decoder refuses them with: document 01's rules of refusals 3, 4 and 5 by example.
+-- Words with the number that the decoder refuses them with: document 01's rules of refusals 3, 4 and 5 by example, as document 02 changes them.
 use Prim.Native.Nat.{ℕ, zero, suc, _+_}
 use mathlib.Core.Path.{_≡_}
 use mathlib.Core.List.{List, [], _∷_, _++_}
 use Rattle.refusals.specs.RefusalTable.{badWord, notInScope, tooDeep}
+use Rattle.rows.specs.Name.{plus, minus}
+use Rattle.policy.specs.OwnKey.{Scope}
 use Rattle.policy.specs.Parse.{Parsed, parsed, refused, parse}
 
 -- the refusal's number; 0 where there is none
@@ -10,10 +12,16 @@ unfoldable pub numberOf : Parsed → ℕ
 numberOf (parsed e) = 0
 numberOf (refused n) = n
 
--- two definitions being available
+-- our key, k2; and two definitions being available, name 10 + and name 11 −
+abbrev pub ours : ℕ
+ours = 2147483650
+
+abbrev pub twoAvailable : Scope
+twoAvailable = record { ourKey = ours; available = record { name = 10; polarity = plus } ∷ record { name = 11; polarity = minus } ∷ [] }
+
 unfoldable pub Decodes : List ℕ → ℕ → Type 0
 unfolding numberOf parse
-Decodes ws n = numberOf (parse 2 ws) ≡ n
+Decodes ws n = numberOf (parse twoAvailable ws) ≡ n
 
 -- so many times the same words, then the last ones
 unfoldable pub again : ℕ → List ℕ → List ℕ → List ℕ
@@ -83,6 +91,29 @@ pub record AllHold : Type 0 where
       × Decodes (8 ∷ 0 ∷ 2147483648 ∷ 65535 ∷ 1 ∷ 2 ∷ []) badWord
       × Decodes (8 ∷ 0 ∷ 2147483648 ∷ 65535 ∷ 0 ∷ 2 ∷ []) notInScope
       × Decodes (8 ∷ 0 ∷ 2147483648 ∷ 65535 ∷ 0 ∷ []) badWord
+  -- N7: an own name is that of an available definition, polarity too; "at its polarity word", whose own rule comes first, as do the words before it
+  pub ownNames :
+      Decodes (4 ∷ 0 ∷ ours ∷ 10 ∷ 0 ∷ []) 0
+      × Decodes (4 ∷ 0 ∷ ours ∷ 11 ∷ 1 ∷ []) 0
+      × Decodes (4 ∷ 0 ∷ ours ∷ 10 ∷ 1 ∷ []) notInScope
+      × Decodes (4 ∷ 0 ∷ ours ∷ 11 ∷ 0 ∷ []) notInScope
+      × Decodes (4 ∷ 0 ∷ ours ∷ 12 ∷ 0 ∷ []) notInScope
+      × Decodes (4 ∷ 0 ∷ ours ∷ 12 ∷ 2 ∷ []) badWord
+      × Decodes (4 ∷ 0 ∷ ours ∷ 65536 ∷ 0 ∷ []) badWord
+      × Decodes (4 ∷ 0 ∷ ours ∷ 12 ∷ []) badWord
+      × Decodes (5 ∷ 4 ∷ 0 ∷ ours ∷ 12 ∷ 0 ∷ 9 ∷ []) notInScope
+      × Decodes (4 ∷ 0 ∷ ours ∷ 12 ∷ 0 ∷ 9 ∷ []) notInScope
+  -- in code 8 too, where a polarity − is 3; this comes before the word of the definition that it names
+  pub ownVetted :
+      Decodes (8 ∷ 0 ∷ ours ∷ 10 ∷ 0 ∷ 1 ∷ []) 0
+      × Decodes (8 ∷ 0 ∷ ours ∷ 11 ∷ 0 ∷ 1 ∷ []) notInScope
+      × Decodes (8 ∷ 0 ∷ ours ∷ 11 ∷ 1 ∷ 1 ∷ []) badWord
+      × Decodes (8 ∷ 0 ∷ ours ∷ 10 ∷ 0 ∷ 2 ∷ []) notInScope
+      × Decodes (8 ∷ 0 ∷ ours ∷ 11 ∷ 0 ∷ []) notInScope
+      × Decodes (8 ∷ 0 ∷ ours ∷ 10 ∷ 0 ∷ []) badWord
+  -- "A variable that happens to hold our key still reads certificates": of whatever name
+  pub ownByVariable :
+      Decodes (7 ∷ 2 ∷ 1 ∷ 1 ∷ 1 ∷ 1 ∷ 0 ∷ ours ∷ 1 ∷ 2 ∷ 0 ∷ 1 ∷ 4 ∷ 1 ∷ 0 ∷ 12 ∷ 0 ∷ 1 ∷ 2 ∷ 1 ∷ 1 ∷ 1 ∷ 1 ∷ []) 0
   -- words left over
   pub leftOver :
       Decodes (3 ∷ 1 ∷ 0 ∷ []) badWord

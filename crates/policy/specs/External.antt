@@ -1,5 +1,5 @@
 -- Document 02, N2: "the external language of source document 000, section 6": which policies are external, the words that one is rewritten into, and the
--- refusals. (To vet is our word for what becomes of a code 4; an external policy's compromised keys are the rows of its definition 0.)
+-- refusals. N7: our own names are guarded as all others are. (To vet is our word for what becomes of a code 4; an external policy's compromised keys are the rows of its definition 0.)
 use Prim.Native.Nat.{ℕ, _+_, _*_}
 use mathlib.Core.Bool.{Bool, true, false, _&&_}
 use mathlib.Core.List.{List, [], _∷_, _++_}
@@ -22,8 +22,8 @@ unfoldable pub externalLeaf : Polarity → Leaf → Bool
 externalLeaf p (finite rs) = true
 externalLeaf p (cofinite rs) = true
 externalLeaf p (definition d) = true  -- of a definition that is read, refusal 6 has asked for the polarity
-externalLeaf p (listed t n q) = samePolarity q p
-externalLeaf p (vetted t n d) = false
+externalLeaf p (listed t n q o) = samePolarity q p
+externalLeaf p (vetted t n o d) = false
 
 unfoldable mutual
   unfolding externalLeaf
@@ -72,9 +72,9 @@ unfoldable pub vetLeaf : Leaf → Leaf
 vetLeaf (finite rs) = finite rs
 vetLeaf (cofinite rs) = cofinite rs
 vetLeaf (definition d) = definition d
-vetLeaf (listed t n plus) = vetted t n 0
-vetLeaf (listed t n minus) = listed t n minus
-vetLeaf (vetted t n d) = vetted t n d
+vetLeaf (listed t n plus o) = vetted t n o 0
+vetLeaf (listed t n minus o) = listed t n minus o
+vetLeaf (vetted t n o d) = vetted t n o d
 
 -- an expression with each of its leaves changed
 module _ (f : Leaf → Leaf) where
@@ -147,9 +147,9 @@ pub data Rewriting : Type 0 where
   refused : ℕ → ℕ → Rewriting
 
 -- "15, an external rule is broken or the output would pass 8,192 words, after 7"
-unfoldable pub rewrite : List ℕ → Rewriting
+unfoldable pub rewrite : ℕ → List ℕ → Rewriting
 unfolding checkPolicy isExternal output
-rewrite policy = elim (checkPolicy policy) [
+rewrite ours policy = elim (checkPolicy ours policy) [
   | passed xs es ks ↦ elim (isExternal xs es && leb (length (output policy xs es)) 8192) [
     | true ↦ rewritten (output policy xs es)
     | false ↦ refused notExternal noPart
@@ -158,9 +158,9 @@ rewrite policy = elim (checkPolicy policy) [
 ]
 
 -- "an output area too short gets 11 after that"
-unfoldable pub rewriteInto : List ℕ → List ℕ → Rewriting
+unfoldable pub rewriteInto : ℕ → List ℕ → List ℕ → Rewriting
 unfolding rewrite
-rewriteInto policy area = elim (rewrite policy) [
+rewriteInto ours policy area = elim (rewrite ours policy) [
   | rewritten out ↦ elim (leb (length out) (length area)) [ true ↦ rewritten out | false ↦ refused shortArea noPart ]
   | refused n part ↦ refused n part
 ]

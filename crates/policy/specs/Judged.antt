@@ -1,17 +1,23 @@
--- Policies and queries with the reply that they get: document 01's rules of refusals 1 to 7 and of verdicts by example, as document 02 changes them.
+-- Policies and queries with the reply that they get: document 01's rules of refusals 1 to 7 and of verdicts by example, as document 02 changes them, and its
+-- refusal 20.
 use Prim.Native.Nat.{ℕ, _+_}
 use mathlib.Core.Path.{_≡_}
 use mathlib.Core.List.{List, [], _∷_, _++_}
 use lib.ListN.{length, drop, replicate}
-use Rattle.refusals.specs.RefusalTable.{badHeader, badTable, badWord, notInScope, tooDeep, noPolarity, openDraw, queryPart, noPart}
+use Rattle.refusals.specs.RefusalTable.{badHeader, badTable, badWord, notInScope, tooDeep, noPolarity, openDraw, notAKey, queryPart, noPart}
 use Rattle.policy.specs.Polarity.{exact, lower, upper}
 use Rattle.policy.specs.Format.{widerRows}
 use Rattle.policy.specs.Judgement.{JudgementReply, verdict, refused, judge}
-use Rattle.policy.specs.Decoded.{again, unions}
+use Rattle.policy.specs.Decoded.{ours, again, unions}
+
+-- under this key of ours; "Cases a to l are given k2"
+unfoldable pub JudgesUnder : ℕ → List ℕ → List ℕ → JudgementReply → Type 0
+unfolding judge
+JudgesUnder key policy query reply = judge key policy query ≡ reply
 
 unfoldable pub Judges : List ℕ → List ℕ → JudgementReply → Type 0
-unfolding judge
-Judges policy query reply = judge policy query ≡ reply
+unfolding JudgesUnder
+Judges = JudgesUnder ours
 
 -- the key k1
 abbrev pub k1 : ℕ
@@ -59,6 +65,13 @@ notSeven = 2 ∷ 1 ∷ 1 ∷ 0 ∷ 7 ∷ []
 -- code 8 of document 02, N2: k1's name 1 with a polarity, k1 being looked up in definition d
 abbrev pub vetted : ℕ → ℕ → List ℕ
 vetted p d = 8 ∷ 0 ∷ k1 ∷ 1 ∷ p ∷ d ∷ []
+
+-- document 02, N7: our own name of this number with a polarity; the same in code 8, our key being looked up in definition d
+abbrev pub own : ℕ → ℕ → List ℕ
+own n p = 4 ∷ 0 ∷ ours ∷ n ∷ p ∷ []
+
+abbrev pub ownVetted : ℕ → ℕ → List ℕ
+ownVetted n d = 8 ∷ 0 ∷ ours ∷ n ∷ 0 ∷ d ∷ []
 
 -- guards: variable n drawn from a set of rows of one atom, row 7 absent from a set
 abbrev pub drawn : ℕ → List ℕ → List ℕ
@@ -165,6 +178,49 @@ pub record AllHold : Type 0 where
       × Judges (twoOf 1 allowed 0 (vetted 0 1)) (3 ∷ 1 ∷ []) (refused notInScope 1)
       × Judges (two seven (vetted 0 0)) (3 ∷ 1 ∷ []) (refused noPolarity 1)
       × Judges (twoOf 1 allowed 0 (vetted 0 0)) (drawAll (3 ∷ 1 ∷ [])) (verdict lower)
+  -- N7: our own name "reads the definition of that name and polarity, if it is available at that place": one before it, in a query any
+  pub ownNames :
+      Judges (two released (own 10 0)) (own 11 0) (verdict lower)
+      × Judges (twoOf 1 allowed 1 (own 10 1)) (own 11 1) (verdict upper)
+      × Judges (one 0 released) (own 10 1) (refused notInScope queryPart)
+      × Judges (one 0 released) (own 11 0) (refused notInScope queryPart)
+      × Judges (two released (own 10 1)) Q (refused notInScope 1)
+      × Judges (two (own 11 0) released) Q (refused notInScope 0)
+      × Judges (one 0 (own 10 0)) Q (refused notInScope 0)
+      × Judges noDefinitions (own 10 0) (refused notInScope queryPart)
+  -- it has the polarity of its definition, the one written
+  pub ofOwnNames :
+      Judges (one 0 seven) (own 10 0) (verdict lower)
+      × Judges (one 1 seven) (own 10 1) (verdict upper)
+      × Judges (one 1 seven) (6 ∷ (released ++ own 10 1)) (verdict lower)
+      × Judges (one 0 seven) (6 ∷ (released ++ own 10 0)) (refused noPolarity queryPart)
+      × Judges (two seven (7 ∷ 1 ∷ (absent7 (own 10 0) ++ (1 ∷ 0 ∷ 7 ∷ [])))) Q (refused noPolarity 1)
+  -- "its openness is that of the definition", whatever its polarity
+  pub openOwnNames :
+      Judges (one 1 seven) (drawAll (own 10 1)) (verdict upper)
+      × Judges (one 0 notSeven) (drawAll (own 10 0)) (refused openDraw queryPart)
+      × Judges (one 1 allowed) (drawAll (own 10 1)) (refused openDraw queryPart)
+      × Judges (one 0 released) (drawAll (own 10 0)) (verdict lower)
+  -- "Code 8 with our key does the same for the list that it guards, openness too."
+  pub ownVetteds :
+      Judges (twoOf 1 allowed 0 released) (ownVetted 11 0) (verdict lower)
+      × Judges (twoOf 1 allowed 0 released) (drawAll (ownVetted 11 0)) (verdict lower)
+      × Judges (twoOf 1 allowed 0 notSeven) (ownVetted 11 0) (verdict lower)
+      × Judges (twoOf 1 allowed 0 notSeven) (drawAll (ownVetted 11 0)) (refused openDraw queryPart)
+      × Judges (twoOf 1 allowed 0 released) (ownVetted 11 1) (refused noPolarity queryPart)
+      × Judges (twoOf 1 allowed 0 released) (ownVetted 10 0) (refused notInScope queryPart)
+      × Judges (twoOf 1 allowed 0 (ownVetted 11 0)) Q (refused notInScope 1)
+  -- "20, the number given as our key is not a key, before all others": from k0 on words are keys
+  pub ourKeys :
+      JudgesUnder 0 [] [] (refused notAKey noPart)
+      × JudgesUnder 2147483647 P Q (refused notAKey noPart)
+      × JudgesUnder 2147483648 P Q (verdict lower)
+      × JudgesUnder 4294967295 P Q (verdict lower)
+  -- under k1 its lists are ours, and there is no such definition
+  pub otherKeys :
+      JudgesUnder k1 P Q (refused notInScope 0)
+      × JudgesUnder k1 (one 0 seven) released (refused notInScope queryPart)
+      × JudgesUnder k1 (one 0 seven) (4 ∷ 0 ∷ k1 ∷ 10 ∷ 0 ∷ []) (verdict lower)
   -- "5 has those common to its parts"
   pub ofUnions :
       Judges noDefinitions (5 ∷ (released ++ seven)) (verdict lower)

@@ -1,4 +1,4 @@
--- What a caller is told of a policy and a query: the verdict, or the refusal's number and part.
+-- What a caller is told of a policy and a query, under a key of ours: the verdict, or the refusal's number and part.
 use Prim.Native.Nat.{ℕ}
 use mathlib.Core.List.{List}
 use Rattle.policy.specs.Polarity.{Verdict}
@@ -13,6 +13,6 @@ unfoldable pub replyOf : Checked → JudgementReply
 replyOf (checked es q v) = verdict v
 replyOf (Checking.refused n part) = refused n part
 
-unfoldable pub judge : List ℕ → List ℕ → JudgementReply
+unfoldable pub judge : ℕ → List ℕ → List ℕ → JudgementReply
 unfolding check replyOf
-judge policy query = replyOf (check policy query)
+judge ours policy query = replyOf (check ours policy query)

@@ -1,5 +1,6 @@
 pub mod Terms
 pub mod Readers
+pub mod OwnKey
 pub mod Leaf
 pub mod Syntax
 pub mod Words

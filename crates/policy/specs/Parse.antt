@@ -2,6 +2,7 @@
 use Prim.Native.Nat.{ℕ}
 use mathlib.Core.List.{List, [], _∷_}
 use Rattle.refusals.specs.RefusalTable.{badWord}
+use Rattle.policy.specs.OwnKey.{Scope}
 use Rattle.policy.specs.Syntax.{Expr}
 use Rattle.policy.specs.Readers.{Read, got}
 use Rattle.policy.specs.Readers as Readers
@@ -18,6 +19,6 @@ noneLeft (got e (w ∷ ws) k) = refused badWord
 noneLeft (Readers.refused n) = refused n
 
 -- a whole definition or query: 15 levels of depth, no variables, no draws yet
-unfoldable pub parse : ℕ → List ℕ → Parsed
+unfoldable pub parse : Scope → List ℕ → Parsed
 unfolding expr noneLeft
-parse known ws = noneLeft (expr known 15 0 ws 0)
+parse s ws = noneLeft (expr s 15 0 ws 0)

@@ -4,7 +4,7 @@ use mathlib.Core.Bool.{Bool, true, false, not, _&&_, _||_}
 use mathlib.Core.List.{List}
 use Rattle.rows.specs.Name.{Polarity, opposite}
 use Rattle.policy.specs.Leaf.{leafHas, leafOpen}
-pub use Rattle.policy.specs.Leaf.{Known, unknown}
+pub use Rattle.policy.specs.Leaf.{Known, unknown, scopeOf}
 use Rattle.policy.specs.Syntax.{Expr, leaf, union, difference, comprehension, Body, head, draw, same, different, absent}
 
 unfoldable mutual

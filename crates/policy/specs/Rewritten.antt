@@ -1,17 +1,22 @@
--- External policies with what they are rewritten into, or the refusal: document 02's N2 by example, with the formats of N6.
+-- External policies with what they are rewritten into, or the refusal: document 02's N2 by example, with the formats of N6 and
+-- our own key of N7.
 use Prim.Native.Nat.{ℕ, _+_}
 use mathlib.Core.Path.{_≡_}
 use mathlib.Core.List.{List, [], _∷_, _++_}
 use lib.ListN.{length, replicate}
-use Rattle.refusals.specs.RefusalTable.{badHeader, badTable, badWord, noPolarity, openDraw, shortArea, notExternal, noPart}
+use Rattle.refusals.specs.RefusalTable.{badHeader, badTable, badWord, notInScope, noPolarity, openDraw, shortArea, notExternal, notAKey, noPart}
 use Rattle.policy.specs.Format.{widerRows}
 use Rattle.policy.specs.Decoded.{again}
 use Rattle.policy.specs.Judged.{k1, P, noDefinitions, inFormat, one, two, twoOf, released, allowed, seven, notSeven, vetted, absent7, drawAll, literal}
 use Rattle.policy.specs.External.{Rewriting, rewritten, refused, rewrite, rewriteInto, areaAfter}
 
+-- our key, k9
+abbrev pub k9 : ℕ
+k9 = 2147483657
+
 unfoldable pub Rewrites : List ℕ → Rewriting → Type 0
 unfolding rewrite
-Rewrites policy r = rewrite policy ≡ r
+Rewrites policy r = rewrite k9 policy ≡ r
 
 -- the same words come out
 abbrev pub Stays : List ℕ → Type 0
@@ -19,7 +24,7 @@ Stays policy = Rewrites policy (rewritten policy)
 
 unfoldable pub RewritesInto : List ℕ → List ℕ → Rewriting → List ℕ → Type 0
 unfolding rewriteInto areaAfter
-RewritesInto policy area r after = (rewriteInto policy area ≡ r) × (areaAfter r area ≡ after)
+RewritesInto policy area r after = (rewriteInto k9 policy area ≡ r) × (areaAfter r area ≡ after)
 
 -- the key k2
 abbrev pub k2 : ℕ
@@ -55,6 +60,13 @@ byVariable = 7 ∷ 2 ∷ 1 ∷ 4 ∷ 0 ∷ k2 ∷ 3 ∷ 0 ∷ 1 ∷ 2 ∷ 0 ∷ 
 abbrev pub byVariableOut : List ℕ
 byVariableOut = 7 ∷ 2 ∷ 1 ∷ 8 ∷ 0 ∷ k2 ∷ 3 ∷ 0 ∷ 0 ∷ 1 ∷ 2 ∷ 0 ∷ 1 ∷ 8 ∷ 1 ∷ 0 ∷ 5 ∷ 0 ∷ 0 ∷ 1 ∷ 2 ∷ 1 ∷ 1 ∷ 1 ∷ 1 ∷ []
 
+-- a third definition that reads the one before it by our own name: 29 words; and what that is rewritten into
+abbrev pub ownThird : List ℕ
+ownThird = 1 ∷ 3 ∷ 0 ∷ 1 ∷ 14 ∷ 5 ∷ 10 ∷ 0 ∷ 19 ∷ 5 ∷ 11 ∷ 0 ∷ 24 ∷ 5 ∷ 4 ∷ 0 ∷ k1 ∷ 0 ∷ 1 ∷ 4 ∷ 0 ∷ k2 ∷ 1 ∷ 0 ∷ 4 ∷ 0 ∷ k9 ∷ 10 ∷ 0 ∷ []
+
+abbrev pub ownThirdOut : List ℕ
+ownThirdOut = 1 ∷ 3 ∷ 0 ∷ 1 ∷ 14 ∷ 5 ∷ 10 ∷ 0 ∷ 19 ∷ 6 ∷ 11 ∷ 0 ∷ 25 ∷ 6 ∷ 4 ∷ 0 ∷ k1 ∷ 0 ∷ 1 ∷ 8 ∷ 0 ∷ k2 ∷ 1 ∷ 0 ∷ 0 ∷ 8 ∷ 0 ∷ k9 ∷ 10 ∷ 0 ∷ 0 ∷ []
+
 -- row 7 if it is absent from a set
 abbrev pub sevenUnless : List ℕ → List ℕ
 sevenUnless e = 7 ∷ 1 ∷ (absent7 e ++ (1 ∷ 0 ∷ 7 ∷ []))
@@ -73,6 +85,18 @@ pub record AllHold : Type 0 where
       × Rewrites three (rewritten threeOut)
       × Rewrites (keysThen delegated 0 (5 ∷ 4 ∷ 0 ∷ k2 ∷ 1 ∷ 0 ∷ 4 ∷ 0 ∷ k1 ∷ 4 ∷ 0 ∷ [])) (rewritten (keysThen delegated 0 (5 ∷ 8 ∷ 0 ∷ k2 ∷ 1 ∷ 0 ∷ 0 ∷ 8 ∷ 0 ∷ k1 ∷ 4 ∷ 0 ∷ 0 ∷ [])))
       × Rewrites (keysThen delegated 0 byVariable) (rewritten (keysThen delegated 0 byVariableOut))
+  -- N7: our own names too, of a definition that is available
+  pub ownNames :
+      Rewrites ownThird (rewritten ownThirdOut)
+      × Rewrites (keysThen delegated 0 (4 ∷ 0 ∷ k9 ∷ 10 ∷ 0 ∷ [])) (refused notInScope 1)
+      × Rewrites (keysThen delegated 0 (4 ∷ 0 ∷ k9 ∷ 0 ∷ 1 ∷ [])) (refused noPolarity 1)
+      × Rewrites (keysThen (4 ∷ 0 ∷ k9 ∷ 0 ∷ 1 ∷ []) 0 released) (refused notInScope 0)
+      × Stays (two released (4 ∷ 0 ∷ k9 ∷ 10 ∷ 0 ∷ []))
+  -- "20 .. before all others"
+  pub ourKeys :
+      (rewrite 0 [] ≡ refused notAKey noPart)
+      × (rewrite 2147483647 delegating ≡ refused notAKey noPart)
+      × (rewrite 2147483648 delegating ≡ rewritten delegatingOut)
   -- all else stays: definition 0, literals (an atom 4 too), other definitions
   pub elsewhere :
       Stays (1 ∷ 1 ∷ 0 ∷ 1 ∷ 6 ∷ 5 ∷ delegated)

@@ -3,6 +3,7 @@ use Prim.Native.Nat.{ℕ, suc, _+_, _≤_, max}
 use mathlib.Core.List.{List, [], _∷_}
 use lib.ListN.{length}
 use Rattle.policy.specs.Syntax.{Slot, old, new, Expr, leaf, union, difference, comprehension, Body, head, draw, same, different, absent}
+use Rattle.policy.specs.OwnKey.{Scope}
 use Rattle.policy.specs.Leaf.{FitLeaf}
 pub use Rattle.policy.specs.Terms.{FitRow, FitRows}
 unfoldable pub use Rattle.policy.specs.Terms.{FitTerm, FitIssuer}
@@ -23,19 +24,19 @@ pub record FitPattern (n : ℕ) (p : List Slot) : Type 0 where
 unfoldable mutual
   unfolding FitTerm FitLeaf fresh guardCount
 
-  pub Fit : ℕ → ℕ → Expr → Type 0
-  Fit m n (leaf x) = FitLeaf m n x
-  Fit m n (union a b) = Fit m n a × Fit m n b
-  Fit m n (difference a b) = Fit m n a × Fit m n b
-  Fit m n (comprehension b) = (guardCount b ≤ 8) × FitBody m n b
+  pub Fit : Scope → ℕ → Expr → Type 0
+  Fit s n (leaf x) = FitLeaf s n x
+  Fit s n (union a b) = Fit s n a × Fit s n b
+  Fit s n (difference a b) = Fit s n a × Fit s n b
+  Fit s n (comprehension b) = (guardCount b ≤ 8) × FitBody s n b
 
   -- "Variables end with their comprehension": each guard sees those of the draws before it
-  pub FitBody : ℕ → ℕ → Body → Type 0
-  FitBody m n (head r) = FitRow n r
-  FitBody m n (draw e p b) = Fit m n e × FitPattern n p × FitBody m (n + fresh p) b
-  FitBody m n (same x y b) = FitTerm n x × FitTerm n y × FitBody m n b
-  FitBody m n (different x y b) = FitTerm n x × FitTerm n y × FitBody m n b
-  FitBody m n (absent r e b) = FitRow n r × Fit m n e × FitBody m n b
+  pub FitBody : Scope → ℕ → Body → Type 0
+  FitBody s n (head r) = FitRow n r
+  FitBody s n (draw e p b) = Fit s n e × FitPattern n p × FitBody s (n + fresh p) b
+  FitBody s n (same x y b) = FitTerm n x × FitTerm n y × FitBody s n b
+  FitBody s n (different x y b) = FitTerm n x × FitTerm n y × FitBody s n b
+  FitBody s n (absent r e b) = FitRow n r × Fit s n e × FitBody s n b
 
 -- "A whole definition or query stands at depth 1, each expression directly inside another one deeper"
 unfoldable mutual
@@ -67,8 +68,8 @@ unfoldable mutual
   bodyDraws (different x y b) = bodyDraws b
   bodyDraws (absent r e b) = drawCount e + bodyDraws b
 
--- a whole definition or query, with m definitions before it
-pub record WellFormed (m : ℕ) (e : Expr) : Type 0 where
-  pub fit : Fit m 0 e
+-- a whole definition or query
+pub record WellFormed (s : Scope) (e : Expr) : Type 0 where
+  pub fit : Fit s 0 e
   pub shallow : depth e ≤ 15
   pub draws : drawCount e ≤ 8

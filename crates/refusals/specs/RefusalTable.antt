@@ -78,6 +78,10 @@ badLink = 18
 abbrev pub linksFull : ℕ
 linksFull = 19
 
+-- 20 (document 02, N7): the number given as our key is not a key
+abbrev pub notAKey : ℕ
+notAKey = 20
+
 -- With a refusal of a policy or a query comes its part: 0 to 15 a definition, 16 the query, 17 neither.
 abbrev pub queryPart : ℕ
 queryPart = 16

@@ -37,6 +37,8 @@ pub const BAD_LINK: u32 = 18;
 
 pub const LINKS_FULL: u32 = 19;
 
+pub const NOT_A_KEY: u32 = 20;
+
 // The parts that are no definition.
 pub const QUERY_PART: u32 = 16;
 
