@@ -16,6 +16,7 @@ use Rattle.rows.proofs.Order.{row-order}
 use Rattle.rows.proofs.Lists.{all-in, all-left, all-right}
 use Rattle.rows.proofs.Ordered.{insert-∈}
 use Rattle.rows.proofs.Sets.{only-iff, unite-iff, subtract-iff}
+use Rattle.policy.specs.OwnKey.{Scope}
 use Rattle.policy.specs.Syntax.{Slot, Expr, leaf, union, difference, comprehension, Body, head, draw, same, different, absent}
 use Rattle.policy.specs.Words.{termWords, termRowWords, slotWords, fresh, exprWords, bodyWords}
 use Rattle.policy.specs.WellFormed.{Fit, FitBody}
@@ -142,7 +143,7 @@ module _ (format : ℕ) (names : Evidence) (W : World) (shows : Shows names W) (
         has-by (only (x .value)) s r _ (done-value (x .rest))
         (only-iff (x .value) r then none-first (x .value) r _ (gather-rows b m n (f .1) (t .1 .1) vs w [] k (x .value) (x .draws) (x .first) r i))
 
-    pub gather-rows : (b : Body) (m n : ℕ) → FitBody m n b → Words (bodyWords b n) → (vs : Values) → Words vs → (acc : List Row) (k : ℕ) (found : List Row) (j : ℕ) →
+    pub gather-rows : (b : Body) (m : Scope) (n : ℕ) → FitBody m n b → Words (bodyWords b n) → (vs : Values) → Words vs → (acc : List Row) (k : ℕ) (found : List Row) (j : ℕ) →
         gather format names sets b vs acc k ≡ done found j → Adds acc found (Passes format W D b vs)
     gather-rows (head h) m n f t vs w acc k found j q r i =
         subst (λ (ys : List Row). (r ∈ ys) ↔ ((r ∈ acc) ⊎ (r ≡ rowOf vs h))) (within-done _ found k j q .value)

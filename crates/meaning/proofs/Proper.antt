@@ -13,6 +13,7 @@ use Rattle.rows.specs.Row.{Row, IsRow, rowBefore}
 use Rattle.rows.specs.Sets.{RowSet, only, listing, Proper, mostRows, has, unite, subtract}
 use Rattle.rows.proofs.Lists.{all-left, all-right}
 use Rattle.rows.proofs.Sets.{none-proper, insert-proper, unite-proper, subtract-proper}
+use Rattle.policy.specs.OwnKey.{Scope}
 use Rattle.policy.specs.Syntax.{Slot, Expr, leaf, union, difference, comprehension, Body, head, draw, same, different, absent}
 use Rattle.policy.specs.Words.{termWords, termRowWords, slotWords, fresh, exprWords, bodyWords}
 use Rattle.policy.specs.WellFormed.{Fit, FitBody}
@@ -81,7 +82,7 @@ module _ (format : ℕ) (names : Evidence) (sets : List RowSet) (properNames : P
         let g = gather-tidy b m n (f .1) (t .1 .1) vs w [] k (x .value) (x .draws) (record { proper = none-proper; few = omega arith }) (x .first) in
         subst Tidy (done-value (x .rest)) (record { proper = g .proper; few = g .few })
 
-    pub gather-tidy : (b : Body) (m n : ℕ) → FitBody m n b → Words (bodyWords b n) → (vs : Values) → Words vs → Keeps (gather format names sets b vs)
+    pub gather-tidy : (b : Body) (m : Scope) (n : ℕ) → FitBody m n b → Words (bodyWords b n) → (vs : Values) → Words vs → Keeps (gather format names sets b vs)
     gather-tidy (head h) m n f t vs w acc k found j a q =
         let d = within-done (insert rowBefore (rowOf vs h) acc) found k j q in
         record { proper = subst Proper (d .value) (insert-proper (rowOf vs h) acc (row-of-terms n vs w h f t) (a .proper)); few = d .few }

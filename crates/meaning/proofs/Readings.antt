@@ -1,4 +1,5 @@
--- Small readings, by computation: what document 01's section "Reading" says of draws, of guards and of refusal 13, and document 02 of code 8 and of formats.
+-- Small readings, by computation: what document 01's section "Reading" says of draws, of guards and of refusal 13, and document 02 of code 8, of formats
+-- and of own names.
 use Prim.Native.Nat.{ℕ, zero, suc}
 use mathlib.Core.Path.{_≡_, refl}
 use mathlib.Core.List.{List, [], _∷_, map}
@@ -8,6 +9,7 @@ use Rattle.rows.specs.Row.{Row}
 use Rattle.rows.specs.Name.{plus, minus}
 use Rattle.rows.specs.Sets.{RowSet, only, allBut}
 use Rattle.policy.specs.Format.{equalWidths, widerRows}
+use Rattle.policy.specs.OwnKey.{byCertificates, byDefinition}
 use Rattle.policy.specs.Leaf.{finite, cofinite, listed, vetted}
 use Rattle.policy.specs.Syntax.{Term, atom, var, Slot, old, new, Expr, leaf, union, difference, comprehension, head, draw, same, different, absent}
 use Rattle.meaning.specs.Evidence.{namesHeld}
@@ -59,9 +61,9 @@ trials =
     ∷ inEither (difference (difference (leaf (cofinite (oneAtom 1 100))) (leaf (finite (oneAtom 1000 28)))) (leaf (cofinite []))) (done (only []) 0)
     ∷ inEither (union (leaf (finite (oneAtom 1 128))) (comprehension (draw (leaf (cofinite [])) (new ∷ []) (head (var 0 ∷ []))))) (refused complementDrawn)
     -- a − name of which nothing is held has all rows, not none; a number's list has none with + and all with −
-    ∷ inEither (comprehension (absent (atom 7 ∷ []) (leaf (listed (atom k1) 2 minus)) (head (atom 7 ∷ [])))) (done (only []) 0)
-    ∷ inEither (leaf (listed (atom 5) 2 plus)) (done (only []) 0)
-    ∷ inEither (leaf (listed (atom 5) 2 minus)) (done (allBut []) 0)
+    ∷ inEither (comprehension (absent (atom 7 ∷ []) (leaf (listed (atom k1) 2 minus byCertificates)) (head (atom 7 ∷ [])))) (done (only []) 0)
+    ∷ inEither (leaf (listed (atom 5) 2 plus byCertificates)) (done (only []) 0)
+    ∷ inEither (leaf (listed (atom 5) 2 minus byCertificates)) (done (allBut []) 0)
     ∷ []
 
 pub readings : All Holds trials
@@ -110,8 +112,8 @@ pub record Vetting : Type 0 where
 -- with k1 as a fixed issuer, and as a variable's value
 abbrev VetsIn : ℕ → Vetting → Type 0
 VetsIn format v =
-    (read format (λ k n p. only (v .list)) (v .set ∷ []) (leaf (vetted (atom k1) 1 0)) [] 0 ≡ v .answer)
-    × (read format (λ k n p. only (v .list)) (v .set ∷ []) (leaf (vetted (var 0) 1 0)) (k1 ∷ []) 0 ≡ v .answer)
+    (read format (λ k n p. only (v .list)) (v .set ∷ []) (leaf (vetted (atom k1) 1 byCertificates 0)) [] 0 ≡ v .answer)
+    × (read format (λ k n p. only (v .list)) (v .set ∷ []) (leaf (vetted (var 0) 1 byCertificates 0)) (k1 ∷ []) 0 ≡ v .answer)
 
 -- the issuer's row is a whole row, in either format
 unfoldable pub Vets : Vetting → Type 0
@@ -139,3 +141,31 @@ vettings =
 pub vetted-readings : All Vets vettings
 unfolding Vets vettings All
 vetted-readings = (((refl, refl), (refl, refl)), (((refl, refl), (refl, refl)), (((refl, refl), (refl, refl)), (((refl, refl), (refl, refl)), (((refl, refl), (refl, refl)), (((refl, refl), (refl, refl)), (((refl, refl), (refl, refl)), tt)))))))
+
+-- N7: an own name over two definitions, {5} and all but {6}, whatever its key's list has: here k1 is our key, and 9 and 10 are in each list. In code 8 k1 is looked up in the first.
+pub record OwnReading : Type 0 where
+  pub expr : Expr
+  pub answer : Result RowSet
+
+unfoldable pub ReadsOwn : OwnReading → Type 0
+unfolding read k1
+ReadsOwn o =
+    (read equalWidths (λ k n p. only ((9 ∷ []) ∷ (10 ∷ []) ∷ [])) (only ((5 ∷ []) ∷ []) ∷ allBut ((6 ∷ []) ∷ []) ∷ []) (o .expr) (k1 ∷ []) 0 ≡ o .answer)
+    × (read widerRows (λ k n p. only ((9 ∷ []) ∷ (10 ∷ []) ∷ [])) (only ((5 ∷ []) ∷ []) ∷ allBut ((6 ∷ []) ∷ []) ∷ []) (o .expr) (k1 ∷ []) 0 ≡ o .answer)
+
+unfoldable pub ownReadings : List OwnReading
+unfolding k1
+ownReadings =
+    record { expr = leaf (listed (atom k1) 1 plus (byDefinition 0)); answer = done (only ((5 ∷ []) ∷ [])) 0 }
+    ∷ record { expr = leaf (listed (atom k1) 1 minus (byDefinition 1)); answer = done (allBut ((6 ∷ []) ∷ [])) 0 }
+    ∷ record { expr = leaf (vetted (atom k1) 1 (byDefinition 1) 0); answer = done (allBut ((6 ∷ []) ∷ [])) 0 }
+    ∷ record { expr = leaf (vetted (atom k1) 1 (byDefinition 0) 1); answer = done (only []) 0 }
+    -- "A variable that happens to hold our key still reads certificates"
+    ∷ record { expr = leaf (listed (var 0) 1 plus byCertificates); answer = done (only ((9 ∷ []) ∷ (10 ∷ []) ∷ [])) 0 }
+    -- drawing from it: one draw a row
+    ∷ record { expr = comprehension (draw (leaf (listed (atom k1) 1 plus (byDefinition 0))) (new ∷ []) (head (var 1 ∷ []))); answer = done (only ((5 ∷ []) ∷ [])) 1 }
+    ∷ []
+
+pub own-readings : All ReadsOwn ownReadings
+unfolding ReadsOwn ownReadings All
+own-readings = ((refl, refl), ((refl, refl), ((refl, refl), ((refl, refl), ((refl, refl), ((refl, refl), tt))))))

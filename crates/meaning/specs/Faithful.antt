@@ -14,6 +14,7 @@ use Rattle.rows.specs.Row.{Row, IsRow}
 use Rattle.rows.specs.Name.{Polarity}
 use Rattle.rows.specs.Sets.{RowSet, only, listing, Proper, mostRows, has}
 use Rattle.certificates.specs.Stores.{Held}
+use Rattle.policy.specs.OwnKey.{Scope}
 use Rattle.policy.specs.Syntax.{Expr}
 use Rattle.policy.specs.Words.{exprWords}
 use Rattle.policy.specs.WellFormed.{Fit}
@@ -45,11 +46,11 @@ Shows names W = (k n : ℕ) (p : Polarity) (r : Row) → IsRow r → T (has (nam
 abbrev pub Agree : List RowSet → Meanings → Type 0
 Agree sets D = (d : ℕ) (r : Row) → IsRow r → T (has (getD sets d (only [])) r) ↔ getD D d (λ x. ⊥) r
 
--- P holds of whatever set the expression is read as, after however many draws. The expression keeps the rules, m definitions being available and n
--- variables in scope; its words and the variables' values are words.
+-- P holds of whatever set the expression is read as, after however many draws. The expression keeps the rules, n variables being in scope; its words and the
+-- variables' values are words.
 abbrev pub WheneverRead : ℕ → Evidence → List RowSet → Expr → (Values → RowSet → Type 0) → Type 0
 WheneverRead format names sets e P =
-    (m n : ℕ) → Fit m n e → Words (exprWords e n) → (vs : Values) → Words vs → (k : ℕ) (s : RowSet) (j : ℕ) → read format names sets e vs k ≡ done s j → P vs s
+    (scope : Scope) (n : ℕ) → Fit scope n e → Words (exprWords e n) → (vs : Values) → Words vs → (k : ℕ) (s : RowSet) (j : ℕ) → read format names sets e vs k ≡ done s j → P vs s
 
 -- the set has just the rows that belong to the expression
 abbrev pub JustThose : ℕ → World → Meanings → Expr → Values → RowSet → Type 0

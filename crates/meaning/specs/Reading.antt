@@ -8,8 +8,9 @@ use lib.ListN.{length, getD}
 use Rattle.refusals.specs.RefusalTable.{complementDrawn, tooManyRows, tooManyDraws}
 use Rattle.rows.specs.Ordered.{insert}
 use Rattle.rows.specs.Row.{Row, rowBefore}
-use Rattle.rows.specs.Name.{plus}
+use Rattle.rows.specs.Name.{Polarity, plus}
 use Rattle.rows.specs.Sets.{RowSet, only, allBut, listing, mostRows, has, unite, subtract}
+use Rattle.policy.specs.OwnKey.{Origin, byCertificates, byDefinition}
 use Rattle.policy.specs.Leaf.{Leaf, finite, cofinite, definition, listed, vetted}
 use Rattle.policy.specs.Syntax.{Term, Slot, Expr, leaf, union, difference, comprehension, Body, head, draw, same, different, absent}
 use Rattle.meaning.specs.Values.{Values, value, rowOf}
@@ -80,14 +81,20 @@ drawEach format rest p vs (x ∷ xs) found = do
 
 -- `names` is the evidence, `sets` are the sets read for the earlier definitions
 module _ (names : Evidence) (sets : List RowSet) where
+  -- a name of this key. Document 02, N7: an own name "reads the definition of that name and polarity"
+  unfoldable pub readName : ℕ → ℕ → Polarity → Origin → Reading RowSet
+  unfolding small
+  readName k n p byCertificates = small (names k n p)
+  readName k n p (byDefinition d) = give (getD sets d (only []))
+
   unfoldable pub readLeaf : Leaf → Values → Reading RowSet
-  unfolding rowsOf value small has
+  unfolding rowsOf value small readName has
   readLeaf (finite rs) vs = small (only (rowsOf vs rs))
   readLeaf (cofinite rs) vs = small (allBut (rowsOf vs rs))
   readLeaf (definition d) vs = give (getD sets d (only []))
-  readLeaf (listed t n p) vs = small (names (value vs t) n p)
+  readLeaf (listed t n p o) vs = readName (value vs t) n p o
   -- document 02, N2: "that key's list if the one-atom row of the issuer is absent from that definition, and no rows otherwise"
-  readLeaf (vetted t n d) vs = elim (has (getD sets d (only [])) (value vs t ∷ [])) [ true ↦ give (only []) | false ↦ small (names (value vs t) n plus) ]
+  readLeaf (vetted t n o d) vs = elim (has (getD sets d (only [])) (value vs t ∷ [])) [ true ↦ give (only []) | false ↦ readName (value vs t) n plus o ]
 
 -- in a policy of this format
 module _ (format : ℕ) (names : Evidence) (sets : List RowSet) where
