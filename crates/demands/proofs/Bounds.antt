@@ -4,7 +4,6 @@ use mathlib.Core.Path.{_≡_, refl, sym, _∙_}
 use mathlib.Core.Logic.{_↔_}
 use mathlib.Core.List.{List, []}
 use lib.Dec.{T}
-use lib.ListN.{length}
 use Rattle.rows.specs.Row.{Row, IsRow}
 use Rattle.rows.specs.Name.{Polarity, plus, minus}
 use Rattle.rows.specs.Sets.{RowSet, has}
@@ -13,7 +12,7 @@ use Rattle.certificates.specs.Stores.{Held}
 use Rattle.certificates.proofs.Both.{Within}
 use Rattle.policy.specs.Format.{formatOf}
 use Rattle.policy.specs.Syntax.{Expr}
-use Rattle.policy.specs.Polarity.{hasPolarity, Verdict, exact, lower, upper}
+use Rattle.policy.specs.Polarity.{scopeOf, hasPolarity, Verdict, exact, lower, upper}
 use Rattle.policy.specs.Checking.{checked, check}
 use Rattle.policy.proofs.Judging.{AcceptedPair, check-accepted}
 use Rattle.meaning.specs.Evidence.{namesHeld}
@@ -33,18 +32,18 @@ use Rattle.demands.specs.Demand2.{CallWords, InQuery}
 use Rattle.demands.specs.Demand3.{Bounds}
 use Rattle.demands.proofs.Definitions.{parsed-sound, no-values, ways, Reached, reached, none-agree, none-tidy}
 
-pub in-query : (c : Call) (es : List Expr) (q : Expr) (v : Verdict) → check (c .policy) (c .query) ≡ checked es q v → (W : World) (r : Row) →
+pub in-query : (c : Call) (es : List Expr) (q : Expr) (v : Verdict) → check (c .ourKey) (c .policy) (c .query) ≡ checked es q v → (W : World) (r : Row) →
     InQuery c W r ≡ BelongsTo (formatOf (c .policy)) W es q r
 unfolding InQuery
 in-query c es q v f W r = rw (f, InQuery)
 
 -- a checked policy and query
-module _ (c : Call) (words : CallWords c) (es : List Expr) (q : Expr) (v : Verdict) (passes : check (c .policy) (c .query) ≡ checked es q v) where
+module _ (c : Call) (words : CallWords c) (es : List Expr) (q : Expr) (v : Verdict) (passes : check (c .ourKey) (c .policy) (c .query) ≡ checked es q v) where
   abbrev format : ℕ
   format = formatOf (c .policy)
 
-  accepted-pair : AcceptedPair (c .policy) (c .query) es q v
-  accepted-pair = check-accepted (c .policy) (c .query) es q v passes
+  accepted-pair : AcceptedPair (c .ourKey) (c .policy) (c .query) es q v
+  accepted-pair = check-accepted (c .ourKey) (c .policy) (c .query) es q v passes
 
   -- the query follows its polarity from a world to one above it
   follows : (W U : World) → Below W U → (p : Polarity) → T (hasPolarity q (accepted-pair .known) p) → (r : Row) → Along p (BelongsTo format W es q r) (BelongsTo format U es q r)
@@ -57,21 +56,21 @@ module _ (c : Call) (words : CallWords c) (es : List Expr) (q : Expr) (v : Verdi
   module _ (h : Held) (about : AboutRows h) (W : World) (least : Minimal h W) (w : Verdict) (j : ℕ) (S : RowSet)
       (answer : readFrom format (namesHeld h) es q v [] 0 ≡ answered w j S) where
     pub end : Reached format (namesHeld h) (meanings format W es []) q S j
-    end = reached format (namesHeld h) W (held-shows h about W least) (held-names-proper h about) (c .policy) (words .policy) q v
+    end = reached format (namesHeld h) W (held-shows h about W least) (held-names-proper h about) (c .ourKey) (c .policy) (words .policy) q v
         (accepted-pair .definitions) [] [] 0 refl none-agree none-tidy w j S answer
 
     pub tidy : Tidy S
     tidy =
-        let o = parsed-sound (length (accepted-pair .known)) (c .query) q (accepted-pair .asked .parses) (words .query) in
-        read-tidy format (namesHeld h) (end .sets) (held-names-proper h about) (end .tidy) q (length (accepted-pair .known)) 0 (o .fit) (o .words) [] no-values (end .draws) S j (end .last)
+        let o = parsed-sound (scopeOf (c .ourKey) (accepted-pair .known)) (c .query) q (accepted-pair .asked .parses) (words .query) in
+        read-tidy format (namesHeld h) (end .sets) (held-names-proper h about) (end .tidy) q (scopeOf (c .ourKey) (accepted-pair .known)) 0 (o .fit) (o .words) [] no-values (end .draws) S j (end .last)
 
     -- its rows are those that belong to the query there
     pub in-minimal : (r : Row) → IsRow r → T (has S r) ↔ BelongsTo format W es q r
     unfolding BelongsTo
     in-minimal r i =
-        let o = parsed-sound (length (accepted-pair .known)) (c .query) q (accepted-pair .asked .parses) (words .query) in
+        let o = parsed-sound (scopeOf (c .ourKey) (accepted-pair .known)) (c .query) q (accepted-pair .asked .parses) (words .query) in
         read-rows format (namesHeld h) W (held-shows h about W least) (held-names-proper h about) (end .sets) (meanings format W es []) (end .agree) (end .tidy)
-        q (length (accepted-pair .known)) 0 (o .fit) (o .words) [] no-values (end .draws) S j (end .last) r i
+        q (scopeOf (c .ourKey) (accepted-pair .known)) 0 (o .fit) (o .words) [] no-values (end .draws) S j (end .last) r i
 
     lower-rows : T (hasPolarity q (accepted-pair .known) plus) → (r : Row) → IsRow r → T (has S r) ↔ ((U : World) → AllTrue U h → BelongsTo format U es q r)
     lower-rows t r i = (

@@ -1,6 +1,6 @@
 -- The portal cases hold, by computation.
 use mathlib.Core.Path.{refl}
-use Rattle.demands.specs.Cases.{Holds, cases, AllHold, terms, TermsHold, links, LinksHold, formats, FormatsHold}
+use Rattle.demands.specs.Cases.{Holds, cases, AllHold, terms, TermsHold, links, LinksHold, formats, FormatsHold, ourNames, OurNamesHold}
 use Rattle.rows.specs.Word.{All}
 use Rattle.certificates.specs.Stores.{storesAt}
 use Rattle.demands.specs.Query.{queryCall}
@@ -20,3 +20,7 @@ links-hold = (refl, (refl, (refl, (refl, (refl, (refl, (refl, (refl, (refl, (ref
 pub formats-hold : FormatsHold
 unfolding Holds formats All storesAt queryCall
 formats-hold = (refl, (refl, (refl, (refl, (refl, (refl, (refl, (refl, (refl, (refl, (refl, (refl, (refl, (refl, (refl, (refl, (refl, (refl, (refl, (refl, (refl, (refl, (refl, (refl, (refl, (refl, (refl, (refl, tt))))))))))))))))))))))))))))
+
+pub our-names-hold : OurNamesHold
+unfolding Holds ourNames All storesAt queryCall
+our-names-hold = (refl, (refl, (refl, (refl, (refl, (refl, (refl, (refl, (refl, (refl, (refl, (refl, (refl, (refl, (refl, (refl, (refl, (refl, (refl, (refl, (refl, (refl, tt))))))))))))))))))))))

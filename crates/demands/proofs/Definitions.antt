@@ -16,11 +16,12 @@ use Rattle.rows.specs.Sets.{RowSet, has, listing}
 use Rattle.rows.proofs.Case.{iff-refl}
 use Rattle.rows.proofs.Lists.{length-snoc}
 use Rattle.rows.proofs.Sets.{none-proper}
+use Rattle.policy.specs.OwnKey.{Scope}
 use Rattle.policy.specs.Syntax.{Expr}
 use Rattle.policy.specs.Words.{exprWords}
 use Rattle.policy.specs.WellFormed.{Fit}
 use Rattle.policy.specs.Parse.{parse, parsed}
-use Rattle.policy.specs.Polarity.{Known, drawsClosed, Verdict}
+use Rattle.policy.specs.Polarity.{Known, scopeOf, drawsClosed, Verdict}
 use Rattle.policy.specs.Table.{Entry, entryWords}
 use Rattle.policy.specs.Definitions.{knownOf}
 use Rattle.policy.proofs.Decoding.{parse-words, parse-fits}
@@ -41,12 +42,12 @@ use Rattle.demands.specs.Query.{Outcome, answered, readFrom}
 use Rattle.demands.specs.Query as Query
 
 -- a whole expression that was parsed from words keeps the rules, and its words are words
-pub record Sound (known : ℕ) (e : Expr) : Type 0 where
-  pub fit : Fit known 0 e
+pub record Sound (scope : Scope) (e : Expr) : Type 0 where
+  pub fit : Fit scope 0 e
   pub words : Words (exprWords e 0)
 
-pub parsed-sound : (known : ℕ) (ws : List ℕ) (e : Expr) → parse known ws ≡ parsed e → Words ws → Sound known e
-parsed-sound known ws e p w = record { fit = parse-fits known ws e p .fit; words = subst Words (parse-words known ws e p) w }
+pub parsed-sound : (scope : Scope) (ws : List ℕ) (e : Expr) → parse scope ws ≡ parsed e → Words ws → Sound scope e
+parsed-sound scope ws e p w = record { fit = parse-fits scope ws e p .fit; words = subst Words (parse-words scope ws e p) w }
 
 -- no values are words
 pub no-values : Words []
@@ -81,7 +82,7 @@ ways-snoc (l ∷ ks) (x ∷ D) (y ∷ E) m n w k P Q a (suc d) r = ways-snoc ks 
 
 -- from world to world, through the definitions
 module _ (format : ℕ) (W U : World) (b : Below W U) where
-  pub ways : {policy : List ℕ} {xs : List Entry} {ks ls : List Known} {es : List Expr} → Accepted policy xs ks es ls →
+  pub ways : {ours : ℕ} {policy : List ℕ} {xs : List Entry} {ks ls : List Known} {es : List Expr} → Accepted ours policy xs ks es ls →
       (D E : Meanings) → length ks ≡ length D → length ks ≡ length E → Ways ks D E → Ways ls (meanings format W es D) (meanings format U es E)
   unfolding meaningsBy
   ways none D E m n w = w
@@ -106,8 +107,8 @@ end-reached : (v w : Verdict) (j : ℕ) (S : RowSet) (a : Result RowSet) →
 end-reached v w j S (done s k) e = cc
 end-reached v w j S (refused n) e = let z : _≡_ {A = ℕ} 0 1 = cc in absurd (omega arith)
 
-module _ (format : ℕ) (names : Evidence) (W : World) (shows : Shows names W) (proper : ProperNames names) (policy : List ℕ) (words : Words policy) (q : Expr) (v : Verdict) where
-  pub reached : {xs : List Entry} {ks ls : List Known} {es : List Expr} → Accepted policy xs ks es ls → (sets : List RowSet) (D : Meanings) (k : ℕ) → length sets ≡ length D →
+module _ (format : ℕ) (names : Evidence) (W : World) (shows : Shows names W) (proper : ProperNames names) (ours : ℕ) (policy : List ℕ) (words : Words policy) (q : Expr) (v : Verdict) where
+  pub reached : {xs : List Entry} {ks ls : List Known} {es : List Expr} → Accepted ours policy xs ks es ls → (sets : List RowSet) (D : Meanings) (k : ℕ) → length sets ≡ length D →
       Agree sets D → TidySets sets → (w : Verdict) (j : ℕ) (S : RowSet) → readFrom format names es q v sets k ≡ answered w j S → Reached format names (meanings format W es D) q S j
   unfolding readFrom meaningsBy
   reached none sets D k m g t w j S h =
@@ -120,10 +121,10 @@ module _ (format : ℕ) (names : Evidence) (W : World) (shows : Shows names W) (
           Reached format names (meanings format W es (D ++ (Belongs format W D e [] ∷ []))) q S j) →
           (b : Result RowSet) → read format names sets e [] k ≡ b → Reached format names (meanings format W es (D ++ (Belongs format W D e [] ∷ []))) q S j
       go ih (done s i) f =
-          let o = parsed-sound (length ks) (entryWords policy x) e (a .parses) (entry-words policy x words) in
+          let o = parsed-sound (scopeOf ours ks) (entryWords policy x) e (a .parses) (entry-words policy x words) in
           ih s i (length-snoc sets s ∙ ap suc m ∙ sym (length-snoc D (Belongs format W D e [])))
-          (agree-snoc sets D m g s (Belongs format W D e []) (λ r z. read-rows format names W shows proper sets D g t e (length ks) 0 (o .fit) (o .words) [] no-values k s i f r z))
-          (tidy-snoc sets t s (read-tidy format names sets proper t e (length ks) 0 (o .fit) (o .words) [] no-values k s i f))
+          (agree-snoc sets D m g s (Belongs format W D e []) (λ r z. read-rows format names W shows proper sets D g t e (scopeOf ours ks) 0 (o .fit) (o .words) [] no-values k s i f r z))
+          (tidy-snoc sets t s (read-tidy format names sets proper t e (scopeOf ours ks) 0 (o .fit) (o .words) [] no-values k s i f))
           (rw (f, readFrom) at h)
       go ih (refused n) f =
           let g : Query.refused n (length sets) ≡ answered w j S = rw (f, readFrom) at h in
@@ -139,8 +140,8 @@ finite-snoc (x ∷ ks) (y ∷ sets) m f k s h zero t = f zero t
 finite-snoc (x ∷ ks) (y ∷ sets) m f k s h (suc d) t = finite-snoc ks sets (omega arith) (λ c u. f (suc c) u) k s h d t
 
 -- the definitions, then the query, draw from nothing open: 12 is not met in any of them
-module _ (format : ℕ) (names : Evidence) (finite : FiniteNames names) (policy : List ℕ) (q : Expr) (v : Verdict) (part : ℕ) where
-  pub reads-not-12 : {xs : List Entry} {ks ls : List Known} {es : List Expr} → Accepted policy xs ks es ls → T (drawsClosed q ls) → (sets : List RowSet) (k : ℕ) →
+module _ (format : ℕ) (names : Evidence) (finite : FiniteNames names) (ours : ℕ) (policy : List ℕ) (q : Expr) (v : Verdict) (part : ℕ) where
+  pub reads-not-12 : {xs : List Entry} {ks ls : List Known} {es : List Expr} → Accepted ours policy xs ks es ls → T (drawsClosed q ls) → (sets : List RowSet) (k : ℕ) →
       length ks ≡ length sets → FiniteSets ks sets → ¬ (readFrom format names es q v sets k ≡ Query.refused complementDrawn part)
   unfolding readFrom knownOf
   reads-not-12 (none {ks = ks}) closed sets k m f h = go (read format names sets q [] k) refl h

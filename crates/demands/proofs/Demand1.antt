@@ -123,10 +123,10 @@ demand-1 = record {
   query = call-refused;
   answerStays = answer-stays;
   noDraws = λ s c n part e. ap drawsOf e;
-  never12 = λ policy query es q v passes h part.
-      let a = check-accepted policy query es q v passes in
-      reads-not-12 (formatOf policy) (namesHeld h) (held-finite h) policy q v part (a .definitions) (a .asked .closed) [] 0 refl none-finite;
+  never12 = λ ours policy query es q v passes h part.
+      let a = check-accepted ours policy query es q v passes in
+      reads-not-12 (formatOf policy) (namesHeld h) (held-finite h) ours policy q v part (a .definitions) (a .asked .closed) [] 0 refl none-finite;
   earlierWords = λ s c d a.
-      let e = call-alike s c d (a .policy) (a .query) (a .minute) (a .room) in
+      let e = call-alike s c d (a .policy) (a .query) (a .ourKey) (a .minute) (a .room) in
       (e, ap (λ (o : Outcome). answerArea o (c .answer)) e ∙ ap (answerArea (queryCall s d)) (a .answer));
 }

@@ -37,7 +37,7 @@ records-about minute rs sound words ls c i =
     subst (λ (d : Certificate). IsRow (d .row)) (sym (t .3)) (about-row (t .0) (all-in _ rs sound (t .0) (t .1)) (all-in Words rs words (t .0) (t .1)))
 
 pub answer-is : (names : Evidence) (c : Call) (v : Verdict) (k : ℕ) (S : RowSet) → AnsweredBy names c v k S → Answer names c v k S
-answer-is names c v k S a = record { verdictIs = judge-checked (c .policy) (c .query) v .1 (a .es, a .q, a .passes); isRead = (a .es, a .q, a .passes, a .reads) }
+answer-is names c v k S a = record { verdictIs = judge-checked (c .ourKey) (c .policy) (c .query) v .1 (a .es, a .q, a .passes); isRead = (a .es, a .q, a .passes, a .reads) }
 
 module _ (h : Held) (about : AboutRows h) (c : Call) (w : CallWords c) (v : Verdict) (k : ℕ) (S : RowSet) (a : AnsweredBy (namesHeld h) c v k S) where
   pub laid-out : LaidOut (c .answer) (answerArea (answered v k S) (c .answer)) S

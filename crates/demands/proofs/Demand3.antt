@@ -79,11 +79,11 @@ module _ (s : Stores) (empty : EmptyStores s) (filings : List AnyFiling) where
     abbrev second : Held
     second = heldAfter m (q .passed)
 
-    grows-at : (c d : Call) → CallWords c → c .policy ≡ d .policy → c .query ≡ d .query →
+    grows-at : (c d : Call) → CallWords c → c .policy ≡ d .policy → c .query ≡ d .query → c .ourKey ≡ d .ourKey →
         (v v′ : Verdict) (k k′ : ℕ) (S S′ : RowSet) → AnsweredBy (namesHeld first) c v k S → AnsweredBy (namesHeld second) d v′ k′ S′ → Grows v v′ S S′
-    grows-at c d w same-policy same-query v v′ k k′ S S′ a b =
+    grows-at c d w same-policy same-query same-key v v′ k k′ S S′ a b =
         let both : checked (a .es) (a .q) v ≡ checked (b .es) (b .q) v′ =
-        sym (a .passes) ∙ ap (λ (x : List ℕ). check x (c .query)) same-policy ∙ ap (λ (x : List ℕ). check (d .policy) x) same-query ∙ b .passes in
+        sym (a .passes) ∙ ap (λ (x : ℕ). check x (c .policy) (c .query)) same-key ∙ ap (λ (x : List ℕ). check (d .ourKey) x (c .query)) same-policy ∙ ap (λ (x : List ℕ). check (d .ourKey) (d .policy) x) same-query ∙ b .passes in
         let es : b .es ≡ a .es = cc in
         let qs : b .q ≡ a .q = cc in
         let vs : v′ ≡ v = cc in
@@ -114,7 +114,7 @@ demand-3 s empty filings = record {
   bounds = λ words p c w v k S h.
       let a = answer-at s empty filings p c v k S h in
       bounds c w (a .es) (a .q) v (a .passes) (heldAfter (c .minute) (p .passed)) (about s empty filings words (c .minute) p) v k S (a .reads);
-  later = λ words p q e c d w same-policy same-query same-minute v v′ k k′ S S′ h h′.
-      grows-at s empty filings words p q e (c .minute) c d w same-policy same-query v v′ k k′ S S′ (answer-at s empty filings p c v k S h)
+  later = λ words p q e c d w same-policy same-query same-key same-minute v v′ k k′ S S′ h h′.
+      grows-at s empty filings words p q e (c .minute) c d w same-policy same-query same-key v v′ k k′ S S′ (answer-at s empty filings p c v k S h)
       (subst (λ (m : ℕ). AnsweredBy (namesHeld (heldAfter m (q .passed))) d v′ k′ S′) (sym same-minute) (answer-at s empty filings q d v′ k′ S′ h′));
 }

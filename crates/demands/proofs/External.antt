@@ -10,10 +10,11 @@ use lib.ListN.{length, getD}
 use Rattle.refusals.specs.RefusalTable.{notExternal, noPart}
 use Rattle.rows.specs.Word.{All, Words}
 use Rattle.rows.specs.Row.{Row}
-use Rattle.rows.specs.Name.{plus, minus}
+use Rattle.rows.specs.Name.{Polarity, plus, minus}
 use Rattle.rows.proofs.Case.{T-true, true-T, T-left, T-right, T-eqb, iff-refl, both-not}
 use Rattle.rows.proofs.Lists.{length-snoc}
 use Rattle.policy.specs.Format.{formatOf}
+use Rattle.policy.specs.OwnKey.{Origin, byCertificates, byDefinition}
 use Rattle.policy.specs.Leaf.{Leaf, finite, cofinite, definition, listed, vetted}
 use Rattle.policy.specs.Syntax.{Expr, leaf, union, difference, comprehension, Body, head, draw, same, different, absent}
 use Rattle.policy.specs.Words.{exprWords}
@@ -30,7 +31,7 @@ use Rattle.policy.proofs.Rewriting.{accepted-lengths, later-lengths, later-plus
 use Rattle.policy.proofs.RewrittenWords.{rewritten-words}
 use Rattle.meaning.specs.Values.{Values, value}
 use Rattle.meaning.specs.World.{World}
-use Rattle.meaning.specs.Belonging.{Lists, InList, Meanings, BelongsLeaf, BelongsBy, Belongs, PassesBy, meaningsBy, meanings}
+use Rattle.meaning.specs.Belonging.{Names, InName, Meanings, BelongsLeaf, BelongsBy, Belongs, PassesBy, meaningsBy, meanings}
 use Rattle.demands.specs.External.{uncompromised, transformed, Positive, Means, Theorem, Unchanged}
 
 -- what is so of the rows of definition after definition
@@ -50,14 +51,14 @@ related-snoc R n (x ∷ D) (y ∷ E) l s P Q h (suc d) r = related-snoc R n D E 
 abbrev Same : Meanings → Meanings → Type 0
 Same = Related (λ A B. A ↔ B)
 
--- what belongs to an external + expression, its leaves changed in one way, belongs to it, its leaves changed in another and read from other lists and
+-- what belongs to an external + expression, its leaves changed in one way, belongs to it, its leaves changed in another and read from other names and
 -- definitions, where that is so of each leaf
-module _ (format : ℕ) (lists others : Lists) (D E : Meanings) (f g : Leaf → Leaf)
-    (leaves : (x : Leaf) → T (externalLeaf plus x) → (vs : Values) (r : Row) → BelongsLeaf lists D (f x) vs r → BelongsLeaf others E (g x) vs r) where
+module _ (format : ℕ) (names others : Names) (D E : Meanings) (f g : Leaf → Leaf)
+    (leaves : (x : Leaf) → T (externalLeaf plus x) → (vs : Values) (r : Row) → BelongsLeaf names D (f x) vs r → BelongsLeaf others E (g x) vs r) where
   mutual
     unfolding externalExpr eachLeaf BelongsBy
 
-    pub expr-carried : (e : Expr) → T (externalExpr plus e) → (vs : Values) (r : Row) → BelongsBy format lists D (eachLeaf f e) vs r → BelongsBy format others E (eachLeaf g e) vs r
+    pub expr-carried : (e : Expr) → T (externalExpr plus e) → (vs : Values) (r : Row) → BelongsBy format names D (eachLeaf f e) vs r → BelongsBy format others E (eachLeaf g e) vs r
     expr-carried (leaf x) t vs r h = leaves x t vs r h
     expr-carried (union a b) t vs r h = elim h [
       | inl i ↦ inl (expr-carried a (T-left (externalExpr plus a) (externalExpr plus b) t) vs r i)
@@ -66,7 +67,7 @@ module _ (format : ℕ) (lists others : Lists) (D E : Meanings) (f g : Leaf → 
     expr-carried (difference a b) t vs r h = absurd t
     expr-carried (comprehension b) t vs r h = body-carried b t vs r h
 
-    body-carried : (b : Body) → T (externalBody plus b) → (vs : Values) (r : Row) → PassesBy format lists D (eachLeafIn f b) vs r → PassesBy format others E (eachLeafIn g b) vs r
+    body-carried : (b : Body) → T (externalBody plus b) → (vs : Values) (r : Row) → PassesBy format names D (eachLeafIn f b) vs r → PassesBy format others E (eachLeafIn g b) vs r
     body-carried (head ts) t vs r h = h
     body-carried (draw e s b) t vs r h = (
       h .0,
@@ -77,22 +78,31 @@ module _ (format : ℕ) (lists others : Lists) (D E : Meanings) (f g : Leaf → 
     body-carried (different x y b) t vs r h = (h .0, body-carried b t vs r (h .1))
     body-carried (absent ts e b) t vs r h = absurd t
 
+-- a name has the same rows where the definitions do
+name-same : (W : World) (D E : Meanings) → Same D E → (k n : ℕ) (p : Polarity) (o : Origin) (r : Row) → InName W D k n p o r ↔ InName W E k n p o r
+unfolding InName
+name-same W D E alike k n p byCertificates r = iff-refl
+name-same W D E alike k n p (byDefinition d) r = alike d r
+
 -- an external + expression, vetted, has what it has where its names are read as the source's transformation reads them
-module _ (format : ℕ) (lists : Lists) (C : Row → Type 0) (D E : Meanings) (alike : Same D E) (keys : (r : Row) → getD D 0 (λ x. ⊥) r ↔ C r) where
-  leaf-vetted : (x : Leaf) → T (externalLeaf plus x) → (vs : Values) (r : Row) → BelongsLeaf lists D (vetLeaf x) vs r ↔ BelongsLeaf (uncompromised C lists) E x vs r
+module _ (format : ℕ) (W : World) (C : Row → Type 0) (D E : Meanings) (alike : Same D E) (keys : (r : Row) → getD D 0 (λ x. ⊥) r ↔ C r) where
+  leaf-vetted : (x : Leaf) → T (externalLeaf plus x) → (vs : Values) (r : Row) → BelongsLeaf (InName W) D (vetLeaf x) vs r ↔ BelongsLeaf (uncompromised C (InName W)) E x vs r
   unfolding externalLeaf vetLeaf BelongsLeaf uncompromised
   leaf-vetted (finite rs) t vs r = iff-refl
   leaf-vetted (cofinite rs) t vs r = iff-refl
   leaf-vetted (definition d) t vs r = alike d r
-  leaf-vetted (listed i n plus) t vs r = let k = both-not (keys (value vs i ∷ [])) in (λ h. (k .0 (h .0), h .1), λ h. (k .1 (h .0), h .1))
-  leaf-vetted (listed i n minus) t vs r = absurd t
-  leaf-vetted (vetted i n d) t vs r = absurd t
+  leaf-vetted (listed i n plus o) t vs r =
+      let k = both-not (keys (value vs i ∷ [])) in
+      let m = name-same W D E alike (value vs i) n plus o r in
+      (λ h. (k .0 (h .0), m .0 (h .1)), λ h. (k .1 (h .0), m .1 (h .1)))
+  leaf-vetted (listed i n minus o) t vs r = absurd t
+  leaf-vetted (vetted i n o d) t vs r = absurd t
 
-  expr-vetted : (e : Expr) → T (externalExpr plus e) → (vs : Values) (r : Row) → BelongsBy format lists D (vet e) vs r ↔ BelongsBy format (uncompromised C lists) E e vs r
+  expr-vetted : (e : Expr) → T (externalExpr plus e) → (vs : Values) (r : Row) → BelongsBy format (InName W) D (vet e) vs r ↔ BelongsBy format (uncompromised C (InName W)) E e vs r
   expr-vetted e t vs r =
-      subst (λ (x : Expr). BelongsBy format lists D (vet e) vs r ↔ BelongsBy format (uncompromised C lists) E x vs r) (each-same e) (
-        expr-carried format lists (uncompromised C lists) D E vetLeaf (λ x. x) (λ x u ws q. leaf-vetted x u ws q .0) e t vs r,
-        expr-carried format (uncompromised C lists) lists E D (λ x. x) vetLeaf (λ x u ws q. leaf-vetted x u ws q .1) e t vs r,
+      subst (λ (x : Expr). BelongsBy format (InName W) D (vet e) vs r ↔ BelongsBy format (uncompromised C (InName W)) E x vs r) (each-same e) (
+        expr-carried format (InName W) (uncompromised C (InName W)) D E vetLeaf (λ x. x) (λ x u ws q. leaf-vetted x u ws q .0) e t vs r,
+        expr-carried format (uncompromised C (InName W)) (InName W) E D (λ x. x) vetLeaf (λ x u ws q. leaf-vetted x u ws q .1) e t vs r,
       )
 
 keys-snoc : (C : Row → Type 0) (D : Meanings) (P : Row → Type 0) → 0 < length D → ((r : Row) → getD D 0 (λ x. ⊥) r ↔ C r) → (r : Row) → getD (D ++ (P ∷ [])) 0 (λ x. ⊥) r ↔ C r
@@ -102,19 +112,19 @@ keys-snoc C (x ∷ D) P l h r = h r
 -- definitions, one after the other, in a policy of this format
 module _ (format : ℕ) where
   -- the later ones
-  all-vetted : (lists : Lists) (C : Row → Type 0) (xs : List Entry) (es : List Expr) → length xs ≡ length es → T (allPlus xs es) → (D E : Meanings) → length D ≡ length E → 0 < length D →
-      Same D E → ((r : Row) → getD D 0 (λ x. ⊥) r ↔ C r) → Same (meaningsBy format lists (vetAll es) D) (meaningsBy format (uncompromised C lists) es E)
+  all-vetted : (W : World) (C : Row → Type 0) (xs : List Entry) (es : List Expr) → length xs ≡ length es → T (allPlus xs es) → (D E : Meanings) → length D ≡ length E → 0 < length D →
+      Same D E → ((r : Row) → getD D 0 (λ x. ⊥) r ↔ C r) → Same (meaningsBy format (InName W) (vetAll es) D) (meaningsBy format (uncompromised C (InName W)) es E)
   unfolding allPlus vetAll meaningsBy
-  all-vetted lists C xs [] l t D E m some s keys = s
-  all-vetted lists C [] (e ∷ es) l t D E m some s keys = absurd (omega arith)
-  all-vetted lists C (x ∷ xs) (e ∷ es) l t D E m some s keys =
-      let P = BelongsBy format lists D (vet e) [] in
-      let Q = BelongsBy format (uncompromised C lists) E e [] in
+  all-vetted W C xs [] l t D E m some s keys = s
+  all-vetted W C [] (e ∷ es) l t D E m some s keys = absurd (omega arith)
+  all-vetted W C (x ∷ xs) (e ∷ es) l t D E m some s keys =
+      let P = BelongsBy format (InName W) D (vet e) [] in
+      let Q = BelongsBy format (uncompromised C (InName W)) E e [] in
       let u = T-right (eqb (x .polarity) 0) (externalExpr plus e) (T-left (eqb (x .polarity) 0 && externalExpr plus e) (allPlus xs es) t) in
       let a = length-snoc D P in
       let b = length-snoc E Q in
-      all-vetted lists C xs es (omega arith) (T-right (eqb (x .polarity) 0 && externalExpr plus e) (allPlus xs es) t) (D ++ (P ∷ [])) (E ++ (Q ∷ [])) (omega arith) (omega arith)
-      (related-snoc (λ A B. A ↔ B) iff-refl D E m s P Q (λ r. expr-vetted format lists C D E s keys e u [] r)) (keys-snoc C D P some keys)
+      all-vetted W C xs es (omega arith) (T-right (eqb (x .polarity) 0 && externalExpr plus e) (allPlus xs es) t) (D ++ (P ∷ [])) (E ++ (Q ∷ [])) (omega arith) (omega arith)
+      (related-snoc (λ A B. A ↔ B) iff-refl D E m s P Q (λ r. expr-vetted format W C D E s keys e u [] r)) (keys-snoc C D P some keys)
 
   -- definition 0 as it was, then the vetted ones
   vetted-same : (W : World) (xs : List Entry) (es : List Expr) → length xs ≡ length es → T (keysListed xs) → T (isExternal xs es) →
@@ -124,11 +134,11 @@ module _ (format : ℕ) where
   vetted-same W (x ∷ xs) [] l k t = absurd (omega arith)
   vetted-same W (x ∷ xs) (e ∷ es) l k t =
       let C = Belongs format W [] e [] in
-      subst (λ (b : Bool). Same (meaningsBy format (InList W) (vetAll es) (C ∷ [])) (elim b as (λ c. Meanings) [
-        | true ↦ meaningsBy format (uncompromised C (InList W)) es (C ∷ [])
+      subst (λ (b : Bool). Same (meaningsBy format (InName W) (vetAll es) (C ∷ [])) (elim b as (λ c. Meanings) [
+        | true ↦ meaningsBy format (uncompromised C (InName W)) es (C ∷ [])
         | false ↦ meanings format W (e ∷ es) []
       ])) (sym (true-T (listsKeys x) k))
-      (all-vetted (InList W) C xs es (omega arith) (later-plus x xs e es k t) (C ∷ []) (C ∷ []) refl (omega arith) (λ d r. iff-refl) (λ r. iff-refl))
+      (all-vetted W C xs es (omega arith) (later-plus x xs e es k t) (C ∷ []) (C ∷ []) refl (omega arith) (λ d r. iff-refl) (λ r. iff-refl))
 
   -- without a definition of name 0 −
   plain-same : (W : World) (xs : List Entry) (es : List Expr) → keysListed xs ≡ false → Same (meanings format W es []) (transformed format W xs es)
@@ -137,7 +147,7 @@ module _ (format : ℕ) where
   plain-same W xs (e ∷ es) k =
       let C = Belongs format W [] e [] in
       subst (λ (b : Bool). Same (meanings format W (e ∷ es) []) (elim b as (λ c. Meanings) [
-        | true ↦ meaningsBy format (uncompromised C (InList W)) es (C ∷ [])
+        | true ↦ meaningsBy format (uncompromised C (InName W)) es (C ∷ [])
         | false ↦ meanings format W (e ∷ es) []
       ])) (sym k) (λ d r. iff-refl)
 
@@ -184,21 +194,21 @@ placed-positive due (x ∷ xs) [] p = tt
 placed-positive due (x ∷ xs) (e ∷ es) p = (p .0, placed-plus (due + length (exprWords e 0)) xs es (p .1))
 
 -- what is rewritten passed 1 to 7, keeps the external rules, and is short
-pub record RewrittenFrom (policy out : List ℕ) : Type 0 where
+pub record RewrittenFrom (ours : ℕ) (policy out : List ℕ) : Type 0 where
   pub entries : List Entry
   pub source : List Expr
   pub known : List Known
-  pub checks : checkPolicy policy ≡ passed entries source known
+  pub checks : checkPolicy ours policy ≡ passed entries source known
   pub external : T (isExternal entries source)
   pub outputIs : output policy entries source ≡ out
   pub short : length out ≤ 8192
 
-pub rewritten-from : (policy out : List ℕ) → rewrite policy ≡ rewritten out → RewrittenFrom policy out
+pub rewritten-from : (ours : ℕ) (policy out : List ℕ) → rewrite ours policy ≡ rewritten out → RewrittenFrom ours policy out
 unfolding rewrite
-rewritten-from policy out h = go (checkPolicy policy) refl h
+rewritten-from ours policy out h = go (checkPolicy ours policy) refl h
   where
-    fits : (xs : List Entry) (es : List Expr) (ks : List Known) → checkPolicy policy ≡ passed xs es ks → (b : Bool) → (isExternal xs es && leb (length (output policy xs es)) 8192) ≡ b →
-        (elim b as (λ c. Rewriting) [ true ↦ rewritten (output policy xs es) | false ↦ refused notExternal noPart ]) ≡ rewritten out → RewrittenFrom policy out
+    fits : (xs : List Entry) (es : List Expr) (ks : List Known) → checkPolicy ours policy ≡ passed xs es ks → (b : Bool) → (isExternal xs es && leb (length (output policy xs es)) 8192) ≡ b →
+        (elim b as (λ c. Rewriting) [ true ↦ rewritten (output policy xs es) | false ↦ refused notExternal noPart ]) ≡ rewritten out → RewrittenFrom ours policy out
     fits xs es ks c true b f =
         let e : output policy xs es ≡ out = cc in
         let short = leb→le (length (output policy xs es)) 8192 (T-right (isExternal xs es) (leb (length (output policy xs es)) 8192) (T-true b)) in
@@ -213,31 +223,31 @@ rewritten-from policy out h = go (checkPolicy policy) refl h
         }
     fits xs es ks c false b f = impossible cc
 
-    go : (c : PolicyChecked) → checkPolicy policy ≡ c →
+    go : (c : PolicyChecked) → checkPolicy ours policy ≡ c →
         (elim c as (λ d. Rewriting) [
           | passed xs es ks ↦ elim (isExternal xs es && leb (length (output policy xs es)) 8192) as (λ d. Rewriting) [
             | true ↦ rewritten (output policy xs es)
             | false ↦ refused notExternal noPart
           ]
           | Definitions.refused n part ↦ refused n part
-        ]) ≡ rewritten out → RewrittenFrom policy out
+        ]) ≡ rewritten out → RewrittenFrom ours policy out
     go (passed xs es ks) c f = fits xs es ks c (isExternal xs es && leb (length (output policy xs es)) 8192) refl f
     go (Definitions.refused n part) c f = impossible cc
 
 pub theorem : Theorem
 unfolding output
-theorem policy out h = let t = rewritten-from policy out h in go t (keysListed (t .entries)) refl (t .outputIs)
+theorem ours policy out h = let t = rewritten-from ours policy out h in go t (keysListed (t .entries)) refl (t .outputIs)
   where
     kept : formatOf out ≡ formatOf policy
-    kept = let t = rewritten-from policy out h in subst (λ (ws : List ℕ). formatOf ws ≡ formatOf policy) (t .outputIs) (output-format policy (t .entries) (t .source))
+    kept = let t = rewritten-from ours policy out h in subst (λ (ws : List ℕ). formatOf ws ≡ formatOf policy) (t .outputIs) (output-format policy (t .entries) (t .source))
 
-    go : (t : RewrittenFrom policy out) (b : Bool) → keysListed (t .entries) ≡ b →
-        (elim b as (λ c. List ℕ) [ true ↦ policyWords (formatOf policy) (t .entries) (vetLater (t .source)) | false ↦ policy ]) ≡ out → Means policy out
+    go : (t : RewrittenFrom ours policy out) (b : Bool) → keysListed (t .entries) ≡ b →
+        (elim b as (λ c. List ℕ) [ true ↦ policyWords (formatOf policy) (t .entries) (vetLater (t .source)) | false ↦ policy ]) ≡ out → Means ours policy out
     go t true b f =
         let xs = t .entries in
         let es = t .source in
         let due = 2 + 4 * length xs in
-        let l = accepted-lengths (policy-accepted policy xs es (t .known) (t .checks) .definitions) in
+        let l = accepted-lengths (policy-accepted ours policy xs es (t .known) (t .checks) .definitions) in
         let m : length xs ≡ length (vetLater es) = l ∙ sym (later-lengths es) in
         let short = subst (λ (ws : List ℕ). length ws ≤ 8192) (sym f) (t .short) in
         record {
@@ -247,10 +257,10 @@ theorem policy out h = let t = rewritten-from policy out h in go t (keysListed (
           checks = t .checks;
           places = placed due xs (vetLater es);
           target = vetLater es;
-          passes = subst (λ (ws : List ℕ). checkPolicy ws ≡ passed (placed due xs (vetLater es)) (vetLater es) (t .known)) f
-              (rewritten-passes policy xs es (t .known) (t .checks) (T-true b) (t .external) short);
+          passes = subst (λ (ws : List ℕ). checkPolicy ours ws ≡ passed (placed due xs (vetLater es)) (vetLater es) (t .known)) f
+              (rewritten-passes ours policy xs es (t .known) (t .checks) (T-true b) (t .external) short);
           short = t .short;
-          words = λ w. subst Words f (rewritten-words policy xs es (t .known) (t .checks) short w);
+          words = λ w. subst Words f (rewritten-words ours policy xs es (t .known) (t .checks) short w);
           count = later-lengths es;
           names = placed-same (λ x. x .name) (λ x a s. refl) due xs (vetLater es) m;
           polarities = placed-same (λ x. x .polarity) (λ x a s. refl) due xs (vetLater es) m;
@@ -268,25 +278,25 @@ theorem policy out h = let t = rewritten-from policy out h in go t (keysListed (
           checks = t .checks;
           places = xs;
           target = es;
-          passes = subst (λ (ws : List ℕ). checkPolicy ws ≡ passed xs es (t .known)) f (t .checks);
+          passes = subst (λ (ws : List ℕ). checkPolicy ours ws ≡ passed xs es (t .known)) f (t .checks);
           short = t .short;
           words = λ w. subst Words f w;
           count = refl;
           names = refl;
           polarities = refl;
-          positive = external-positive xs es (accepted-lengths (policy-accepted policy xs es (t .known) (t .checks) .definitions)) (t .external);
+          positive = external-positive xs es (accepted-lengths (policy-accepted ours policy xs es (t .known) (t .checks) .definitions)) (t .external);
           format = kept;
           same = λ W d r. rw kept (plain-same (formatOf policy) W xs es b d r);
         }
 
 -- what passed is one thing
-pub passed-once : (policy : List ℕ) {xs ys : List Entry} {es fs : List Expr} {ks ls : List Known} → checkPolicy policy ≡ passed xs es ks → checkPolicy policy ≡ passed ys fs ls →
+pub passed-once : (ours : ℕ) (policy : List ℕ) {xs ys : List Entry} {es fs : List Expr} {ks ls : List Known} → checkPolicy ours policy ≡ passed xs es ks → checkPolicy ours policy ≡ passed ys fs ls →
     (xs ≡ ys) × (es ≡ fs)
-passed-once policy {xs} {ys} {es} {fs} {ks} {ls} h g = let e : passed xs es ks ≡ passed ys fs ls = sym h ∙ g in (cc, cc)
+passed-once ours policy {xs} {ys} {es} {fs} {ks} {ls} h g = let e : passed xs es ks ≡ passed ys fs ls = sym h ∙ g in (cc, cc)
 
 pub unchanged : Unchanged
 unfolding output
-unchanged policy out entries source known c k h =
-    let t = rewritten-from policy out h in
-    let e : keysListed (t .entries) ≡ false = ap keysListed (passed-once policy (t .checks) c .0) ∙ k in
+unchanged ours policy out entries source known c k h =
+    let t = rewritten-from ours policy out h in
+    let e : keysListed (t .entries) ≡ false = ap keysListed (passed-once ours policy (t .checks) c .0) ∙ k in
     sym (t .outputIs) ∙ ap (λ (b : Bool). elim b as (λ c. List ℕ) [ true ↦ policyWords (formatOf policy) (t .entries) (vetLater (t .source)) | false ↦ policy ]) e

@@ -1,5 +1,5 @@
--- Document 01, "Portal cases" a to l, and document 02's terms (N4), links (N5) and formats (N6) by example, from the words filed and the words of policy and query
--- to the reply and the set. (P and Q are spelled out where they are judged, in `policy/specs/Judged.antt`.)
+-- Document 01, "Portal cases" a to l, and document 02's terms (N4), links (N5), formats (N6) and our own names (N7) by example, from the words filed and the words
+-- of policy and query to the reply and the set. (P and Q are spelled out where they are judged, in `policy/specs/Judged.antt`.)
 use Prim.Native.Nat.{ℕ}
 use mathlib.Core.Path.{_≡_}
 use mathlib.Core.List.{List, [], _∷_, _++_}
@@ -9,7 +9,7 @@ use Rattle.rows.specs.Sets.{only, allBut}
 use Rattle.certificates.specs.Stores.{AnyFiling, certificate, link, storesAt}
 use Rattle.policy.specs.Polarity.{exact, lower, upper}
 use Rattle.policy.specs.Format.{equalWidths, widerRows}
-use Rattle.policy.specs.Judged.{k1, P, Q, noDefinitions, inFormat, one, vetted, drawAll}
+use Rattle.policy.specs.Judged.{k1, P, Q, noDefinitions, inFormat, one, two, twoOf, vetted, own, ownVetted, absent7, drawAll}
 use Rattle.demands.specs.Query.{Outcome, answered, refused, lent, queryCall}
 
 -- "An empty store is a sound one with the count 0, whatever words follow."
@@ -21,6 +21,7 @@ emptyLinks = 0 ∷ replicate 1280 98
 
 pub record Case : Type 0 where
   pub filings : List AnyFiling
+  pub ourKey : ℕ
   pub minute : ℕ
   pub policy : List ℕ
   pub query : List ℕ
@@ -30,8 +31,18 @@ unfoldable pub Holds : Case → Type 0
 unfolding emptyStore emptyLinks
 Holds c =
     queryCall (storesAt (record { store = emptyStore; links = emptyLinks }) (c .filings))
-    (lent (c .policy) (c .query) (c .minute) (replicate 642 5) (replicate 10272 6) (replicate 16384 7))
+    (lent (c .policy) (c .query) (c .ourKey) (c .minute) (replicate 642 5) (replicate 10272 6) (replicate 16384 7))
     ≡ c .outcome
+
+abbrev k2 : ℕ
+k2 = 2147483650
+
+abbrev k3 : ℕ
+k3 = 2147483651
+
+-- a key of ours that no case names
+abbrev k9 : ℕ
+k9 = 2147483657
 
 -- k1, 1, +, row 7; k1, 2, −, row 7; k1, 1, +, row 8; document 02, N4: "read at minute 0, their certificates holding from 0 to 1"
 abbrev b : AnyFiling
@@ -43,20 +54,21 @@ c = certificate (k1 ∷ 2 ∷ 1 ∷ 1 ∷ 7 ∷ 0 ∷ 0 ∷ 0 ∷ 0 ∷ 1 ∷ []
 abbrev d : AnyFiling
 d = certificate (k1 ∷ 1 ∷ 0 ∷ 1 ∷ 8 ∷ 0 ∷ 0 ∷ 0 ∷ 0 ∷ 1 ∷ [])
 
+-- document 02, N7: "Cases a to l are given k2."
 unfoldable pub cases : List Case
 cases =
-    record { filings = []; minute = 0; policy = P; query = Q; outcome = answered lower 0 (only []) }  -- a
-    ∷ record { filings = b ∷ []; minute = 0; policy = P; query = Q; outcome = answered lower 1 (only []) }  -- b
-    ∷ record { filings = b ∷ c ∷ []; minute = 0; policy = P; query = Q; outcome = answered lower 1 (only ((7 ∷ []) ∷ [])) }  -- c
-    ∷ record { filings = b ∷ c ∷ d ∷ []; minute = 0; policy = P; query = Q; outcome = answered lower 2 (only ((7 ∷ []) ∷ [])) }  -- d
-    ∷ record { filings = b ∷ c ∷ d ∷ []; minute = 0; policy = P; query = 4 ∷ 0 ∷ k1 ∷ 2 ∷ 1 ∷ []; outcome = answered upper 2 (allBut ((7 ∷ []) ∷ [])) }  -- e
-    ∷ record { filings = []; minute = 0; policy = noDefinitions; query = 6 ∷ 4 ∷ 0 ∷ k1 ∷ 1 ∷ 0 ∷ 4 ∷ 0 ∷ k1 ∷ 1 ∷ 0 ∷ []; outcome = refused 6 16 }  -- f
-    ∷ record { filings = []; minute = 0; policy = noDefinitions; query = 7 ∷ 1 ∷ 1 ∷ 4 ∷ 0 ∷ k1 ∷ 2 ∷ 1 ∷ 1 ∷ 2 ∷ 0 ∷ 1 ∷ 1 ∷ 0 ∷ []; outcome = refused 7 16 }  -- g
-    ∷ record { filings = []; minute = 0; policy = noDefinitions; query = 6 ∷ 2 ∷ 1 ∷ 1 ∷ 0 ∷ 7 ∷ 2 ∷ 2 ∷ 1 ∷ 0 ∷ 7 ∷ 1 ∷ 0 ∷ 8 ∷ []; outcome = answered exact 0 (only ((8 ∷ []) ∷ [])) }  -- h
-    ∷ record { filings = []; minute = 0; policy = noDefinitions; query = 5 ∷ 2 ∷ 2 ∷ 1 ∷ 0 ∷ 7 ∷ 1 ∷ 0 ∷ 8 ∷ 1 ∷ 1 ∷ 1 ∷ 0 ∷ 8 ∷ []; outcome = answered exact 0 (allBut ((7 ∷ []) ∷ [])) }  -- i
-    ∷ record { filings = []; minute = 0; policy = noDefinitions; query = 1 ∷ 0 ∷ []; outcome = answered exact 0 (only []) }  -- j
-    ∷ record { filings = []; minute = 0; policy = noDefinitions; query = 7 ∷ 0 ∷ 1 ∷ 0 ∷ 7 ∷ []; outcome = answered exact 0 (only ((7 ∷ []) ∷ [])) }  -- k
-    ∷ record { filings = []; minute = 0; policy = noDefinitions; query = 7 ∷ 2 ∷ 1 ∷ 1 ∷ 1 ∷ 1 ∷ 0 ∷ 5 ∷ 1 ∷ 2 ∷ 0 ∷ 1 ∷ 4 ∷ 1 ∷ 0 ∷ 1 ∷ 0 ∷ 1 ∷ 2 ∷ 1 ∷ 1 ∷ 1 ∷ 1 ∷ []; outcome = answered lower 1 (only []) }  -- l
+    record { filings = []; ourKey = k2; minute = 0; policy = P; query = Q; outcome = answered lower 0 (only []) }  -- a
+    ∷ record { filings = b ∷ []; ourKey = k2; minute = 0; policy = P; query = Q; outcome = answered lower 1 (only []) }  -- b
+    ∷ record { filings = b ∷ c ∷ []; ourKey = k2; minute = 0; policy = P; query = Q; outcome = answered lower 1 (only ((7 ∷ []) ∷ [])) }  -- c
+    ∷ record { filings = b ∷ c ∷ d ∷ []; ourKey = k2; minute = 0; policy = P; query = Q; outcome = answered lower 2 (only ((7 ∷ []) ∷ [])) }  -- d
+    ∷ record { filings = b ∷ c ∷ d ∷ []; ourKey = k2; minute = 0; policy = P; query = 4 ∷ 0 ∷ k1 ∷ 2 ∷ 1 ∷ []; outcome = answered upper 2 (allBut ((7 ∷ []) ∷ [])) }  -- e
+    ∷ record { filings = []; ourKey = k2; minute = 0; policy = noDefinitions; query = 6 ∷ 4 ∷ 0 ∷ k1 ∷ 1 ∷ 0 ∷ 4 ∷ 0 ∷ k1 ∷ 1 ∷ 0 ∷ []; outcome = refused 6 16 }  -- f
+    ∷ record { filings = []; ourKey = k2; minute = 0; policy = noDefinitions; query = 7 ∷ 1 ∷ 1 ∷ 4 ∷ 0 ∷ k1 ∷ 2 ∷ 1 ∷ 1 ∷ 2 ∷ 0 ∷ 1 ∷ 1 ∷ 0 ∷ []; outcome = refused 7 16 }  -- g
+    ∷ record { filings = []; ourKey = k2; minute = 0; policy = noDefinitions; query = 6 ∷ 2 ∷ 1 ∷ 1 ∷ 0 ∷ 7 ∷ 2 ∷ 2 ∷ 1 ∷ 0 ∷ 7 ∷ 1 ∷ 0 ∷ 8 ∷ []; outcome = answered exact 0 (only ((8 ∷ []) ∷ [])) }  -- h
+    ∷ record { filings = []; ourKey = k2; minute = 0; policy = noDefinitions; query = 5 ∷ 2 ∷ 2 ∷ 1 ∷ 0 ∷ 7 ∷ 1 ∷ 0 ∷ 8 ∷ 1 ∷ 1 ∷ 1 ∷ 0 ∷ 8 ∷ []; outcome = answered exact 0 (allBut ((7 ∷ []) ∷ [])) }  -- i
+    ∷ record { filings = []; ourKey = k2; minute = 0; policy = noDefinitions; query = 1 ∷ 0 ∷ []; outcome = answered exact 0 (only []) }  -- j
+    ∷ record { filings = []; ourKey = k2; minute = 0; policy = noDefinitions; query = 7 ∷ 0 ∷ 1 ∷ 0 ∷ 7 ∷ []; outcome = answered exact 0 (only ((7 ∷ []) ∷ [])) }  -- k
+    ∷ record { filings = []; ourKey = k2; minute = 0; policy = noDefinitions; query = 7 ∷ 2 ∷ 1 ∷ 1 ∷ 1 ∷ 1 ∷ 0 ∷ 5 ∷ 1 ∷ 2 ∷ 0 ∷ 1 ∷ 4 ∷ 1 ∷ 0 ∷ 1 ∷ 0 ∷ 1 ∷ 2 ∷ 1 ∷ 1 ∷ 1 ∷ 1 ∷ []; outcome = answered lower 1 (only []) }  -- l
     ∷ []
 
 -- Document 02, N4: "it holds from the first up to, but without, the end". Row 7 from minute 10 to 20, in k1's list 1 + and not in its list 2 −; and in list 1 +
@@ -72,23 +84,17 @@ releasedAgain = certificate (k1 ∷ 1 ∷ 0 ∷ 1 ∷ 7 ∷ 0 ∷ 0 ∷ 0 ∷ 15
 
 unfoldable pub terms : List Case
 terms =
-    record { filings = released ∷ notWithdrawn ∷ []; minute = 9; policy = P; query = Q; outcome = answered lower 0 (only []) }  -- not yet
-    ∷ record { filings = released ∷ notWithdrawn ∷ []; minute = 10; policy = P; query = Q; outcome = answered lower 1 (only ((7 ∷ []) ∷ [])) }  -- it holds
-    ∷ record { filings = released ∷ notWithdrawn ∷ []; minute = 19; policy = P; query = Q; outcome = answered lower 1 (only ((7 ∷ []) ∷ [])) }
-    ∷ record { filings = released ∷ notWithdrawn ∷ []; minute = 20; policy = P; query = Q; outcome = answered lower 0 (only []) }  -- at its end
-    ∷ record { filings = notWithdrawn ∷ []; minute = 19; policy = noDefinitions; query = 4 ∷ 0 ∷ k1 ∷ 2 ∷ 1 ∷ []; outcome = answered upper 0 (allBut ((7 ∷ []) ∷ [])) }
-    ∷ record { filings = notWithdrawn ∷ []; minute = 20; policy = noDefinitions; query = 4 ∷ 0 ∷ k1 ∷ 2 ∷ 1 ∷ []; outcome = answered upper 0 (allBut []) }
-    ∷ record { filings = released ∷ releasedAgain ∷ notWithdrawn ∷ []; minute = 15; policy = P; query = Q; outcome = answered lower 1 (only ((7 ∷ []) ∷ [])) }  -- both hold: one row, one draw
-    ∷ record { filings = released ∷ releasedAgain ∷ []; minute = 24; policy = noDefinitions; query = 4 ∷ 0 ∷ k1 ∷ 1 ∷ 0 ∷ []; outcome = answered lower 0 (only ((7 ∷ []) ∷ [])) }
+    record { filings = released ∷ notWithdrawn ∷ []; ourKey = k2; minute = 9; policy = P; query = Q; outcome = answered lower 0 (only []) }  -- not yet
+    ∷ record { filings = released ∷ notWithdrawn ∷ []; ourKey = k2; minute = 10; policy = P; query = Q; outcome = answered lower 1 (only ((7 ∷ []) ∷ [])) }  -- it holds
+    ∷ record { filings = released ∷ notWithdrawn ∷ []; ourKey = k2; minute = 19; policy = P; query = Q; outcome = answered lower 1 (only ((7 ∷ []) ∷ [])) }
+    ∷ record { filings = released ∷ notWithdrawn ∷ []; ourKey = k2; minute = 20; policy = P; query = Q; outcome = answered lower 0 (only []) }  -- at its end
+    ∷ record { filings = notWithdrawn ∷ []; ourKey = k2; minute = 19; policy = noDefinitions; query = 4 ∷ 0 ∷ k1 ∷ 2 ∷ 1 ∷ []; outcome = answered upper 0 (allBut ((7 ∷ []) ∷ [])) }
+    ∷ record { filings = notWithdrawn ∷ []; ourKey = k2; minute = 20; policy = noDefinitions; query = 4 ∷ 0 ∷ k1 ∷ 2 ∷ 1 ∷ []; outcome = answered upper 0 (allBut []) }
+    ∷ record { filings = released ∷ releasedAgain ∷ notWithdrawn ∷ []; ourKey = k2; minute = 15; policy = P; query = Q; outcome = answered lower 1 (only ((7 ∷ []) ∷ [])) }  -- both hold: one row, one draw
+    ∷ record { filings = released ∷ releasedAgain ∷ []; ourKey = k2; minute = 24; policy = noDefinitions; query = 4 ∷ 0 ∷ k1 ∷ 1 ∷ 0 ∷ []; outcome = answered lower 0 (only ((7 ∷ []) ∷ [])) }
     ∷ []
 
 -- Document 02, N5: "The value read for a name joins the certified rows of every name that links reach from it, itself included."
-
-abbrev k2 : ℕ
-k2 = 2147483650
-
-abbrev k3 : ℕ
-k3 = 2147483651
 
 -- row x is in the key's list n +; it is not in the key's list n −
 abbrev isIn : ℕ → ℕ → ℕ → AnyFiling
@@ -106,7 +112,7 @@ containedIn key n other m = link (key ∷ n ∷ 1 ∷ other ∷ m ∷ [])
 
 -- asked at minute 0, with no definitions: a query, here mostly a key's list n, + or −
 abbrev asked : List AnyFiling → List ℕ → Outcome → Case
-asked filings query outcome = record { filings = filings; minute = 0; policy = noDefinitions; query = query; outcome = outcome }
+asked filings query outcome = record { filings = filings; ourKey = k9; minute = 0; policy = noDefinitions; query = query; outcome = outcome }
 
 abbrev plusList : ℕ → ℕ → List ℕ
 plusList key n = 4 ∷ 0 ∷ key ∷ n ∷ 0 ∷ []
@@ -151,14 +157,14 @@ links =
     ∷ asked (contains k1 2 k2 2 ∷ isNotIn k2 2 7 ∷ []) (minusList k1 2) (answered upper 0 (allBut []))  -- "The same number under both polarities is two names."
     ∷ asked (containedIn k1 1 k2 1 ∷ isIn k2 1 7 ∷ []) (plusList k1 1) (answered lower 0 (only []))
     -- P draws 7 and 8 through the + link; through a − link it finds 7 absent
-    ∷ record { filings = elsewhere; minute = 0; policy = P; query = Q; outcome = answered lower 2 (only []) }
-    ∷ record { filings = containedIn k1 2 k2 6 ∷ elsewhere; minute = 0; policy = P; query = Q; outcome = answered lower 2 (only ((7 ∷ []) ∷ [])) }
+    ∷ record { filings = elsewhere; ourKey = k9; minute = 0; policy = P; query = Q; outcome = answered lower 2 (only []) }
+    ∷ record { filings = containedIn k1 2 k2 6 ∷ elsewhere; ourKey = k9; minute = 0; policy = P; query = Q; outcome = answered lower 2 (only ((7 ∷ []) ∷ [])) }
     ∷ asked (contains k1 1 k2 1 ∷ isIn k2 1 7 ∷ contains k1 1 k2 1 ∷ []) (plusList k1 1) (answered lower 0 (only ((7 ∷ []) ∷ [])))  -- filed twice
     ∷ asked malformed (plusList k1 1) (answered lower 0 (only ((8 ∷ []) ∷ [])))  -- 18 changes nothing
     ∷ asked (link (k1 ∷ 2 ∷ 2 ∷ k2 ∷ 2 ∷ []) ∷ isNotIn k2 2 7 ∷ []) (minusList k1 2) (answered upper 0 (allBut []))  -- polarity 2 is none
     -- the certificate's term counts; "Links have no term of validity."
-    ∷ record { filings = forATerm; minute = 19; policy = noDefinitions; query = plusList k1 1; outcome = answered lower 0 (only ((7 ∷ []) ∷ [])) }
-    ∷ record { filings = forATerm; minute = 20; policy = noDefinitions; query = plusList k1 1; outcome = answered lower 0 (only []) }
+    ∷ record { filings = forATerm; ourKey = k9; minute = 19; policy = noDefinitions; query = plusList k1 1; outcome = answered lower 0 (only ((7 ∷ []) ∷ [])) }
+    ∷ record { filings = forATerm; ourKey = k9; minute = 20; policy = noDefinitions; query = plusList k1 1; outcome = answered lower 0 (only []) }
     -- l with k1 for 5: a variable issuer's list is read through links too
     ∷ asked (contains k1 1 k2 1 ∷ isIn k2 1 7 ∷ []) (7 ∷ 2 ∷ 1 ∷ 1 ∷ 1 ∷ 1 ∷ 0 ∷ k1 ∷ 1 ∷ 2 ∷ 0 ∷ 1 ∷ 4 ∷ 1 ∷ 0 ∷ 1 ∷ 0 ∷ 1 ∷ 2 ∷ 1 ∷ 1 ∷ 1 ∷ 1 ∷ [])
     (answered lower 2 (only ((7 ∷ []) ∷ [])))
@@ -170,8 +176,8 @@ links =
 -- asked at a minute under a policy, first in format 1, then in format 2
 abbrev inBoth : List AnyFiling → ℕ → List ℕ → List ℕ → Outcome → Outcome → List Case
 inBoth filings minute policy query equal wider =
-    record { filings = filings; minute = minute; policy = inFormat equalWidths policy; query = query; outcome = equal }
-    ∷ record { filings = filings; minute = minute; policy = inFormat widerRows policy; query = query; outcome = wider }
+    record { filings = filings; ourKey = k9; minute = minute; policy = inFormat equalWidths policy; query = query; outcome = equal }
+    ∷ record { filings = filings; ourKey = k9; minute = minute; policy = inFormat widerRows policy; query = query; outcome = wider }
     ∷ []
 
 -- row (x, y) is in the key's list n +; it is not in the key's list n −
@@ -242,9 +248,59 @@ formats =
     ++ inBoth widerForATerm 19 noDefinitions (drawAll (plusList k1 1)) (answered lower 1 (only [])) (answered lower 1 (only ((7 ∷ []) ∷ [])))
     ++ inBoth widerForATerm 20 noDefinitions (drawAll (plusList k1 1)) (answered lower 0 (only [])) (answered lower 0 (only []))
     -- "Refusal 1 now lets formats 1 and 2 pass", and no others
-    ++ (record { filings = []; minute = 0; policy = inFormat 0 noDefinitions; query = 1 ∷ 0 ∷ []; outcome = refused 1 17 }
-    ∷ record { filings = []; minute = 0; policy = inFormat 3 noDefinitions; query = 1 ∷ 0 ∷ []; outcome = refused 1 17 }
+    ++ (record { filings = []; ourKey = k9; minute = 0; policy = inFormat 0 noDefinitions; query = 1 ∷ 0 ∷ []; outcome = refused 1 17 }
+    ∷ record { filings = []; ourKey = k9; minute = 0; policy = inFormat 3 noDefinitions; query = 1 ∷ 0 ∷ []; outcome = refused 1 17 }
     ∷ [])
+
+-- Document 02, N7: "Code 4 with that key as a fixed issuer reads the definition of that name and polarity". Our key is k2; names 10 and 11 are defined.
+
+abbrev ours : List AnyFiling → ℕ → List ℕ → List ℕ → Outcome → Case
+ours filings minute policy query outcome = record { filings = filings; ourKey = k2; minute = minute; policy = policy; query = query; outcome = outcome }
+
+-- row 7 of a set that it is absent from
+abbrev sevenUnless : List ℕ → List ℕ
+sevenUnless e = 7 ∷ 1 ∷ (absent7 e ++ (1 ∷ 0 ∷ 7 ∷ []))
+
+-- name 10 −, which lists one key, and name 11 +, k1's list 1: as an external policy has compromised keys
+abbrev withCompromised : ℕ → List ℕ
+withCompromised key = twoOf 1 (1 ∷ 1 ∷ 1 ∷ 0 ∷ key ∷ []) 0 (plusList k1 1)
+
+unfoldable pub ourNames : List Case
+ourNames =
+    -- our released list is its definition, k1's list 1; a second definition draws from it, two draws, and the query reads that
+    ours (b ∷ d ∷ []) 0 (two (plusList k1 1) (drawAll (own 10 0))) (own 11 0) (answered lower 2 (only ((7 ∷ []) ∷ (8 ∷ []) ∷ [])))
+    -- what is certified under our key is not read, nor what a link of our key's list reaches
+    ∷ ours (isIn k2 10 9 ∷ b ∷ []) 0 (one 0 (plusList k1 1)) (own 10 0) (answered lower 0 (only ((7 ∷ []) ∷ [])))
+    ∷ ours (contains k2 10 k1 3 ∷ isIn k1 3 9 ∷ b ∷ []) 0 (one 0 (plusList k1 1)) (own 10 0) (answered lower 0 (only ((7 ∷ []) ∷ [])))
+    -- "A variable that happens to hold our key still reads certificates": of name 10, and of one that is not defined
+    ∷ ours (isIn k2 10 9 ∷ b ∷ []) 0 (one 0 (plusList k1 1)) (7 ∷ 2 ∷ 1 ∷ 1 ∷ 1 ∷ 1 ∷ 0 ∷ k2 ∷ 1 ∷ 2 ∷ 0 ∷ 1 ∷ 4 ∷ 1 ∷ 0 ∷ 10 ∷ 0 ∷ 1 ∷ 2 ∷ 1 ∷ 1 ∷ 1 ∷ 1 ∷ []) (answered lower 2 (only ((9 ∷ []) ∷ [])))
+    ∷ ours (isIn k2 12 9 ∷ []) 0 noDefinitions (7 ∷ 2 ∷ 1 ∷ 1 ∷ 1 ∷ 1 ∷ 0 ∷ k2 ∷ 1 ∷ 2 ∷ 0 ∷ 1 ∷ 4 ∷ 1 ∷ 0 ∷ 12 ∷ 0 ∷ 1 ∷ 2 ∷ 1 ∷ 1 ∷ 1 ∷ 1 ∷ []) (answered lower 2 (only ((9 ∷ []) ∷ [])))
+    -- "which only variables and links can reach": k3's list 1 contains ours
+    ∷ ours (contains k3 1 k2 10 ∷ isIn k2 10 9 ∷ b ∷ []) 0 (one 0 (plusList k1 1)) (plusList k3 1) (answered lower 0 (only ((9 ∷ []) ∷ [])))
+    -- a − name: upper; of a definition that is not open it is drawn from
+    ∷ ours (c ∷ []) 0 (one 1 (minusList k1 2)) (own 10 1) (answered upper 0 (allBut ((7 ∷ []) ∷ [])))
+    ∷ ours [] 0 (one 1 (1 ∷ 1 ∷ 1 ∷ 0 ∷ 7 ∷ [])) (drawAll (own 10 1)) (answered upper 1 (only ((7 ∷ []) ∷ [])))
+    ∷ ours [] 0 (one 0 (2 ∷ 1 ∷ 1 ∷ 0 ∷ 7 ∷ [])) (drawAll (own 10 0)) (refused 7 16)
+    -- absent from our own name
+    ∷ ours (b ∷ []) 0 (one 0 (plusList k1 1)) (sevenUnless (own 10 0)) (answered upper 0 (only []))
+    ∷ ours (d ∷ []) 0 (one 0 (plusList k1 1)) (sevenUnless (own 10 0)) (answered upper 0 (only ((7 ∷ []) ∷ [])))
+    -- "If none is available there, it is refused with 4": the other polarity, in the query and in a definition; itself; a later one
+    ∷ ours (b ∷ []) 0 (one 0 (plusList k1 1)) (own 10 1) (refused 4 16)
+    ∷ ours (b ∷ []) 0 (two (plusList k1 1) (own 10 1)) (own 11 0) (refused 4 1)
+    ∷ ours (b ∷ []) 0 (one 0 (own 10 0)) (own 10 0) (refused 4 0)
+    ∷ ours (b ∷ []) 0 (two (own 11 0) (plusList k1 1)) (own 10 0) (refused 4 0)
+    -- "Code 8 with our key does the same for the list that it guards": no rows where our key is compromised
+    ∷ ours (b ∷ isIn k2 11 9 ∷ []) 0 (withCompromised k3) (ownVetted 11 0) (answered lower 0 (only ((7 ∷ []) ∷ [])))
+    ∷ ours (b ∷ isIn k2 11 9 ∷ []) 0 (withCompromised k2) (ownVetted 11 0) (answered lower 0 (only []))
+    -- a definition has what holds at the minute
+    ∷ ours (released ∷ []) 19 (one 0 (plusList k1 1)) (own 10 0) (answered lower 0 (only ((7 ∷ []) ∷ [])))
+    ∷ ours (released ∷ []) 20 (one 0 (plusList k1 1)) (own 10 0) (answered lower 0 (only []))
+    -- "20, the number given as our key is not a key, before all others"
+    ∷ record { filings = []; ourKey = 2147483647; minute = 0; policy = []; query = []; outcome = refused 20 17 }
+    ∷ record { filings = b ∷ c ∷ []; ourKey = 5; minute = 0; policy = P; query = Q; outcome = refused 20 17 }
+    -- with k3 as our key, k2's names are read from certificates
+    ∷ record { filings = isIn k2 10 9 ∷ b ∷ []; ourKey = k3; minute = 0; policy = one 0 (plusList k1 1); query = own 10 0; outcome = answered lower 0 (only ((9 ∷ []) ∷ [])) }
+    ∷ []
 
 abbrev pub AllHold : Type 0
 AllHold = All Holds cases
@@ -257,3 +313,6 @@ LinksHold = All Holds links
 
 abbrev pub FormatsHold : Type 0
 FormatsHold = All Holds formats
+
+abbrev pub OurNamesHold : Type 0
+OurNamesHold = All Holds ourNames

@@ -37,6 +37,7 @@ pub data Filing (kind : Kind) (store w : List ℕ) : FilingReply → Type 0 wher
 pub record Alike (c d : Call) : Type 0 where
   pub policy : c .policy ≡ d .policy
   pub query : c .query ≡ d .query
+  pub ourKey : c .ourKey ≡ d .ourKey
   pub minute : c .minute ≡ d .minute
   pub answer : c .answer ≡ d .answer
   pub room : roomy c ≡ roomy d
@@ -58,9 +59,9 @@ pub record Theorem : Type 0 where
   pub answerStays : (s : Stores) (c : Call) (n part : ℕ) → queryCall s c ≡ Query.refused n part → answerArea (queryCall s c) (c .answer) ≡ c .answer
   -- "draws are 0"
   pub noDraws : (s : Stores) (c : Call) (n part : ℕ) → queryCall s c ≡ Query.refused n part → drawsOf (queryCall s c) ≡ 0
-  -- 12 is never met: what passed the checks draws only from what is not open, and that is read as a finite set, whatever is held and
-  -- whichever format the policy has
-  pub never12 : (policy query : List ℕ) (es : List Expr) (q : Expr) (v : Verdict) → check policy query ≡ checked es q v → (h : Held) (part : ℕ) →
+  -- 12 is never met: what passed the checks draws only from what is not open, and that is read as a finite set, whatever is held, whichever format the policy
+  -- has and whichever key is ours
+  pub never12 : (ours : ℕ) (policy query : List ℕ) (es : List Expr) (q : Expr) (v : Verdict) → check ours policy query ≡ checked es q v → (h : Held) (part : ℕ) →
       ¬ (readFrom (formatOf policy) (namesHeld h) es q v [] 0 ≡ Query.refused complementDrawn part)
   -- "no result depends on their earlier words": those of the definition area and of the scratch area
   pub earlierWords : (s : Stores) (c d : Call) → Alike c d → (queryCall s c ≡ queryCall s d) × (answerArea (queryCall s c) (c .answer) ≡ answerArea (queryCall s d) (d .answer))

@@ -1,7 +1,7 @@
 -- Demand 2: "An answered query equals the QCM meaning of policy and query in the minimal model of the filed certificates, as rows, form, verdict and number
 -- of draws; refusals occur under the listed conditions and under no others." (The refusals: `query` of Demand 1.) Document 02, N4: the call "reads only the
 -- certificates that hold then", so the minimal model is that of its minute; N5: with links it is "the least + lists and the greatest − lists that satisfy every
--- certificate and link"; N6: "The query follows its policy's format", in what is read and in what belongs.
+-- certificate and link"; N6: "The query follows its policy's format", in what is read and in what belongs; N7: so does what our own names stand for.
 use Prim.Native.Nat.{ℕ, _+_, _*_}
 use mathlib.Core.Path.{_≡_}
 use mathlib.Core.Logic.{_↔_}
@@ -30,15 +30,15 @@ pub record CallWords (c : Call) : Type 0 where
   pub policy : Words (c .policy)
   pub query : Words (c .query)
 
--- the row belongs to the query under the policy, in its format and in this world
+-- the row belongs to the query under the policy, in its format, in this world, our key being the call's
 unfoldable pub InQuery : Call → World → Row → Type 0
 unfolding check BelongsTo
-InQuery c W r = elim (check (c .policy) (c .query)) [ checked es q v ↦ BelongsTo (formatOf (c .policy)) W es q r | refused n part ↦ ⊥ ]
+InQuery c W r = elim (check (c .ourKey) (c .policy) (c .query)) [ checked es q v ↦ BelongsTo (formatOf (c .policy)) W es q r | refused n part ↦ ⊥ ]
 
 -- an answer: the verdict is the judgement's, the set (its form too) and the draws are those of reading from these names
 pub record Answer (names : Evidence) (c : Call) (v : Verdict) (k : ℕ) (S : RowSet) : Type 0 where
-  pub verdictIs : judge (c .policy) (c .query) ≡ verdict v
-  pub isRead : (es : List Expr) × (q : Expr) × (check (c .policy) (c .query) ≡ checked es q v) × (readFrom (formatOf (c .policy)) names es q v [] 0 ≡ answered v k S)
+  pub verdictIs : judge (c .ourKey) (c .policy) (c .query) ≡ verdict v
+  pub isRead : (es : List Expr) × (q : Expr) × (check (c .ourKey) (c .policy) (c .query) ≡ checked es q v) × (readFrom (formatOf (c .policy)) names es q v [] 0 ≡ answered v k S)
 
 -- its layout: the words are a sound set, that of the answer, and past them the area is as it was
 pub record LaidOut (area now : List ℕ) (S : RowSet) : Type 0 where

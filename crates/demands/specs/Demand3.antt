@@ -10,7 +10,7 @@
 -- Document 02, N4: "The worlds of a minute are those where all certificates accepted so far that hold then are true; demand 3 speaks of these, and two points
 -- are compared at one minute." N5: "Demand 3's lists now hold filings of both kinds, into two empty stores, and 'held' counts those of the filing's own kind
 -- alone. In its worlds the links accepted so far are true as well." N6: "The bounds users rely on are shown over the matching rule, for both": a policy is of
--- either format.
+-- either format. N7: "The worlds keep their lists for our key, which only variables and links can reach. Two points are compared with one word given as our key."
 use Prim.Native.Nat.{ℕ}
 use mathlib.Core.Path.{_≡_}
 use mathlib.Core.Logic.{_↔_}
@@ -118,8 +118,9 @@ pub record Demand3 (s : Stores) (filings : List AnyFiling) : Type 1 where
   -- and the rows that its verdict promises;
   pub bounds : FiledWords filings → (p : Point filings) (c : Call) → CallWords c → (v : Verdict) (k : ℕ) (S : RowSet) →
       queryCall (storesAt s (p .passed)) c ≡ answered v k S → Bounds (heldAfter (c .minute) (p .passed)) c v S
-  -- over two points, at one minute, lower answers grow, upper answers shrink, exact answers stay; the areas lent may differ
-  pub later : FiledWords filings → (p q : Point filings) → Earlier p q → (c d : Call) → CallWords c → c .policy ≡ d .policy → c .query ≡ d .query → c .minute ≡ d .minute →
+  -- over two points, at one minute and with one key of ours, lower answers grow, upper answers shrink, exact answers stay; the areas lent may differ
+  pub later : FiledWords filings → (p q : Point filings) → Earlier p q → (c d : Call) → CallWords c → c .policy ≡ d .policy → c .query ≡ d .query → c .ourKey ≡ d .ourKey →
+      c .minute ≡ d .minute →
       (v v′ : Verdict) (k k′ : ℕ) (S S′ : RowSet) →
       queryCall (storesAt s (p .passed)) c ≡ answered v k S → queryCall (storesAt s (q .passed)) d ≡ answered v′ k′ S′ → Grows v v′ S S′
 

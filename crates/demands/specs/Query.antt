@@ -1,5 +1,6 @@
 -- Document 01, "Reading" and the refusal table: the query call, in the order "1, 2; each definition, then the query; 8; 11; then reading, first met", with
--- document 02's 18 (N5) "in a query right after 8". N6: "The query follows its policy's format": it is read in that, as the definitions are.
+-- document 02's 18 (N5) "in a query right after 8" and 20 (N7) "before all others". N6: "The query follows its policy's format": it is read in that, as the
+-- definitions are.
 use Prim.Native.Nat.{ℕ}
 use mathlib.Core.Bool.{Bool, true, false, _&&_}
 use mathlib.Core.List.{List, [], _∷_, _++_}
@@ -42,18 +43,20 @@ definitionRoom = 10272
 abbrev pub scratchRoom : ℕ
 scratchRoom = 16384
 
--- what a query call is given besides the stores; "A query call takes a minute" (document 02, N4), any word at all
+-- what a query call is given besides the stores; "takes our key as a word" (document 02, N7); "A query call takes a minute" (N4), any word at all
 pub record Call : Type 0 where
   pub policy : List ℕ
   pub query : List ℕ
+  pub ourKey : ℕ
   pub minute : ℕ
   pub answer : List ℕ
   pub definitions : List ℕ
   pub scratch : List ℕ
 
--- lent to a call: the policy, the query, the minute and the three areas
-abbrev pub lent : List ℕ → List ℕ → ℕ → List ℕ → List ℕ → List ℕ → Call
-lent policy query minute answer definitions scratch = record { policy = policy; query = query; minute = minute; answer = answer; definitions = definitions; scratch = scratch }
+-- lent to a call: the policy, the query, our key, the minute and the three areas
+abbrev pub lent : List ℕ → List ℕ → ℕ → ℕ → List ℕ → List ℕ → List ℕ → Call
+lent policy query ours minute answer definitions scratch =
+    record { policy = policy; query = query; ourKey = ours; minute = minute; answer = answer; definitions = definitions; scratch = scratch }
 
 -- the three areas are long enough
 unfoldable pub roomy : Call → Bool
@@ -62,7 +65,7 @@ roomy c = leb setRoom (length (c .answer)) && (leb definitionRoom (length (c .de
 -- an accepted policy and query, read in the policy's format from this evidence if the areas are long enough
 unfoldable pub outcomeFrom : Evidence → Call → Outcome
 unfolding check roomy readFrom
-outcomeFrom names c = elim (check (c .policy) (c .query)) [
+outcomeFrom names c = elim (check (c .ourKey) (c .policy) (c .query)) [
   | Checking.refused n part ↦ refused n part
   | checked es q v ↦ elim (roomy c) [
     | false ↦ refused shortArea noPart
@@ -73,7 +76,7 @@ outcomeFrom names c = elim (check (c .policy) (c .query)) [
 -- the query call on the stores: 8, then 18, whether a name is read or not; what they hold at its minute is all that it reads names from
 unfoldable pub queryCall : Stores → Call → Outcome
 unfolding check soundStore soundLinks outcomeFrom namesHeld heldIn
-queryCall s c = elim (check (c .policy) (c .query)) [
+queryCall s c = elim (check (c .ourKey) (c .policy) (c .query)) [
   | Checking.refused n part ↦ refused n part
   | checked es q v ↦ elim (soundStore (s .store)) [
     | false ↦ refused badStore noPart
