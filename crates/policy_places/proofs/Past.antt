@@ -8,6 +8,7 @@ use native.Mathlib.Omega.{arith}
 use lib.ListN.{length, getD, length-append}
 use Rattle.rows.specs.Word.{All}
 use Rattle.rows.proofs.Lists.{no-elements}
+use Rattle.policy.specs.OwnKey.{Scope}
 use Rattle.policy.specs.Syntax.{Term, Slot, Expr, union, difference, Body, head, draw, same, different, absent}
 use Rattle.policy.specs.Words.{termWords, each, termRowWords, slotWords, fresh, guardCount, exprWords, bodyWords}
 use Rattle.policy.specs.WellFormed.{FitRow}
@@ -118,99 +119,99 @@ pass-end {ws} {at} {next} {i} p h = record {
 
 -- ---- what stands behind an expression or a row whose end is known
 
-module _ {m n : ℕ} {ws : List ℕ} {place : ℕ} where
-  pub right-here : {a b : Expr} {second : ℕ} → PastExpr ws place second → StandsTwo m n ws place a b → Stands m n ws second b
-  right-here {a} {b} past t = subst (λ (x : ℕ). Stands m n ws x b) (sym (past .past m n a (t .left))) (t .right)
+module _ {scope : Scope} {n : ℕ} {ws : List ℕ} {place : ℕ} where
+  pub right-here : {a b : Expr} {second : ℕ} → PastExpr ws place second → StandsTwo scope n ws place a b → Stands scope n ws second b
+  right-here {a} {b} past t = subst (λ (x : ℕ). Stands scope n ws x b) (sym (past .past scope n a (t .left))) (t .right)
 
-  pub both-past : {a b : Expr} {second r : ℕ} → PastExpr ws place second → PastExpr ws second r → StandsTwo m n ws place a b → r ≡ place + length (exprWords a n ++ exprWords b n)
+  pub both-past : {a b : Expr} {second r : ℕ} → PastExpr ws place second → PastExpr ws second r → StandsTwo scope n ws place a b → r ≡ place + length (exprWords a n ++ exprWords b n)
   both-past {a} {b} past next t =
-      let q = past .past m n a (t .left) in
-      let v = next .past m n b (right-here past t) in
+      let q = past .past scope n a (t .left) in
+      let v = next .past scope n b (right-here past t) in
       omega (arith, length-append (exprWords a n) (exprWords b n))
 
-  module _ {left : ℕ} {e : Expr} {p : List Slot} {c : Body} {pattern : ℕ} (past : PastExpr ws place pattern) (t : StandsDraw m n ws place left e p c) where
+  module _ {left : ℕ} {e : Expr} {p : List Slot} {c : Body} {pattern : ℕ} (past : PastExpr ws place pattern) (t : StandsDraw scope n ws place left e p c) where
     pub pattern-here : StandsPattern n ws pattern p
-    pattern-here = subst (λ (x : ℕ). StandsPattern n ws x p) (sym (past .past m n e (t .operand))) (t .pattern)
+    pattern-here = subst (λ (x : ℕ). StandsPattern n ws x p) (sym (past .past scope n e (t .operand))) (t .pattern)
 
     module _ {rest : ℕ} (next : PastPattern ws pattern rest) where
       pub rest-is : rest ≡ place + length (exprWords e n) + length (patternWords n p)
-      rest-is = let a = past .past m n e (t .operand) in let b = next .past n p pattern-here in omega arith
+      rest-is = let a = past .past scope n e (t .operand) in let b = next .past n p pattern-here in omega arith
 
-      pub rest-here : StandsBody m (n + fresh p) ws rest left c
-      rest-here = subst (λ (x : ℕ). StandsBody m (n + fresh p) ws x left c) (sym rest-is) (t .rest)
+      pub rest-here : StandsBody scope (n + fresh p) ws rest left c
+      rest-here = subst (λ (x : ℕ). StandsBody scope (n + fresh p) ws x left c) (sym rest-is) (t .rest)
 
-  module _ {left : ℕ} {r : List Term} {e : Expr} {c : Body} {inner : ℕ} (past : PastRow ws place inner) (t : StandsAbsent m n ws place left r e c) where
-    pub operand-here : Stands m n ws inner e
-    operand-here = subst (λ (x : ℕ). Stands m n ws x e) (sym (past .past n r (t .row))) (t .operand)
+  module _ {left : ℕ} {r : List Term} {e : Expr} {c : Body} {inner : ℕ} (past : PastRow ws place inner) (t : StandsAbsent scope n ws place left r e c) where
+    pub operand-here : Stands scope n ws inner e
+    operand-here = subst (λ (x : ℕ). Stands scope n ws x e) (sym (past .past n r (t .row))) (t .operand)
 
     module _ {rest : ℕ} (next : PastExpr ws inner rest) where
       pub over-is : rest ≡ place + length (termRowWords r) + length (exprWords e n)
-      over-is = let a = past .past n r (t .row) in let b = next .past m n e operand-here in omega arith
+      over-is = let a = past .past n r (t .row) in let b = next .past scope n e operand-here in omega arith
 
-      pub over-here : StandsBody m n ws rest left c
-      over-here = subst (λ (x : ℕ). StandsBody m n ws x left c) (sym over-is) (t .rest)
+      pub over-here : StandsBody scope n ws rest left c
+      over-here = subst (λ (x : ℕ). StandsBody scope n ws x left c) (sym over-is) (t .rest)
 
 -- ---- an expression
 
 test-length : (x y : Term) (v : List ℕ) → length (termWords x ++ (termWords y ++ v)) ≡ 4 + length v
 test-length x y v = omega (arith, length-append (termWords x) (termWords y ++ v), length-append (termWords y) v, term-length x, term-length y)
 
-on-two : {m n : ℕ} {ws : List ℕ} {at : ℕ} {e : Expr} (P : Expr → Type 0) → Stands m n ws at e → isNode (getD ws at 0) ≡ true → (getD ws at 0 ≡ 7 → ⊥) →
+on-two : {scope : Scope} {n : ℕ} {ws : List ℕ} {at : ℕ} {e : Expr} (P : Expr → Type 0) → Stands scope n ws at e → isNode (getD ws at 0) ≡ true → (getD ws at 0 ≡ 7 → ⊥) →
     ((a b : Expr) → P (union a b)) → ((a b : Expr) → P (difference a b)) → P e
 on-two {ws} {at} P s h k f g = elim (union-or-difference (getD ws at 0) h k) [ inl c ↦ on-union P s c f | inr c ↦ on-difference P s c g ]
 
 module _ {ws : List ℕ} {at : ℕ} where
   -- a leaf
   pub some-leaf : SomeExpr ws at → isNode (getD ws at 0) ≡ false → SomeLeaf ws at
-  some-leaf x c = on-leaf (λ e. Stands (x .m) (x .n) ws at e → SomeLeaf ws at) (x .here) c (λ y s. record { m = x .m; n = x .n; x = y; here = in-leaf s }) (x .here)
+  some-leaf x c = on-leaf (λ e. Stands (x .scope) (x .n) ws at e → SomeLeaf ws at) (x .here) c (λ y s. record { scope = x .scope; n = x .n; x = y; here = in-leaf s }) (x .here)
 
   pub past-leaf : {r : ℕ} → isNode (getD ws at 0) ≡ false → PastLeaf ws at r → PastExpr ws at r
   unfolding exprWords
-  past-leaf {r} c g = record { past = λ m n e s. on-leaf (λ x. Stands m n ws at x → r ≡ at + length (exprWords x n)) s c (λ x h. g .past m n x (in-leaf h)) s }
+  past-leaf {r} c g = record { past = λ scope n e s. on-leaf (λ x. Stands scope n ws at x → r ≡ at + length (exprWords x n)) s c (λ x h. g .past scope n x (in-leaf h)) s }
 
   -- codes 5 and 6
   pub some-first : SomeExpr ws at → isNode (getD ws at 0) ≡ true → (getD ws at 0 ≡ 7 → ⊥) → SomeExpr ws (at + 1)
   some-first x l h =
-      on-two (λ e. Stands (x .m) (x .n) ws at e → SomeExpr ws (at + 1)) (x .here) l h
-      (λ a b s. record { m = x .m; n = x .n; e = a; here = in-union s .left }) (λ a b s. record { m = x .m; n = x .n; e = a; here = in-difference s .left }) (x .here)
+      on-two (λ e. Stands (x .scope) (x .n) ws at e → SomeExpr ws (at + 1)) (x .here) l h
+      (λ a b s. record { scope = x .scope; n = x .n; e = a; here = in-union s .left }) (λ a b s. record { scope = x .scope; n = x .n; e = a; here = in-difference s .left }) (x .here)
 
   module _ {second : ℕ} (past : PastExpr ws (at + 1) second) where
     pub some-second : SomeExpr ws at → isNode (getD ws at 0) ≡ true → (getD ws at 0 ≡ 7 → ⊥) → SomeExpr ws second
     some-second x l h =
-        on-two (λ e. Stands (x .m) (x .n) ws at e → SomeExpr ws second) (x .here) l h
-        (λ a b s. record { m = x .m; n = x .n; e = b; here = right-here past (in-union s) }) (λ a b s. record { m = x .m; n = x .n; e = b; here = right-here past (in-difference s) }) (x .here)
+        on-two (λ e. Stands (x .scope) (x .n) ws at e → SomeExpr ws second) (x .here) l h
+        (λ a b s. record { scope = x .scope; n = x .n; e = b; here = right-here past (in-union s) }) (λ a b s. record { scope = x .scope; n = x .n; e = b; here = right-here past (in-difference s) }) (x .here)
 
     pub second-after : SomeExpr ws at → isNode (getD ws at 0) ≡ true → (getD ws at 0 ≡ 7 → ⊥) → at < second
     second-after x l h =
-        on-two (λ e. Stands (x .m) (x .n) ws at e → at < second) (x .here) l h
-        (λ a b s. let q = past .past (x .m) (x .n) a (in-union s .left) in omega arith) (λ a b s. let q = past .past (x .m) (x .n) a (in-difference s .left) in omega arith) (x .here)
+        on-two (λ e. Stands (x .scope) (x .n) ws at e → at < second) (x .here) l h
+        (λ a b s. let q = past .past (x .scope) (x .n) a (in-union s .left) in omega arith) (λ a b s. let q = past .past (x .scope) (x .n) a (in-difference s .left) in omega arith) (x .here)
 
     pub past-two : {r : ℕ} → isNode (getD ws at 0) ≡ true → (getD ws at 0 ≡ 7 → ⊥) → PastExpr ws second r → PastExpr ws at r
     unfolding exprWords
     past-two {r} l h g = record {
-      past = λ m n e s.
-          on-two (λ x. Stands m n ws at x → r ≡ at + length (exprWords x n)) s l h
+      past = λ scope n e s.
+          on-two (λ x. Stands scope n ws at x → r ≡ at + length (exprWords x n)) s l h
           (λ a b t. let q = both-past past g (in-union t) in omega arith) (λ a b t. let q = both-past past g (in-difference t) in omega arith) s;
     }
 
   -- code 7
   pub some-body : SomeExpr ws at → getD ws at 0 ≡ 7 → SomeBody ws (at + 2) (getD ws (at + 1) 0)
   some-body x h =
-      on-comprehension (λ e. Stands (x .m) (x .n) ws at e → SomeBody ws (at + 2) (getD ws (at + 1) 0)) (x .here) h
-      (λ b s. record { m = x .m; n = x .n; b = b; here = in-comprehension s .body }) (x .here)
+      on-comprehension (λ e. Stands (x .scope) (x .n) ws at e → SomeBody ws (at + 2) (getD ws (at + 1) 0)) (x .here) h
+      (λ b s. record { scope = x .scope; n = x .n; b = b; here = in-comprehension s .body }) (x .here)
 
   pub past-body : {r : ℕ} → getD ws at 0 ≡ 7 → PastBody ws (at + 2) (getD ws (at + 1) 0) r → PastExpr ws at r
   unfolding exprWords
   past-body {r} h g = record {
-    past = λ m n e s.
-        on-comprehension (λ x. Stands m n ws at x → r ≡ at + length (exprWords x n)) s h
-        (λ b t. let q = g .past m n b (in-comprehension t .body) in omega arith) s;
+    past = λ scope n e s.
+        on-comprehension (λ x. Stands scope n ws at x → r ≡ at + length (exprWords x n)) s h
+        (λ b t. let q = g .past scope n b (in-comprehension t .body) in omega arith) s;
   }
 
 -- ---- guards
 
 -- a guard that is neither a draw nor absent compares two terms
-pub on-test : {m n : ℕ} {ws : List ℕ} {at left : ℕ} {b : Body} (P : Body → Type 0) → StandsBody m n ws at left b → (left ≡ 0 → ⊥) → (getD ws at 0 ≡ 1 → ⊥) → (getD ws at 0 ≡ 4 → ⊥) →
+pub on-test : {scope : Scope} {n : ℕ} {ws : List ℕ} {at left : ℕ} {b : Body} (P : Body → Type 0) → StandsBody scope n ws at left b → (left ≡ 0 → ⊥) → (getD ws at 0 ≡ 1 → ⊥) → (getD ws at 0 ≡ 4 → ⊥) →
     ((x y : Term) (c : Body) → P (same x y c)) → ((x y : Term) (c : Body) → P (different x y c)) → P b
 unfolding exprWords guardCount
 on-test {n} {ws} {at} {left} {b} P s z t u f g = go b (s .count) (s .words)
@@ -224,45 +225,45 @@ on-test {n} {ws} {at} {left} {b} P s z t u f g = go b (s .count) (s .words)
 
 module _ {ws : List ℕ} {at left : ℕ} where
   pub some-head : SomeBody ws at left → left ≡ 0 → SomeRow ws at
-  some-head x z = on-head (λ b. StandsBody (x .m) (x .n) ws at left b → SomeRow ws at) (x .here) z (λ ts s. record { n = x .n; ts = ts; here = in-head s }) (x .here)
+  some-head x z = on-head (λ b. StandsBody (x .scope) (x .n) ws at left b → SomeRow ws at) (x .here) z (λ ts s. record { n = x .n; ts = ts; here = in-head s }) (x .here)
 
   pub past-head : {r : ℕ} → left ≡ 0 → PastRow ws at r → PastBody ws at left r
   unfolding exprWords
-  past-head {r} z g = record { past = λ m n b s. on-head (λ c. StandsBody m n ws at left c → r ≡ at + length (bodyWords c n)) s z (λ ts t. g .past n ts (in-head t)) s }
+  past-head {r} z g = record { past = λ scope n b s. on-head (λ c. StandsBody scope n ws at left c → r ≡ at + length (bodyWords c n)) s z (λ ts t. g .past n ts (in-head t)) s }
 
   module _ (z : left ≡ 0 → ⊥) where
     -- a draw
     module _ (d : getD ws at 0 ≡ 1) where
       pub some-operand : SomeBody ws at left → SomeExpr ws (at + 1)
       some-operand x =
-          on-draw (λ b. StandsBody (x .m) (x .n) ws at left b → SomeExpr ws (at + 1)) (x .here) z (is-draw d)
-          (λ e p c s. record { m = x .m; n = x .n; e = e; here = in-draw s .operand }) (x .here)
+          on-draw (λ b. StandsBody (x .scope) (x .n) ws at left b → SomeExpr ws (at + 1)) (x .here) z (is-draw d)
+          (λ e p c s. record { scope = x .scope; n = x .n; e = e; here = in-draw s .operand }) (x .here)
 
       module _ {pattern : ℕ} (past : PastExpr ws (at + 1) pattern) where
         pub some-pattern : SomeBody ws at left → (n : ℕ) × SomePattern n ws pattern
         some-pattern x =
-            on-draw (λ b. StandsBody (x .m) (x .n) ws at left b → (n : ℕ) × SomePattern n ws pattern) (x .here) z (is-draw d)
+            on-draw (λ b. StandsBody (x .scope) (x .n) ws at left b → (n : ℕ) × SomePattern n ws pattern) (x .here) z (is-draw d)
             (λ e p c s. (x .n, record { p = p; here = pattern-here past (in-draw s) })) (x .here)
 
         module _ {rest : ℕ} (next : PastPattern ws pattern rest) where
           pub draw-rest : SomeBody ws at left → SomeBody ws rest (left - 1)
           draw-rest x =
-              on-draw (λ b. StandsBody (x .m) (x .n) ws at left b → SomeBody ws rest (left - 1)) (x .here) z (is-draw d)
-              (λ e p c s. record { m = x .m; n = x .n + fresh p; b = c; here = rest-here past (in-draw s) next }) (x .here)
+              on-draw (λ b. StandsBody (x .scope) (x .n) ws at left b → SomeBody ws rest (left - 1)) (x .here) z (is-draw d)
+              (λ e p c s. record { scope = x .scope; n = x .n + fresh p; b = c; here = rest-here past (in-draw s) next }) (x .here)
 
           pub draw-after : SomeBody ws at left → at < rest
           draw-after x =
-              on-draw (λ b. StandsBody (x .m) (x .n) ws at left b → at < rest) (x .here) z (is-draw d)
+              on-draw (λ b. StandsBody (x .scope) (x .n) ws at left b → at < rest) (x .here) z (is-draw d)
               (λ e p c s. let q = rest-is past (in-draw s) next in omega arith) (x .here)
 
           pub past-draw : {r : ℕ} → PastBody ws rest (left - 1) r → PastBody ws at left r
           unfolding exprWords
           past-draw {r} g = record {
-            past = λ m n b s.
-                on-draw (λ x. StandsBody m n ws at left x → r ≡ at + length (bodyWords x n)) s z (is-draw d)
+            past = λ scope n b s.
+                on-draw (λ x. StandsBody scope n ws at left x → r ≡ at + length (bodyWords x n)) s z (is-draw d)
                 (λ e p c t.
                 let q = rest-is past (in-draw t) next in
-                let v = g .past m (n + fresh p) c (rest-here past (in-draw t) next) in
+                let v = g .past scope (n + fresh p) c (rest-here past (in-draw t) next) in
                 omega (arith, length-append (exprWords e n) (patternWords n p ++ bodyWords c (n + fresh p)), length-append (slotWords n p) (bodyWords c (n + fresh p)))) s;
           }
 
@@ -270,39 +271,39 @@ module _ {ws : List ℕ} {at left : ℕ} where
     module _ (d : getD ws at 0 ≡ 4) where
       pub some-row : SomeBody ws at left → SomeRow ws (at + 1)
       some-row x =
-          on-absent (λ b. StandsBody (x .m) (x .n) ws at left b → SomeRow ws (at + 1)) (x .here) z (is-absent d)
+          on-absent (λ b. StandsBody (x .scope) (x .n) ws at left b → SomeRow ws (at + 1)) (x .here) z (is-absent d)
           (λ r e c s. record { n = x .n; ts = r; here = in-absent s .row }) (x .here)
 
       module _ {inner : ℕ} (past : PastRow ws (at + 1) inner) where
         pub some-inner : SomeBody ws at left → SomeExpr ws inner
         some-inner x =
-            on-absent (λ b. StandsBody (x .m) (x .n) ws at left b → SomeExpr ws inner) (x .here) z (is-absent d)
-            (λ r e c s. record { m = x .m; n = x .n; e = e; here = operand-here past (in-absent s) }) (x .here)
+            on-absent (λ b. StandsBody (x .scope) (x .n) ws at left b → SomeExpr ws inner) (x .here) z (is-absent d)
+            (λ r e c s. record { scope = x .scope; n = x .n; e = e; here = operand-here past (in-absent s) }) (x .here)
 
         pub inner-after : SomeBody ws at left → at < inner
         inner-after x =
-            on-absent (λ b. StandsBody (x .m) (x .n) ws at left b → at < inner) (x .here) z (is-absent d)
+            on-absent (λ b. StandsBody (x .scope) (x .n) ws at left b → at < inner) (x .here) z (is-absent d)
             (λ r e c s. let q = past .past (x .n) r (in-absent s .row) in omega arith) (x .here)
 
         module _ {rest : ℕ} (next : PastExpr ws inner rest) where
           pub absent-rest : SomeBody ws at left → SomeBody ws rest (left - 1)
           absent-rest x =
-              on-absent (λ b. StandsBody (x .m) (x .n) ws at left b → SomeBody ws rest (left - 1)) (x .here) z (is-absent d)
-              (λ r e c s. record { m = x .m; n = x .n; b = c; here = over-here past (in-absent s) next }) (x .here)
+              on-absent (λ b. StandsBody (x .scope) (x .n) ws at left b → SomeBody ws rest (left - 1)) (x .here) z (is-absent d)
+              (λ r e c s. record { scope = x .scope; n = x .n; b = c; here = over-here past (in-absent s) next }) (x .here)
 
           pub absent-after : SomeBody ws at left → at < rest
           absent-after x =
-              on-absent (λ b. StandsBody (x .m) (x .n) ws at left b → at < rest) (x .here) z (is-absent d)
+              on-absent (λ b. StandsBody (x .scope) (x .n) ws at left b → at < rest) (x .here) z (is-absent d)
               (λ r e c s. let q = over-is past (in-absent s) next in omega arith) (x .here)
 
           pub past-absent : {r : ℕ} → PastBody ws rest (left - 1) r → PastBody ws at left r
           unfolding exprWords
           past-absent {r} g = record {
-            past = λ m n b s.
-                on-absent (λ x. StandsBody m n ws at left x → r ≡ at + length (bodyWords x n)) s z (is-absent d)
+            past = λ scope n b s.
+                on-absent (λ x. StandsBody scope n ws at left x → r ≡ at + length (bodyWords x n)) s z (is-absent d)
                 (λ ts e c t.
                 let q = over-is past (in-absent t) next in
-                let v = g .past m n c (over-here past (in-absent t) next) in
+                let v = g .past scope n c (over-here past (in-absent t) next) in
                 omega (arith, length-append (termRowWords ts) (exprWords e n ++ bodyWords c n), length-append (exprWords e n) (bodyWords c n))) s;
           }
 
@@ -310,14 +311,14 @@ module _ {ws : List ℕ} {at left : ℕ} where
     module _ (t : getD ws at 0 ≡ 1 → ⊥) (u : getD ws at 0 ≡ 4 → ⊥) where
       pub test-rest : SomeBody ws at left → SomeBody ws (at + 5) (left - 1)
       test-rest x =
-          on-test (λ b. StandsBody (x .m) (x .n) ws at left b → SomeBody ws (at + 5) (left - 1)) (x .here) z t u
-          (λ p q c s. record { m = x .m; n = x .n; b = c; here = in-same s }) (λ p q c s. record { m = x .m; n = x .n; b = c; here = in-different s }) (x .here)
+          on-test (λ b. StandsBody (x .scope) (x .n) ws at left b → SomeBody ws (at + 5) (left - 1)) (x .here) z t u
+          (λ p q c s. record { scope = x .scope; n = x .n; b = c; here = in-same s }) (λ p q c s. record { scope = x .scope; n = x .n; b = c; here = in-different s }) (x .here)
 
       pub past-test : {r : ℕ} → PastBody ws (at + 5) (left - 1) r → PastBody ws at left r
       unfolding exprWords
       past-test {r} g = record {
-        past = λ m n b s.
-            on-test (λ c. StandsBody m n ws at left c → r ≡ at + length (bodyWords c n)) s z t u
-            (λ x y c h. let q = g .past m n c (in-same h) in omega (arith, test-length x y (bodyWords c n)))
-            (λ x y c h. let q = g .past m n c (in-different h) in omega (arith, test-length x y (bodyWords c n))) s;
+        past = λ scope n b s.
+            on-test (λ c. StandsBody scope n ws at left c → r ≡ at + length (bodyWords c n)) s z t u
+            (λ x y c h. let q = g .past scope n c (in-same h) in omega (arith, test-length x y (bodyWords c n)))
+            (λ x y c h. let q = g .past scope n c (in-different h) in omega (arith, test-length x y (bodyWords c n))) s;
       }

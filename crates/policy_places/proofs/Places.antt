@@ -10,6 +10,7 @@ use lib.Seq.{drop-drop, drop-append-seam, getD-drop}
 use lib.Dec.{leb, eqb}
 use borrow.Author.Tests.{leb-true, eqb-true, eqb-false}
 use Rattle.rows.proofs.Case.{Case, isTrue, isFalse, split, and-true}
+use Rattle.policy.specs.OwnKey.{Scope}
 use Rattle.policy.specs.Leaf.{Leaf, leafCode, leafWords}
 use Rattle.policy.specs.Syntax.{Term, atom, var, Slot, old, new, Expr, leaf, union, difference, comprehension, Body, head, draw, same, different, absent}
 use Rattle.policy.specs.Words.{termWords, each, termRowWords, slotWords, fresh, guardCount, exprWords, bodyWords}
@@ -119,7 +120,7 @@ union-or-difference c e z = let h = and-true (leb 5 c) (leb c 7) e in go (split 
     go (isTrue f) l k = inl (eqb-true c 5 f)
     go (isFalse f) l k = let n = eqb-false c 5 f in inr (omega arith)
 
-module _ {m n : ℕ} {ws : List ℕ} {at : ℕ} {e : Expr} (P : Expr → Type 0) (s : Stands m n ws at e) where
+module _ {scope : Scope} {n : ℕ} {ws : List ℕ} {at : ℕ} {e : Expr} (P : Expr → Type 0) (s : Stands scope n ws at e) where
   on-code : (c : ℕ) → getD ws at 0 ≡ c → ForCode P (codeOf c) → P e
   on-code c h g = by-code P e (subst (λ (k : ℕ). ForCode P (codeOf k)) (sym h ∙ code-at n e (s .words)) g)
 
@@ -141,28 +142,28 @@ module _ {m n : ℕ} {ws : List ℕ} {at : ℕ} {e : Expr} (P : Expr → Type 0)
 
 -- ---- what stands inside an expression
 
-pub record InComprehension (m n : ℕ) (ws : List ℕ) (at : ℕ) (b : Body) : Type 0 where
-  pub body : StandsBody m n ws (at + 2) (getD ws (at + 1) 0) b
+pub record InComprehension (scope : Scope) (n : ℕ) (ws : List ℕ) (at : ℕ) (b : Body) : Type 0 where
+  pub body : StandsBody scope n ws (at + 2) (getD ws (at + 1) 0) b
   pub inside : at + 2 < length ws
 
-module _ {m n : ℕ} {ws : List ℕ} {at : ℕ} where
-  pub in-leaf : {x : Leaf} → Stands m n ws at (leaf x) → StandsLeaf m n ws at x
+module _ {scope : Scope} {n : ℕ} {ws : List ℕ} {at : ℕ} where
+  pub in-leaf : {x : Leaf} → Stands scope n ws at (leaf x) → StandsLeaf scope n ws at x
   unfolding Fit exprWords
   in-leaf s = record { words = s .words; fit = s .fit }
 
-  pub in-union : {a b : Expr} → Stands m n ws at (union a b) → StandsTwo m n ws (at + 1) a b
+  pub in-union : {a b : Expr} → Stands scope n ws at (union a b) → StandsTwo scope n ws (at + 1) a b
   unfolding Fit exprWords
   in-union {a} {b} s =
       let h = at-next (s .words) in
       record { left = record { words = at-front (exprWords a n) (exprWords b n) h; fit = s .fit .0 }; right = record { words = at-skip (exprWords a n) (exprWords b n) h; fit = s .fit .1 } }
 
-  pub in-difference : {a b : Expr} → Stands m n ws at (difference a b) → StandsTwo m n ws (at + 1) a b
+  pub in-difference : {a b : Expr} → Stands scope n ws at (difference a b) → StandsTwo scope n ws (at + 1) a b
   unfolding Fit exprWords
   in-difference {a} {b} s =
       let h = at-next (s .words) in
       record { left = record { words = at-front (exprWords a n) (exprWords b n) h; fit = s .fit .0 }; right = record { words = at-skip (exprWords a n) (exprWords b n) h; fit = s .fit .1 } }
 
-  pub in-comprehension : {b : Body} → Stands m n ws at (comprehension b) → InComprehension m n ws at b
+  pub in-comprehension : {b : Body} → Stands scope n ws at (comprehension b) → InComprehension scope n ws at b
   unfolding Fit exprWords
   in-comprehension {b} s =
       let h = at-next (s .words) in
@@ -196,12 +197,12 @@ two-terms {ws} {at} c x y rest h =
       inside = omega (arith, at-long (omega arith) h);
     }
 
-module _ {m n : ℕ} {ws : List ℕ} {at left : ℕ} where
-  pub in-head : {ts : List Term} → StandsBody m n ws at left (head ts) → StandsRow n ws at ts
+module _ {scope : Scope} {n : ℕ} {ws : List ℕ} {at left : ℕ} where
+  pub in-head : {ts : List Term} → StandsBody scope n ws at left (head ts) → StandsRow n ws at ts
   unfolding Fit exprWords
   in-head s = record { words = s .words; fit = s .fit }
 
-  pub in-draw : {e : Expr} {p : List Slot} {b : Body} → StandsBody m n ws at left (draw e p b) → StandsDraw m n ws (at + 1) (left - 1) e p b
+  pub in-draw : {e : Expr} {p : List Slot} {b : Body} → StandsBody scope n ws at left (draw e p b) → StandsDraw scope n ws (at + 1) (left - 1) e p b
   unfolding Fit exprWords guardCount
   in-draw {e} {p} {b} s =
       let h = at-next (s .words) in
@@ -214,15 +215,15 @@ module _ {m n : ℕ} {ws : List ℕ} {at left : ℕ} where
         rest = record { words = at-skip (patternWords n p) (bodyWords b (n + fresh p)) g; fit = s .fit .2; count = count };
       }
 
-  pub in-same : {x y : Term} {b : Body} → StandsBody m n ws at left (same x y b) → StandsBody m n ws (at + 5) (left - 1) b
+  pub in-same : {x y : Term} {b : Body} → StandsBody scope n ws at left (same x y b) → StandsBody scope n ws (at + 5) (left - 1) b
   unfolding Fit exprWords guardCount
   in-same {x} {y} {b} s = record { words = two-terms 2 x y (bodyWords b n) (s .words) .past; fit = s .fit .2; count = omega (arith, s .count) }
 
-  pub in-different : {x y : Term} {b : Body} → StandsBody m n ws at left (different x y b) → StandsBody m n ws (at + 5) (left - 1) b
+  pub in-different : {x y : Term} {b : Body} → StandsBody scope n ws at left (different x y b) → StandsBody scope n ws (at + 5) (left - 1) b
   unfolding Fit exprWords guardCount
   in-different {x} {y} {b} s = record { words = two-terms 3 x y (bodyWords b n) (s .words) .past; fit = s .fit .2; count = omega (arith, s .count) }
 
-  pub in-absent : {r : List Term} {e : Expr} {b : Body} → StandsBody m n ws at left (absent r e b) → StandsAbsent m n ws (at + 1) (left - 1) r e b
+  pub in-absent : {r : List Term} {e : Expr} {b : Body} → StandsBody scope n ws at left (absent r e b) → StandsAbsent scope n ws (at + 1) (left - 1) r e b
   unfolding Fit exprWords guardCount
   in-absent {r} {e} {b} s =
       let h = at-next (s .words) in
@@ -252,7 +253,7 @@ by-opening P (same x y b) z g = g b
 by-opening P (different x y b) z g = g b
 by-opening P (absent r e b) z g = g r e b
 
-module _ {m n : ℕ} {ws : List ℕ} {at left : ℕ} {b : Body} (P : Body → Type 0) (s : StandsBody m n ws at left b) where
+module _ {scope : Scope} {n : ℕ} {ws : List ℕ} {at left : ℕ} {b : Body} (P : Body → Type 0) (s : StandsBody scope n ws at left b) where
   pub on-head : left ≡ 0 → ((ts : List Term) → P (head ts)) → P b
   unfolding guardCount
   on-head z g = go b (s .count ∙ z)
@@ -289,10 +290,10 @@ module _ {m n : ℕ} {ws : List ℕ} {at left : ℕ} {b : Body} (P : Body → Ty
 
 -- ---- inside the words
 
-pub inside : {m n : ℕ} {ws : List ℕ} {at : ℕ} {e : Expr} → Stands m n ws at e → at < length ws
+pub inside : {scope : Scope} {n : ℕ} {ws : List ℕ} {at : ℕ} {e : Expr} → Stands scope n ws at e → at < length ws
 inside {n} {e} s = omega (arith, expr-some e n, at-long (expr-some e n) (s .words))
 
-pub inside-body : {m n : ℕ} {ws : List ℕ} {at left : ℕ} {b : Body} → StandsBody m n ws at left b → at < length ws
+pub inside-body : {scope : Scope} {n : ℕ} {ws : List ℕ} {at left : ℕ} {b : Body} → StandsBody scope n ws at left b → at < length ws
 inside-body {n} {b} s = omega (arith, body-some b n, at-long (body-some b n) (s .words))
 
 -- a row's and a pattern's width is its first word
@@ -332,5 +333,5 @@ slots-scope n (old t ∷ p) h f = slots-scope n p h (f .1)
 slots-scope n (new ∷ p) h f = let g = slots-scope (n + 1) p (omega (arith, f .0)) (f .1) in omega arith
 
 -- a whole definition or query stands at its first word
-pub whole-here : (m : ℕ) (ws : List ℕ) (e : Expr) → parse m ws ≡ parsed e → Stands m 0 ws 0 e
-whole-here m ws e h = record { words = record { rest = []; spelled = parse-words m ws e h ∙ sym (append-nil (exprWords e 0)) }; fit = parse-fits m ws e h .fit }
+pub whole-here : (scope : Scope) (ws : List ℕ) (e : Expr) → parse scope ws ≡ parsed e → Stands scope 0 ws 0 e
+whole-here scope ws e h = record { words = record { rest = []; spelled = parse-words scope ws e h ∙ sym (append-nil (exprWords e 0)) }; fit = parse-fits scope ws e h .fit }

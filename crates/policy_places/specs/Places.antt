@@ -4,6 +4,7 @@ use mathlib.Core.Path.{_≡_}
 use mathlib.Core.List.{List, [], _∷_, _++_}
 use lib.ListN.{length, drop}
 use Rattle.rows.specs.Name.{Polarity, polarityWord}
+use Rattle.policy.specs.OwnKey.{Scope, Origin, FitOrigin}
 use Rattle.policy.specs.Leaf.{Leaf, leafWords, FitLeaf}
 use Rattle.policy.specs.Syntax.{Term, Slot, Expr, Body}
 use Rattle.policy.specs.Words.{termWords, each, termRowWords, slotWords, fresh, guardCount, exprWords, bodyWords}
@@ -28,7 +29,7 @@ nameWords t m p = termWords t ++ (m ∷ polarityWord p ∷ [])
 abbrev pub patternWords : ℕ → List Slot → List ℕ
 patternWords n p = length p ∷ slotWords n p
 
--- ---- a checked row, literal, pattern, expression or body stands there: m definitions are known, n variables in scope
+-- ---- a checked row, literal, pattern, name, expression or body stands there: n variables are in scope
 
 pub record StandsRow (n : ℕ) (ws : List ℕ) (at : ℕ) (ts : List Term) : Type 0 where
   pub words : At ws at (termRowWords ts)
@@ -42,35 +43,40 @@ pub record StandsPattern (n : ℕ) (ws : List ℕ) (at : ℕ) (p : List Slot) : 
   pub words : At ws at (patternWords n p)
   pub fit : FitPattern n p
 
--- an expression that holds no other
-pub record StandsLeaf (m n : ℕ) (ws : List ℕ) (at : ℕ) (x : Leaf) : Type 0 where
-  pub words : At ws at (leafWords x)
-  pub fit : FitLeaf m n x
+-- what follows code 4, and code 8: its rows come from o
+pub record StandsName (scope : Scope) (ws : List ℕ) (at : ℕ) (t : Term) (m : ℕ) (p : Polarity) (o : Origin) : Type 0 where
+  pub words : At ws at (nameWords t m p)
+  pub origin : FitOrigin scope t m p o
 
-pub record Stands (m n : ℕ) (ws : List ℕ) (at : ℕ) (e : Expr) : Type 0 where
+-- an expression that holds no other
+pub record StandsLeaf (scope : Scope) (n : ℕ) (ws : List ℕ) (at : ℕ) (x : Leaf) : Type 0 where
+  pub words : At ws at (leafWords x)
+  pub fit : FitLeaf scope n x
+
+pub record Stands (scope : Scope) (n : ℕ) (ws : List ℕ) (at : ℕ) (e : Expr) : Type 0 where
   pub words : At ws at (exprWords e n)
-  pub fit : Fit m n e
+  pub fit : Fit scope n e
 
 -- a body with `left` guards
-pub record StandsBody (m n : ℕ) (ws : List ℕ) (at left : ℕ) (b : Body) : Type 0 where
+pub record StandsBody (scope : Scope) (n : ℕ) (ws : List ℕ) (at left : ℕ) (b : Body) : Type 0 where
   pub words : At ws at (bodyWords b n)
-  pub fit : FitBody m n b
+  pub fit : FitBody scope n b
   pub count : guardCount b ≡ left
 
 -- what follows code 5 or 6, and the code of a draw or an absent guard
-pub record StandsTwo (m n : ℕ) (ws : List ℕ) (at : ℕ) (a b : Expr) : Type 0 where
-  pub left : Stands m n ws at a
-  pub right : Stands m n ws (at + length (exprWords a n)) b
+pub record StandsTwo (scope : Scope) (n : ℕ) (ws : List ℕ) (at : ℕ) (a b : Expr) : Type 0 where
+  pub left : Stands scope n ws at a
+  pub right : Stands scope n ws (at + length (exprWords a n)) b
 
-pub record StandsDraw (m n : ℕ) (ws : List ℕ) (at left : ℕ) (e : Expr) (p : List Slot) (b : Body) : Type 0 where
-  pub operand : Stands m n ws at e
+pub record StandsDraw (scope : Scope) (n : ℕ) (ws : List ℕ) (at left : ℕ) (e : Expr) (p : List Slot) (b : Body) : Type 0 where
+  pub operand : Stands scope n ws at e
   pub pattern : StandsPattern n ws (at + length (exprWords e n)) p
-  pub rest : StandsBody m (n + fresh p) ws (at + length (exprWords e n) + length (patternWords n p)) left b
+  pub rest : StandsBody scope (n + fresh p) ws (at + length (exprWords e n) + length (patternWords n p)) left b
 
-pub record StandsAbsent (m n : ℕ) (ws : List ℕ) (at left : ℕ) (r : List Term) (e : Expr) (b : Body) : Type 0 where
+pub record StandsAbsent (scope : Scope) (n : ℕ) (ws : List ℕ) (at left : ℕ) (r : List Term) (e : Expr) (b : Body) : Type 0 where
   pub row : StandsRow n ws at r
-  pub operand : Stands m n ws (at + length (termRowWords r)) e
-  pub rest : StandsBody m n ws (at + length (termRowWords r) + length (exprWords e n)) left b
+  pub operand : Stands scope n ws (at + length (termRowWords r)) e
+  pub rest : StandsBody scope n ws (at + length (termRowWords r) + length (exprWords e n)) left b
 
 -- ---- one of them stands there, whichever it is
 
@@ -95,22 +101,22 @@ pub record SomePattern (n : ℕ) (ws : List ℕ) (at : ℕ) : Type 0 where
   pub here : StandsPattern n ws at p
 
 pub record SomeLeaf (ws : List ℕ) (at : ℕ) : Type 0 where
-  pub m : ℕ
+  pub scope : Scope
   pub n : ℕ
   pub x : Leaf
-  pub here : StandsLeaf m n ws at x
+  pub here : StandsLeaf scope n ws at x
 
 pub record SomeExpr (ws : List ℕ) (at : ℕ) : Type 0 where
-  pub m : ℕ
+  pub scope : Scope
   pub n : ℕ
   pub e : Expr
-  pub here : Stands m n ws at e
+  pub here : Stands scope n ws at e
 
 pub record SomeBody (ws : List ℕ) (at left : ℕ) : Type 0 where
-  pub m : ℕ
+  pub scope : Scope
   pub n : ℕ
   pub b : Body
-  pub here : StandsBody m n ws at left b
+  pub here : StandsBody scope n ws at left b
 
 -- a body with a guard left
 pub record SomeGuard (ws : List ℕ) (at : ℕ) : Type 0 where
@@ -131,13 +137,13 @@ pub record PastPattern (ws : List ℕ) (at r : ℕ) : Type 0 where
   pub past : (n : ℕ) (p : List Slot) → StandsPattern n ws at p → r ≡ at + length (patternWords n p)
 
 pub record PastLeaf (ws : List ℕ) (at r : ℕ) : Type 0 where
-  pub past : (m n : ℕ) (x : Leaf) → StandsLeaf m n ws at x → r ≡ at + length (leafWords x)
+  pub past : (scope : Scope) (n : ℕ) (x : Leaf) → StandsLeaf scope n ws at x → r ≡ at + length (leafWords x)
 
 pub record PastExpr (ws : List ℕ) (at r : ℕ) : Type 0 where
-  pub past : (m n : ℕ) (e : Expr) → Stands m n ws at e → r ≡ at + length (exprWords e n)
+  pub past : (scope : Scope) (n : ℕ) (e : Expr) → Stands scope n ws at e → r ≡ at + length (exprWords e n)
 
 pub record PastBody (ws : List ℕ) (at left r : ℕ) : Type 0 where
-  pub past : (m n : ℕ) (b : Body) → StandsBody m n ws at left b → r ≡ at + length (bodyWords b n)
+  pub past : (scope : Scope) (n : ℕ) (b : Body) → StandsBody scope n ws at left b → r ≡ at + length (bodyWords b n)
 
 -- ---- the term, slot or guard that stands there is the one held
 

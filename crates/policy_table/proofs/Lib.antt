@@ -1,2 +1,3 @@
 pub mod TableAnswers
 pub mod PartAnswers
+pub mod Declared

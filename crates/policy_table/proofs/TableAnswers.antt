@@ -1,17 +1,18 @@
 -- The reader of the table, way out by way out, and what a sound table gives.
 use Prim.Native.Nat.{ℕ, zero, suc, _+_, _*_, _-_, _≤_, _<_}
 use mathlib.Core.Path.{_≡_, refl, sym, _∙_, ap}
-use mathlib.Core.Bool.{Bool, true, false, not, _&&_, _||_}
+use mathlib.Core.Bool.{Bool, true, false, not}
 use mathlib.Core.List.{List, [], _∷_}
 use native.Mathlib.Omega.{arith}
-use lib.Dec.{leb, eqb}
+use lib.Dec.{leb, eqb, leb→le}
 use lib.ListN.{length, getD, take, drop}
 use borrow.Author.Tests.{le-leb, lt-leb, eq-eqb, ne-eqb}
+use Rattle.rows.specs.Word.{All}
 use Rattle.refusals.specs.RefusalTable.{badHeader, badTable}
 use Rattle.policy.specs.Format.{isFormat, formatOf}
 use Rattle.policy.specs.Table.{Entry, entryAt, entryWords, Table, table, refused, named, soundEntry, pushEntry, entries, soundHeader, readTable}
 use Rattle.policy.proofs.SoundTable.{header-of, sound-of}
-use Rattle.policy_table.specs.Entries.{entryPlace, entriesFrom, entriesBefore, tableIs}
+use Rattle.policy_table.specs.Entries.{entryPlace, entriesFrom, entriesBefore, Polarized, tableIs}
 use Rattle.policy_table.specs.declared.TableRead.the-variants as tableRead
 
 -- the header
@@ -39,26 +40,6 @@ module _ (p : List ℕ) where
         unfolding soundHeader
         header-sound-if-table-fits h e = rw (le-leb 2 (length p) two, le-leb (length p) 8192 few, format, le-leb (getD p 1 0) 16 h) (ap (λ a. leb a (length p)) e)
 
--- an entry among those before it, the last of which is entry j - 1
-module _ (p : List ℕ) (i j : ℕ) (some : 0 < j) {at other : ℕ} (a : at ≡ entryPlace i) (o : other ≡ entryPlace (j - 1)) where
-  last-first : named (entriesBefore p j) (entryAt p (entryPlace i)) ≡ ((eqb (getD p at 0) (getD p other 0) && eqb (getD p (at + 1) 0) (getD p (other + 1) 0)) || named (entriesBefore p (j - 1)) (entryAt p (entryPlace i)))
-  unfolding named entriesBefore entryAt
-  last-first = let e : j ≡ suc (j - 1) = omega arith in rw (a, o) (ap (λ n. named (entriesBefore p n) (entryAt p (entryPlace i))) e)
-
-  pub named-here : getD p other 0 ≡ getD p at 0 → getD p (other + 1) 0 ≡ getD p (at + 1) 0 → named (entriesBefore p j) (entryAt p (entryPlace i)) ≡ true
-  named-here n q = last-first ∙ rw (eq-eqb (getD p at 0) (getD p other 0) (sym n), eq-eqb (getD p (at + 1) 0) (getD p (other + 1) 0) (sym q))
-
-  pub other-name : (getD p other 0 ≡ getD p at 0 → ⊥) → named (entriesBefore p j) (entryAt p (entryPlace i)) ≡ named (entriesBefore p (j - 1)) (entryAt p (entryPlace i))
-  other-name n = last-first ∙ rw (ne-eqb (getD p at 0) (getD p other 0) (λ e. n (sym e)))
-
-  pub other-polarity : getD p other 0 ≡ getD p at 0 → (getD p (other + 1) 0 ≡ getD p (at + 1) 0 → ⊥) → named (entriesBefore p j) (entryAt p (entryPlace i)) ≡ named (entriesBefore p (j - 1)) (entryAt p (entryPlace i))
-  other-polarity n q = last-first ∙ rw (eq-eqb (getD p at 0) (getD p other 0) (sym n), ne-eqb (getD p (at + 1) 0) (getD p (other + 1) 0) (λ e. q (sym e)))
-
-pub none-named : (p : List ℕ) (x : Entry) (j : ℕ) → j ≤ 0 → named (entriesBefore p j) x ≡ false
-unfolding named entriesBefore
-none-named p x zero h = refl
-none-named p x (suc j) h = absurd (omega arith)
-
 -- an entry's rules
 module _ (p : List ℕ) (due : ℕ) (before : List Entry) (x : Entry) where
   pub name-over-unsound : 65535 < x .name → false ≡ soundEntry p due before x
@@ -85,9 +66,9 @@ module _ (p : List ℕ) (due : ℕ) (before : List Entry) (x : Entry) where
           unfolding soundEntry
           part-past-policy-unsound l h = rw (le-leb (x .name) 65535 a, le-leb (x .polarity) 1 b, eq-eqb (x .offset) due c, le-leb 1 (x .size) (omega arith), lt-leb (x .offset + x .size) (length p) (omega arith))
 
-          pub entry-sound-if-not-named : {r : Bool} → due ≤ length p → x .size ≤ length p - due → r ≡ named before x → not r ≡ soundEntry p due before x
+          pub entry-sound-if-not-named : {r : Bool} → due ≤ length p → x .size ≤ length p - due → r ≡ not (named before x) → r ≡ soundEntry p due before x
           unfolding soundEntry
-          entry-sound-if-not-named l h e = rw (le-leb (x .name) 65535 a, le-leb (x .polarity) 1 b, eq-eqb (x .offset) due c, le-leb 1 (x .size) (omega arith), le-leb (x .offset + x .size) (length p) (omega arith)) (ap not e)
+          entry-sound-if-not-named l h e = rw (le-leb (x .name) 65535 a, le-leb (x .polarity) 1 b, eq-eqb (x .offset) due c, le-leb 1 (x .size) (omega arith), le-leb (x .offset + x .size) (length p) (omega arith)) e
 
 -- the entry at a place that is known by another name
 pub placed : (p : List ℕ) (due i : ℕ) {at : ℕ} {b : Bool} → at ≡ entryPlace i → b ≡ soundEntry p due (entriesBefore p i) (entryAt p at) → b ≡ soundEntry p due (entriesBefore p i) (entryAt p (entryPlace i))
@@ -114,6 +95,7 @@ back-table p (suc i) m =
 -- the first i entries are sound, and the next part is due at word `due`
 pub record Reading (p : List ℕ) (i due : ℕ) : Type 0 where
   pub rest : readTable p ≡ putBack (entriesBefore p i) (entries (getD p 1 0 - i) p (entryPlace i) due (entriesBefore p i))
+  pub polarized : All Polarized (entriesBefore p i)
   pub within : due ≤ length p
   pub few : i ≤ getD p 1 0
 
@@ -122,11 +104,12 @@ unfolding tableIs readTable
 unsound-header-refused p e = sym (ap (λ b. elim b as (λ c. Table) [ true ↦ entries (getD p 1 0) p 2 (2 + 4 * getD p 1 0) [] | false ↦ refused badHeader ]) e)
 
 pub none-read : (p : List ℕ) (due : ℕ) → soundHeader p ≡ true → due ≡ entryPlace (getD p 1 0) → Reading p 0 due
-unfolding readTable putBack entriesBefore
+unfolding readTable putBack entriesBefore All
 none-read p due e d =
     let f : getD p 1 0 ≡ getD p 1 0 - 0 = omega arith in
     record {
       rest = ap (λ b. elim b as (λ c. Table) [ true ↦ entries (getD p 1 0) p 2 (2 + 4 * getD p 1 0) [] | false ↦ refused badHeader ]) e ∙ (ap (λ a. entries (getD p 1 0) p 2 a []) (sym d) ∙ ap (λ n. entries n p 2 due []) f);
+      polarized = tt;
       within = omega (arith, header-of p e .fits);
       few = omega arith;
     }
@@ -152,7 +135,7 @@ module _ (p : List ℕ) (i due : ℕ) (r : Reading p i due) (more : i < getD p 1
   unsound-entry-refused e = sym (one-entry false e ∙ back-refused (entriesBefore p i) badTable)
 
   pub sound-entry-read : {later : ℕ} → soundEntry p due (entriesBefore p i) (entryAt p (entryPlace i)) ≡ true → later ≡ due + getD p (entryPlace i + 3) 0 → Reading p (i + 1) later
-  unfolding putBack entriesBefore entryAt next
+  unfolding putBack entriesBefore entryAt next All
   sound-entry-read {later} e d =
       let s = sound-of p due (entriesBefore p i) (entryAt p (entryPlace i)) e in
       let f : i + 1 ≡ suc i = omega arith in
@@ -160,6 +143,7 @@ module _ (p : List ℕ) (i due : ℕ) (r : Reading p i due) (more : i < getD p 1
       let h : getD p (entryPlace i + 2) 0 + getD p (entryPlace i + 3) 0 ≡ later = omega (arith, s .starts) in
       record {
         rest = one-entry true e ∙ rw (f, g, h) refl;
+        polarized = rw (f) (leb→le (getD p (entryPlace i + 1) 0) 1 (s .polarity), r .polarized);
         within = omega (arith, s .ends);
         few = omega arith;
       }

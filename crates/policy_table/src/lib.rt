@@ -4,9 +4,12 @@ pub mod parts;
 ghost use Prim.Native.Nat.{_+_, _*_, _≤_};
 ghost use mathlib.Core.Path.{_≡_};
 ghost use lib.ListN.{length};
+ghost use Rattle.rows.specs.Word.{All};
+ghost use Rattle.rows.specs.Name.{polarityOf};
 ghost use Rattle.policy.specs.Format.{isFormat};
-ghost use Rattle.policy.specs.Table.{entryAt, entryWords, named, soundEntry, soundHeader, readTable};
-ghost use Rattle.policy_table.specs.Entries.{entryPlace, entriesBefore, tableIs};
+ghost use Rattle.policy.specs.OwnKey.{declares, definitionOf};
+ghost use Rattle.policy.specs.Table.{entryAt, entryWords, soundEntry, soundHeader, readTable};
+ghost use Rattle.policy_table.specs.Entries.{entryPlace, entriesBefore, Polarized, declaredAs, declaredIn, tableIs};
 use policy::EQUAL_WIDTHS;
 use policy::WIDER_ROWS;
 use row_words::wide;
@@ -55,30 +58,35 @@ fn sound_header(policy: &[u32]) -> bool
     entry_place(wide(policy[1])) <= policy.len()
 }
 
-// Has an entry before entry `i` its name and polarity?
-fn is_named(policy: &[u32], i: usize) -> bool
-    requires { ⌜ (i ≤ 15) × (entryPlace i + 4 ≤ length (now policy)) ⌝ }
-    ensures { λ r. ⌜ r ≡ named (entriesBefore (now (policy .entry)) i) (entryAt (now (policy .entry)) (entryPlace i)) ⌝ }
+// Has the entry at word `at` this name and polarity?
+fn declares(policy: &[u32], at: usize, name: u32, polarity: u32) -> bool
+    requires { ⌜ at + 2 ≤ length (now policy) ⌝ }
+    ensures { λ r. ⌜ r ≡ declares (declaredAs (entryAt (now (policy .entry)) at)) name (polarityOf polarity) ⌝ }
 {
-    let at = entry_place(i);
-    let name = policy[at];
-    let polarity = policy[at + 1];
-    let mut j = i;
-    while 0 < j {
-        j -= 1;
-        let other = entry_place(j);
-        if policy[other] == name {
-            if policy[other + 1] == polarity {
-                return true;
-            }
-        }
+    if policy[at] != name {
+        return false;
     }
-    false
+    (policy[at + 1] == 0) == (polarity == 0)
+}
+
+// The definition of this name and polarity among the first `known`: its number; where none of them is it, `known`.
+pub fn definition_of(policy: &[u32], known: usize, name: u32, polarity: u32) -> usize
+    requires { ⌜ entryPlace known ≤ length (now policy) ⌝ }
+    ensures { λ r. ⌜ r ≡ definitionOf (declaredIn (now (policy .entry)) known) name (polarityOf polarity) ⌝ }
+{
+    let mut i: usize = 0;
+    while i < known {
+        if declares(policy, 2 + 4 * i, name, polarity) {
+            return i;
+        }
+        i += 1;
+    }
+    known
 }
 
 // Does entry `i` keep its rules, its part being due at word `due`?
 fn sound_entry(policy: &[u32], i: usize, due: usize) -> bool
-    requires { ⌜ (i ≤ 15) × (entryPlace i + 4 ≤ length (now policy)) × (due ≤ length (now policy)) ⌝ }
+    requires { ⌜ (i ≤ 15) × (entryPlace i + 4 ≤ length (now policy)) × (due ≤ length (now policy)) × All Polarized (entriesBefore (now policy) i) ⌝ }
     ensures { λ r. ⌜ r ≡ soundEntry (now (policy .entry)) due (entriesBefore (now (policy .entry)) i) (entryAt (now (policy .entry)) (entryPlace i)) ⌝ }
 {
     let at = entry_place(i);
@@ -98,7 +106,7 @@ fn sound_entry(policy: &[u32], i: usize, due: usize) -> bool
     if policy.len() - due < size {
         return false;
     }
-    !is_named(policy, i)
+    definition_of(policy, i, policy[at], policy[at + 1]) == i
 }
 
 pub fn read_table(policy: &[u32]) -> TableRead

@@ -79,7 +79,7 @@ loop-holds c =
 sound-entry-requires : tie.Need-sound-entry-requires Inv-loop μ-loop
 sound-entry-requires c κs =
     let h = header (entry (c .before)) in
-    (omega (arith, more c, h .count), omega (arith, more c, h .fits), c .before .loop .inv .within)
+    (omega (arith, more c, h .count), omega (arith, more c, h .fits), c .before .loop .inv .within, c .before .loop .inv .polarized)
 
 returns-2 : tie.Need-returns-2 Inv-loop μ-loop
 returns-2 c =

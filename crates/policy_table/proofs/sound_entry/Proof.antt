@@ -3,9 +3,11 @@ use mathlib.Core.Path.{_≡_, sym, _∙_, ap}
 use mathlib.Core.Bool.{Bool}
 use mathlib.Core.List.{List}
 use native.Mathlib.Omega.{arith}
-use Rattle.policy.specs.Table.{Entry, entryAt, named, soundEntry}
+use lib.Dec.{eqb}
+use Rattle.policy.specs.Table.{Entry, entryAt, soundEntry}
 use Rattle.policy_table.specs.Entries.{entryPlace, entriesBefore}
 use Rattle.policy_table.proofs.TableAnswers.{placed, name-over-unsound, polarity-over-unsound, offset-not-due-unsound, empty-part-unsound, part-past-policy-unsound, entry-sound-if-not-named}
+use Rattle.policy_table.proofs.Declared.{none-named}
 use borrow.Author.Needs.{needs}
 use Rattle.policy_table.proofs.sound_entry.Statement.{statement}
 use Rattle.policy_table.proofs.sound_entry.Tie as tie
@@ -108,15 +110,16 @@ returns-5 c =
 returns-6 : tie.Need-returns-6
 unfolding entryAt
 returns-6 c =
-    let s = c .before .before in
+    let s = c .before .before .before .before in
     let o = from-size s in
     let q = from-offset o in
     let n = from-polarity q in
     let e = from-name n in
+    let i = start e .args .i in
     answer e
     (entry-sound-if-not-named (policy e) (due e) (earlier e) (read e) (n .if1 .left) (q .if2 .left) (offset-due o) (some s)
-    (start e .pre .2) (omega (arith, s .before .wide2 .ensures, c .before .if5 .left))
-    (c .is-named .ensures ∙ ap (λ a. named (earlier e) (entryAt (policy e) a)) (sym (e .entry-place .ensures))))
+    (start e .pre .2) (omega (arith, s .before .wide2 .ensures, c .before .before .before .if5 .left))
+    (ap (λ (d : ℕ). eqb d i) (c .definition-of .ensures) ∙ none-named (policy e) i (read e) (start e .pre .3) (q .if2 .left)))
 
 pub sound-entry-spec : {M : Type 1} → statement M
 sound-entry-spec =
@@ -142,5 +145,10 @@ sound-entry-spec =
     returns-4
     (λ c. search needs)
     returns-5
+    (λ c. search needs)
+    (λ c. search needs)
+    (λ c. search needs)
+    (λ c. search needs)
+    (λ c. search needs)
     (λ c κs. search needs)
     returns-6)
