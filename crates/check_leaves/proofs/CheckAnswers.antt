@@ -10,9 +10,10 @@ use borrow.Author.Tests.{le-leb}
 use Rattle.refusals.specs.RefusalTable.{badWord}
 use Rattle.policy.specs.Syntax.{comprehension, Body}
 use Rattle.policy.specs.Decode.{Read, got, refused, Reader, after, wordWhere, row, body}
-use Rattle.policy.specs.Polarity.{Known, hasPolarity, guardsHave, openExpr, drawsClosed, guardsClosed}
+use Rattle.policy.specs.Polarity.{hasPolarity, guardsHave, openExpr, drawsClosed, guardsClosed}
 use Rattle.check_terms.specs.Answers.{found, outcome, Onward, Answers, kept, keeping, nothing, between}
 use Rattle.check_terms.specs.Answers as Steps
+use Rattle.check_polarity.specs.Earlier.{Before}
 use Rattle.check_polarity.specs.Facts.{factsFor, termFacts}
 use Rattle.check_polarity.specs.declared.Facts.{Facts}
 use Rattle.check_leaves.specs.Checks.{checkingIs, noneInside, bodyFacts}
@@ -84,16 +85,16 @@ pub at-most : (most : ℕ) (us : List ℕ) (k : ℕ) → wordWhere badWord (λ w
 at-most most = same-rule badWord (λ w. leb w most) (between 0 most) (most-only most)
 
 -- what a body has is what its comprehension has
-abbrev pub bodyFactsOf : List Known → Body → Facts
-bodyFactsOf ks b = factsFor ks (comprehension b)
+abbrev pub bodyFactsOf : Before → Body → Facts
+bodyFactsOf known b = factsFor known (comprehension b)
 
 -- the head of a comprehension
-module _ {ws : List ℕ} {at : ℕ} (n k : ℕ) (ks : List Known) where
-  pub head-refused : {m : ℕ} → Lost ws at (keeping nothing (row n)) m → Answers ws at (checkingIs (checking.Refused m)) (bodyFacts ks noneInside 0 n (drop at ws) k)
+module _ {ws : List ℕ} {at : ℕ} (n k : ℕ) (known : Before) where
+  pub head-refused : {m : ℕ} → Lost ws at (keeping nothing (row n)) m → Answers ws at (checkingIs (checking.Refused m)) (bodyFacts known noneInside 0 n (drop at ws) k)
   unfolding bodyFacts keeping body
-  head-refused l = refusal-answers (kept-refused nothing (bodyFactsOf ks) (row n (drop at ws) k) _ (l .reads k))
+  head-refused l = refusal-answers (kept-refused nothing (bodyFactsOf known) (row n (drop at ws) k) _ (l .reads k))
 
   pub head-found : {next : ℕ} {x : Facts} → Got ws at (keeping nothing (row n)) tt next → x ≡ termFacts false →
-      Answers ws at (checkingIs (checking.Found x next k)) (bodyFacts ks noneInside 0 n (drop at ws) k)
+      Answers ws at (checkingIs (checking.Found x next k)) (bodyFacts known noneInside 0 n (drop at ws) k)
   unfolding bodyFacts keeping kept body factsFor hasPolarity guardsHave openExpr drawsClosed guardsClosed
-  head-found g e = rw e (facts-answer (kept-then nothing (bodyFactsOf ks) (row n (drop at ws) k) _ (g .reads k) (λ r p. refl)) (omega (arith, g .onward)) (g .within))
+  head-found g e = rw e (facts-answer (kept-then nothing (bodyFactsOf known) (row n (drop at ws) k) _ (g .reads k) (λ r p. refl)) (omega (arith, g .onward)) (g .within))

@@ -10,7 +10,7 @@ use lib.Seq.{getD-append-add, getD-set-same, getD-set-other}
 use borrow.Author.Tests.{ltb-true, ltb-false, ne-eqb}
 use Rattle.rows.specs.Name.{polarityOf}
 use Rattle.policy.specs.Polarity.{unknown}
-use Rattle.check_polarity.specs.Earlier.{declaredBy, knownAt, knownUpTo, earlierIs, knownAs}
+use Rattle.check_polarity.specs.Earlier.{andThen, declaredBy, knownAt, knownUpTo, earlierIs, knownAs}
 use Rattle.check_polarity.specs.declared.Earlier.{Earlier}
 
 known-length : (x : Earlier) (d : ℕ) → length (knownUpTo x d) ≡ d
@@ -18,7 +18,7 @@ unfolding knownUpTo
 known-length x zero = refl
 known-length x (suc d) = length-append (knownUpTo x d) (knownAt x d ∷ []) ∙ omega (arith, known-length x d)
 
-pub known-count : (x : Earlier) → length (earlierIs x) ≡ x .count
+pub known-count : (x : Earlier) → length (earlierIs x .known) ≡ x .count
 unfolding earlierIs
 known-count x = known-length x (x .count)
 
@@ -38,23 +38,33 @@ known-get x zero d h = absurd (omega arith)
 known-get x (suc n) d h = known-last x n d h (λ l. known-get x n d l)
 
 -- one definition more
-declared-by : (p : ℕ) → declaredBy (not (eqb p 0)) ≡ polarityOf p
+pub declared-by : (p : ℕ) → declaredBy (not (eqb p 0)) ≡ polarityOf p
 unfolding declaredBy polarityOf
 declared-by zero = refl
 declared-by (suc p) = rw (ne-eqb (suc p) 0 (λ e. absurd (omega arith)))
 
-module _ (x : Earlier) (p : ℕ) (o : Bool) (l : x .count < length (x .minus)) (m : x .count < length (x .«open»)) where
+module _ (x : Earlier) (n p : ℕ) (o : Bool) (h : x .count < length (x .names)) (l : x .count < length (x .minus)) (m : x .count < length (x .«open»)) where
   abbrev more : Earlier
-  more = record { count = x .count + 1; minus = set (x .minus) (x .count) (not (eqb p 0)); «open» = set (x .«open») (x .count) o }
+  more = record {
+    «our_key» = x .«our_key»;
+    count = x .count + 1;
+    names = set (x .names) (x .count) n;
+    minus = set (x .minus) (x .count) (not (eqb p 0));
+    «open» = set (x .«open») (x .count) o;
+  }
 
   kept-before : (d : ℕ) → d ≤ x .count → knownUpTo more d ≡ knownUpTo x d
   unfolding knownUpTo knownAt
   kept-before zero h = refl
   kept-before (suc d) h =
-      rw (kept-before d (omega arith), getD-set-other (x .minus) (x .count) d (not (eqb p 0)) false (omega arith), getD-set-other (x .«open») (x .count) d o false (omega arith))
+      rw (kept-before d (omega arith), getD-set-other (x .names) (x .count) d n 0 (omega arith), getD-set-other (x .minus) (x .count) d (not (eqb p 0)) false (omega arith), getD-set-other (x .«open») (x .count) d o false (omega arith))
 
-  pub known-more : earlierIs more ≡ earlierIs x ++ (knownAs p o ∷ [])
-  unfolding earlierIs knownUpTo knownAt knownAs
-  known-more =
+  known-last-of : knownUpTo more (x .count + 1) ≡ knownUpTo x (x .count) ++ (knownAs n p o ∷ [])
+  unfolding knownUpTo knownAt knownAs
+  known-last-of =
       let e : x .count + 1 ≡ suc (x .count) = omega arith in
-      ap (knownUpTo more) e ∙ rw (kept-before (x .count) (omega arith), getD-set-same (x .minus) (x .count) (not (eqb p 0)) false l, getD-set-same (x .«open») (x .count) o false m, declared-by p)
+      ap (knownUpTo more) e ∙ rw (kept-before (x .count) (omega arith), getD-set-same (x .names) (x .count) n 0 h, getD-set-same (x .minus) (x .count) (not (eqb p 0)) false l, getD-set-same (x .«open») (x .count) o false m, declared-by p)
+
+  pub known-more : earlierIs more ≡ andThen (earlierIs x) (knownAs n p o)
+  unfolding earlierIs
+  known-more = ap (λ ks. record { ourKey = x .«our_key»; known = ks }) known-last-of

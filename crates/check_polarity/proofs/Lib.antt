@@ -1,2 +1,3 @@
 pub mod FactAnswers
 pub mod EarlierAnswers
+pub mod SearchAnswers

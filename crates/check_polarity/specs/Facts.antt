@@ -1,18 +1,18 @@
 -- What is known of an expression on the way: its polarities, whether it is open, whether its draws are from closed sets only.
 use Prim.Native.Nat.{ℕ, zero, suc}
 use mathlib.Core.Bool.{Bool, true, false, not, _&&_, _||_}
-use mathlib.Core.List.{List}
 use Rattle.refusals.specs.RefusalTable.{noPolarity, openDraw}
 use Rattle.rows.specs.Name.{plus, minus}
 use Rattle.policy.specs.Syntax.{Expr}
-use Rattle.policy.specs.Polarity.{Known, hasPolarity, openExpr, drawsClosed}
+use Rattle.policy.specs.Polarity.{hasPolarity, openExpr, drawsClosed}
+use Rattle.check_polarity.specs.Earlier.{Before}
 use Rattle.check_polarity.specs.declared.Facts.{Facts}
 use Rattle.check_polarity.specs.declared.Whole.{Whole}
 use Rattle.check_polarity.specs.declared.Whole.the-variants as whole
 
-unfoldable pub factsFor : List Known → Expr → Facts
+unfoldable pub factsFor : Before → Expr → Facts
 unfolding hasPolarity openExpr drawsClosed
-factsFor ks e = record { plus = hasPolarity e ks plus; minus = hasPolarity e ks minus; «open» = openExpr e ks; «draws_closed» = drawsClosed e ks }
+factsFor b e = record { plus = hasPolarity e (b .known) plus; minus = hasPolarity e (b .known) minus; «open» = openExpr e (b .known); «draws_closed» = drawsClosed e (b .known) }
 
 -- of rows of terms alone, or of their complement
 abbrev pub termFacts : Bool → Facts

@@ -1,10 +1,12 @@
-// The polarities that an expression has and whether it is open, from those of its parts; and refusals 6 and 7, which rest on them.
+// The polarities that an expression has and whether it is open, from those of its parts; refusals 6 and 7, which rest on them; and what is known where
+// an expression stands: our key and the definitions before.
 ghost use Prim.Native.Nat.{_+_, _≤_};
 ghost use mathlib.Core.Path.{_≡_};
 ghost use mathlib.Core.Bool.{_&&_, _||_};
-ghost use mathlib.Core.List.{[], _∷_, _++_};
+ghost use Rattle.rows.specs.Name.{polarityOf};
+ghost use Rattle.policy.specs.OwnKey.{definitionOf};
 ghost use Rattle.check_polarity.specs.Facts.{termFacts, unionOf, differenceOf, drawOf, absentOf, admitOf, declaredOf};
-ghost use Rattle.check_polarity.specs.Earlier.{earlierIs, knownAs};
+ghost use Rattle.check_polarity.specs.Earlier.{scopeAt, noneBefore, andThen, earlierIs, knownAs};
 
 // The polarities that an expression has, whether it is open, and whether its draws are from closed sets only.
 pub struct Facts {
@@ -14,9 +16,11 @@ pub struct Facts {
     pub draws_closed: bool,
 }
 
-// What is known of the definitions before: which are declared − and which are open.
+// Our key, and what is known of the definitions before: their names, which are declared − and which are open.
 pub struct Earlier {
+    pub our_key: u32,
     pub count: u32,
+    pub names: [u32; 16],
     pub minus: [bool; 16],
     pub open: [bool; 16],
 }
@@ -123,26 +127,48 @@ pub fn declared(facts: Facts, polarity: u32) -> bool
 }
 
 // Before any definition.
-pub fn none_earlier() -> Earlier
-    ensures { λ r. ⌜ (r .count ≡ 0) × (earlierIs r ≡ []) ⌝ }
+pub fn none_earlier(our_key: u32) -> Earlier
+    ensures { λ r. ⌜ (r .count ≡ 0) × (earlierIs r ≡ noneBefore «our_key») ⌝ }
 {
     Earlier {
+        our_key,
         count: 0,
+        names: [0; 16],
         minus: [false; 16],
         open: [false; 16],
     }
 }
 
 // One definition more.
-pub fn with_definition(earlier: Earlier, polarity: u32, open: bool) -> Earlier
+pub fn with_definition(earlier: Earlier, name: u32, polarity: u32, open: bool) -> Earlier
     requires { ⌜ earlier .count ≤ 15 ⌝ }
-    ensures { λ r. ⌜ (r .count ≡ earlier .count + 1) × (earlierIs r ≡ earlierIs earlier ++ (knownAs polarity «open» ∷ [])) ⌝ }
+    ensures { λ r. ⌜ (r .count ≡ earlier .count + 1) × (earlierIs r ≡ andThen (earlierIs earlier) (knownAs name polarity «open»)) ⌝ }
 {
     let n = earlier.count;
     let i = n as usize;
     let mut next = earlier;
+    next.names[i] = name;
     next.minus[i] = polarity != 0;
     next.open[i] = open;
     next.count = n + 1;
     next
+}
+
+// The number of the definition of that name and polarity; where none of those before is it, their count.
+pub fn definition_of(earlier: Earlier, name: u32, polarity: u32) -> u32
+    requires { ⌜ earlier .count ≤ 16 ⌝ }
+    ensures { λ r. ⌜ r ≡ definitionOf (scopeAt (earlierIs earlier) .available) name (polarityOf polarity) ⌝ }
+{
+    let minus = polarity != 0;
+    let count = earlier.count;
+    let mut next: u32 = 0;
+    while next < count {
+        let d = next;
+        let i = d as usize;
+        next += 1;
+        if both(earlier.names[i] == name, earlier.minus[i] == minus) {
+            return d;
+        }
+    }
+    count
 }

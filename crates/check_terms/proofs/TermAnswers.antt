@@ -12,7 +12,7 @@ use Rattle.rows.specs.Row.{isKey}
 use Rattle.policy.specs.Syntax.{Term, atom, var, Slot, old, new}
 use Rattle.policy.specs.Decode.{Read, got, refused, Reader, after, give, need, wordWhere, tagOf, termAs, anyAtom, term, issuer, guardOf}
 use Rattle.policy.specs.Held.{termIs, slotIs, Opening, sameOpens, differentOpens, guardIs}
-use Rattle.check_terms.specs.Answers.{Follows, keeping, nothing, between, next, wordReadIs, termReadIs, passedIs, slotFor, slot, slotReadIs, openingFor, opening, guardReadIs}
+use Rattle.check_terms.specs.Answers.{Follows, between, next, wordReadIs, termReadIs, slotFor, slot, slotReadIs, openingFor, opening, guardReadIs}
 use Rattle.policy.specs.declared.Term as TermHeld
 use Rattle.policy.specs.declared.Term.the-variants.{Atom, Variable}
 use Rattle.check_terms.specs.declared.TermRead as TermRead
@@ -27,10 +27,9 @@ use Rattle.policy.specs.declared.Guard as GuardHeld
 use Rattle.policy.specs.declared.Guard.the-variants.{Draw, Same, Different, Absent}
 use Rattle.check_terms.specs.declared.GuardRead as GuardRead
 use Rattle.check_terms.specs.declared.GuardRead.the-variants as guardRead
-use Rattle.check_terms.specs.declared.Passed.the-variants as passed
 use Rattle.rows.proofs.Case.{and-true}
 use Rattle.policy.proofs.Basics.{impossible}
-use Rattle.check_terms.proofs.Answering.{Got, Lost, got-of, lost-of, shows-got, shows-lost, here, at-end, where-passes, where-fails, word-found, word-refused, word-bounds, got-as, lost-as, first-lost, then-lost, then-got, then-gives, keeps-got, keeps-lost, tested-first}
+use Rattle.check_terms.proofs.Answering.{Got, Lost, got-of, lost-of, shows-got, shows-lost, here, at-end, where-passes, where-fails, word-found, word-refused, word-bounds, got-as, lost-as, first-lost, then-lost, then-got, then-gives, tested-first}
 
 -- the word after a tag
 module _ (rule : ℕ → Bool) (n : ℕ) (us : List ℕ) (k : ℕ) where
@@ -130,39 +129,28 @@ issuer-term n (suc (suc zero) ∷ us) k = refl
 issuer-term n (suc (suc (suc w)) ∷ us) k = refl
 
 module _ (ws : List ℕ) (at n : ℕ) {r : TermRead.TermRead} (f : Follows ws at (termReadIs r) (term n)) where
-  pub issuer-refused : {m : ℕ} → r ≡ termRead.Refused m → Follows ws at (passedIs (passed.Refused m)) (keeping nothing (issuer n))
-  unfolding passedIs keyed
-  issuer-refused e = shows-lost (keeps-lost nothing (record { reads = λ k. issuer-term n (drop at ws) k ∙ ap keyed (term-refused f e .reads k) }))
+  pub issuer-refused : {m : ℕ} → r ≡ termRead.Refused m → Follows ws at (termReadIs (termRead.Refused m)) (issuer n)
+  unfolding termReadIs keyed
+  issuer-refused e = shows-lost (record { reads = λ k. issuer-term n (drop at ws) k ∙ ap keyed (term-refused f e .reads k) })
 
   module _ {t : TermHeld.Term} {next : ℕ} (e : r ≡ termRead.Found t next) where
     held : Got ws at (term n) (termIs t) next
     held = term-found f e
 
-    by-key : (a k : ℕ) → t ≡ Atom a → issuer n (drop at ws) k ≡ elim (isKey a) [ true ↦ got (atom a) (drop next ws) k | false ↦ refused badWord ]
-    unfolding keyed termIs
-    by-key a k d = issuer-term n (drop at ws) k ∙ (ap keyed (held .reads k) ∙ ap (λ t. keyed (got (termIs t) (drop next ws) k)) d)
+    tested : (k : ℕ) → issuer n (drop at ws) k ≡ keyed (got (termIs t) (drop next ws) k)
+    tested k = issuer-term n (drop at ws) k ∙ ap keyed (held .reads k)
 
-    pub issuer-key : {a : ℕ} → t ≡ Atom a → 2147483648 ≤ a → Follows ws at (passedIs (passed.To next)) (keeping nothing (issuer n))
-    unfolding passedIs
-    issuer-key {a} d h = shows-got (keeps-got nothing (record {
-      reads = λ k. by-key a k d ∙ ap (λ b. elim b as (λ c. Read Term) [ true ↦ got (atom a) (drop next ws) k | false ↦ refused badWord ]) (le-leb 2147483648 a h);
-      onward = held .onward;
-      within = held .within;
-    }))
+    pub issuer-key : {a : ℕ} → t ≡ Atom a → 2147483648 ≤ a → Follows ws at (termReadIs (termRead.Found (Atom a) next)) (issuer n)
+    unfolding termReadIs keyed termIs
+    issuer-key {a} d h = shows-got (record { reads = λ k. tested k ∙ rw (d, le-leb 2147483648 a h, keyed); onward = held .onward; within = held .within })
 
-    pub issuer-number : {a : ℕ} → t ≡ Atom a → a < 2147483648 → Follows ws at (passedIs (passed.Refused badWord)) (keeping nothing (issuer n))
-    unfolding passedIs
-    issuer-number {a} d h = shows-lost (keeps-lost nothing (record {
-      reads = λ k. by-key a k d ∙ ap (λ b. elim b as (λ c. Read Term) [ true ↦ got (atom a) (drop next ws) k | false ↦ refused badWord ]) (lt-leb 2147483648 a h);
-    }))
+    pub issuer-number : {a : ℕ} → t ≡ Atom a → a < 2147483648 → Follows ws at (termReadIs (termRead.Refused badWord)) (issuer n)
+    unfolding termReadIs keyed termIs
+    issuer-number {a} d h = shows-lost (record { reads = λ k. tested k ∙ rw (d, lt-leb 2147483648 a h, keyed) })
 
-    pub issuer-variable : {i : ℕ} → t ≡ Variable i → Follows ws at (passedIs (passed.To next)) (keeping nothing (issuer n))
-    unfolding passedIs keyed termIs
-    issuer-variable d = shows-got (keeps-got nothing (record {
-      reads = λ k. issuer-term n (drop at ws) k ∙ (ap keyed (held .reads k) ∙ ap (λ t. keyed (got (termIs t) (drop next ws) k)) d);
-      onward = held .onward;
-      within = held .within;
-    }))
+    pub issuer-variable : {i : ℕ} → t ≡ Variable i → Follows ws at (termReadIs (termRead.Found t next)) (issuer n)
+    unfolding termReadIs keyed termIs
+    issuer-variable d = shows-got (record { reads = λ k. tested k ∙ rw d; onward = held .onward; within = held .within })
 
 -- a slot: its tag is 0 to 2
 slot-outside : (n w : ℕ) → between 0 2 w ≡ false → (us : List ℕ) (k : ℕ) → slotFor n (tagOf w) us k ≡ refused badWord

@@ -95,20 +95,20 @@ pub fn read_term(words: &[u32], at: usize, variables: u32) -> TermRead
 }
 
 // An issuer: a term that is no number.
-pub fn pass_issuer(words: &[u32], at: usize, variables: u32) -> Passed
-    ensures { λ r. ⌜ Follows (now (words .entry)) at (passedIs r) (keeping nothing (issuer variables)) ⌝ }
+pub fn read_issuer(words: &[u32], at: usize, variables: u32) -> TermRead
+    ensures { λ r. ⌜ Follows (now (words .entry)) at (termReadIs r) (issuer variables) ⌝ }
 {
     match read_term(words, at, variables) {
-        TermRead::Refused(n) => Passed::Refused(n),
+        TermRead::Refused(n) => TermRead::Refused(n),
         TermRead::Found(t, next) => match t {
             Term::Atom(a) => {
                 if a < FIRST_KEY {
-                    Passed::Refused(refusals::BAD_WORD)
+                    TermRead::Refused(refusals::BAD_WORD)
                 } else {
-                    Passed::To(next)
+                    TermRead::Found(t, next)
                 }
             }
-            Term::Variable(_) => Passed::To(next),
+            Term::Variable(_) => TermRead::Found(t, next),
         },
     }
 }

@@ -1,16 +1,17 @@
-// A policy and a query judged: refusals 1 to 7, each part through 3 to 7 before the next.
+// A policy and a query judged under a key of ours: refusal 20, then 1 to 7, each part through 3 to 7 before the next.
 ghost use Prim.Native.Nat.{_+_, _≤_};
 ghost use mathlib.Core.Path.{_≡_};
 ghost use lib.ListN.{length};
+ghost use Rattle.refusals.specs.RefusalTable.{noPart};
 ghost use Rattle.policy.specs.Polarity.{verdictWord};
 ghost use Rattle.policy.specs.Table.{entryAt, table, readTable};
 ghost use Rattle.policy.specs.Parse.{parse};
-ghost use Rattle.policy.specs.Definitions.{checkDefinition, checkPolicy};
-ghost use Rattle.policy.specs.Checking.{checkQuery, verdictOf};
+ghost use Rattle.policy.specs.Definitions.{refused, checkTable, checkPolicy};
+ghost use Rattle.policy.specs.Checking.{verdictOf};
 ghost use Rattle.policy.specs.Judgement.{judge};
 ghost use Rattle.policy_table.specs.Entries.{entryPlace, entriesFrom};
-ghost use Rattle.check_polarity.specs.Earlier.{earlierIs};
-ghost use Rattle.judging.specs.Whole.{wholeFor, definitionParsed};
+ghost use Rattle.check_polarity.specs.Earlier.{scopeAt, earlierIs};
+ghost use Rattle.judging.specs.Whole.{wholeFor, definitionParsed, definitionAt, queryAt};
 ghost use Rattle.judging.specs.Reply.{JudgedAs, judgementFor};
 use check_expressions::check_expr;
 use check_leaves::Checking;
@@ -27,6 +28,7 @@ use policy_table::definition_words;
 use policy_table::entry_place;
 use policy_table::read_table;
 use row_words::wide;
+use rows::FIRST_KEY;
 
 const MOST_LEVELS: u32 = 15;
 
@@ -51,7 +53,7 @@ pub struct PolicyJudged {
 // A definition's or a query's words, and none left over.
 fn check_whole(words: &[u32], earlier: Earlier) -> Whole
     requires { ⌜ earlier .count ≤ 16 ⌝ }
-    ensures { λ r. ⌜ r ≡ wholeFor (earlierIs earlier) (parse (length (earlierIs earlier)) (now (words .entry))) ⌝ }
+    ensures { λ r. ⌜ r ≡ wholeFor (earlierIs earlier) (parse (scopeAt (earlierIs earlier)) (now (words .entry))) ⌝ }
 {
     match check_expr(words, 0, MOST_LEVELS, 0, 0, earlier) {
         Checking::Refused(n) => Whole::Refused(n),
@@ -79,7 +81,7 @@ fn judge_definition(words: &[u32], polarity: u32, earlier: Earlier) -> Whole
 // A query's words: 1 to 1,024 of them.
 fn judge_query(words: &[u32], earlier: Earlier) -> Whole
     requires { ⌜ earlier .count ≤ 16 ⌝ }
-    ensures { λ r. ⌜ r ≡ wholeFor (earlierIs earlier) (checkQuery (earlierIs earlier) (now (words .entry))) ⌝ }
+    ensures { λ r. ⌜ r ≡ wholeFor (earlierIs earlier) (queryAt (earlierIs earlier) (now (words .entry))) ⌝ }
 {
     if words.len() == 0 {
         return Whole::Refused(refusals::BAD_WORD);
@@ -107,7 +109,7 @@ fn verdict(facts: Facts) -> u32
 // Definition `i`, its words read as a part of the policy.
 fn judge_entry(policy: &[u32], i: usize, earlier: Earlier) -> Whole
     requires { ⌜ (earlier .count ≤ 16) × (i ≤ 15) × (entryPlace i + 4 ≤ length (now policy)) × (entryAt (now policy) (entryPlace i) .offset + entryAt (now policy) (entryPlace i) .size ≤ length (now policy)) ⌝ }
-    ensures { λ r. ⌜ r ≡ wholeFor (earlierIs earlier) (checkDefinition (now (policy .entry)) (earlierIs earlier) (entryAt (now (policy .entry)) (entryPlace i))) ⌝ }
+    ensures { λ r. ⌜ r ≡ wholeFor (earlierIs earlier) (definitionAt (now (policy .entry)) (earlierIs earlier) (entryAt (now (policy .entry)) (entryPlace i))) ⌝ }
 {
     let at = entry_place(i);
     let polarity = policy[at + 1];
@@ -115,11 +117,11 @@ fn judge_entry(policy: &[u32], i: usize, earlier: Earlier) -> Whole
 }
 
 // The definitions in file order, each through 3 to 7 before the next.
-fn judge_definitions(policy: &[u32], count: u32) -> PolicyJudged
+fn judge_definitions(policy: &[u32], count: u32, our_key: u32) -> PolicyJudged
     requires { ⌜ table (entriesFrom count (now policy) 2) ≡ readTable (now policy) ⌝ }
-    ensures { λ r. ⌜ JudgedAs (checkPolicy (now (policy .entry))) r ⌝ }
+    ensures { λ r. ⌜ JudgedAs «our_key» (checkTable «our_key» (now (policy .entry))) r ⌝ }
 {
-    let mut earlier = none_earlier();
+    let mut earlier = none_earlier(our_key);
     let mut next: u32 = 0;
     while next < count {
         let part = next;
@@ -133,7 +135,10 @@ fn judge_definitions(policy: &[u32], count: u32) -> PolicyJudged
                 };
             }
             Whole::Checked(facts) => {
-                earlier = with_definition(earlier, policy[entry_place(i) + 1], facts.open);
+                let at = entry_place(i);
+                let name = policy[at];
+                let polarity = policy[at + 1];
+                earlier = with_definition(earlier, name, polarity, facts.open);
             }
         }
     }
@@ -143,27 +148,37 @@ fn judge_definitions(policy: &[u32], count: u32) -> PolicyJudged
     }
 }
 
-// A policy by itself: 1 and 2 for the table, then 3 to 7 for each definition.
-pub fn judge_policy(policy: &[u32]) -> PolicyJudged
-    ensures { λ r. ⌜ JudgedAs (checkPolicy (now (policy .entry))) r ⌝ }
+// A policy refused as a whole: no part of it is named.
+fn refused_whole(number: u32, our_key: u32) -> PolicyJudged
+    ensures { λ r. ⌜ JudgedAs «our_key» (refused number noPart) r ⌝ }
 {
-    match read_table(policy) {
-        TableRead::Refused(number) => PolicyJudged {
-            judgement: PolicyJudgement::Refused {
-                number,
-                part: refusals::NO_PART,
-            },
-            earlier: none_earlier(),
+    PolicyJudged {
+        judgement: PolicyJudgement::Refused {
+            number,
+            part: refusals::NO_PART,
         },
-        TableRead::Sound(count) => judge_definitions(policy, count),
+        earlier: none_earlier(our_key),
     }
 }
 
-// The verdict of a query under a policy, or the refusal: the policy's, then the query's.
-pub fn judge(policy: &[u32], query: &[u32]) -> Judgement
-    ensures { λ r. ⌜ r ≡ judgementFor (judge (now (policy .entry)) (now (query .entry))) ⌝ }
+// A policy by itself: 20 for our key, 1 and 2 for the table, then 3 to 7 for each definition.
+pub fn judge_policy(policy: &[u32], our_key: u32) -> PolicyJudged
+    ensures { λ r. ⌜ JudgedAs «our_key» (checkPolicy «our_key» (now (policy .entry))) r ⌝ }
 {
-    let judged = judge_policy(policy);
+    if our_key < FIRST_KEY {
+        return refused_whole(refusals::NOT_A_KEY, our_key);
+    }
+    match read_table(policy) {
+        TableRead::Refused(number) => refused_whole(number, our_key),
+        TableRead::Sound(count) => judge_definitions(policy, count, our_key),
+    }
+}
+
+// The verdict of a query under a policy and a key of ours, or the refusal: the policy's, then the query's.
+pub fn judge(policy: &[u32], query: &[u32], our_key: u32) -> Judgement
+    ensures { λ r. ⌜ r ≡ judgementFor (judge «our_key» (now (policy .entry)) (now (query .entry))) ⌝ }
+{
+    let judged = judge_policy(policy, our_key);
     let judgement = judged.judgement;
     match judgement {
         PolicyJudgement::Refused { number, part } => Judgement::Refused { number, part },

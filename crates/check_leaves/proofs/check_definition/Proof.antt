@@ -6,30 +6,20 @@ use borrow.Author.Needs.{needs}
 use Rattle.check_leaves.proofs.check_definition.Statement.{statement}
 use Rattle.check_leaves.proofs.check_definition.Tie as tie
 
-element-copy-out-minus : tie.Need-element-copy-out-minus
-element-copy-out-minus c =
-    let few = c .before .before .before .before .before .pre in
-    let known = earlier-known (word-found (c .before .before .before .read-earlier .ensures) (c .before .d .given .1)) in
-    omega arith
-
-element-copy-out-t20 : tie.Need-element-copy-out-t20
-element-copy-out-t20 c =
-    let few = c .before .before .before .before .before .before .pre in
-    let known = earlier-known (word-found (c .before .before .before .before .read-earlier .ensures) (c .before .before .d .given .1)) in
-    omega arith
-
-add-t21 : tie.Need-add-t21
-add-t21 c = omega (arith, word-found (c .before .before .before .before .before .read-earlier .ensures) (c .before .before .before .d .given .1) .within)
+of-definition-requires : tie.Need-of-definition-requires
+of-definition-requires c κs =
+    (c .before .before .before .before .before .pre, earlier-known (word-found (c .before .before .before .read-earlier .ensures) (c .before .d .given .1)))
 
 returns : tie.Need-returns
 returns c =
     let a = c .before .before .before .before .before .args in
-    definition-refused (a .variables) (a .draws) (a .t5) (word-refused (c .before .before .before .read-earlier .ensures) (c .before .n .given .1))
+    definition-refused (a .variables) (a .draws) (a .earlier) (word-refused (c .before .before .before .read-earlier .ensures) (c .before .n .given .1))
 
 returns-2 : tie.Need-returns-2
 returns-2 c =
-    let a = c .before .before .before .before .before .before .before .args in
-    definition-found (a .variables) (a .draws) (a .t5) (word-found (c .before .before .before .before .before .read-earlier .ensures) (c .before .before .before .d .given .1))
+    let r : tie.After-read-earlier = c .before .before .before .before in
+    let a = r .before .before .args in
+    definition-found (a .variables) (a .draws) (a .earlier) (word-found (r .read-earlier .ensures) (c .before .before .d .given .1)) (c .of-definition .ensures)
 
 pub check-definition-spec : {M : Type 1} → statement M
 check-definition-spec =
@@ -38,9 +28,7 @@ check-definition-spec =
     (λ c κs. search needs)
     (λ c. search needs)
     (λ c. search needs)
-    (λ c. search needs)
-    element-copy-out-minus
-    element-copy-out-t20
-    add-t21
+    of-definition-requires
+    (λ c. omega (arith, word-found (c .before .before .before .before .read-earlier .ensures) (c .before .before .d .given .1) .within))
     returns
     returns-2)

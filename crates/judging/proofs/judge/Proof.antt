@@ -8,27 +8,27 @@ judge-query-requires : tie.Need-judge-query-requires
 judge-query-requires c κs =
     let j = c .before .before in
     let a = j .before .before .before .args in
-    known-few (a .policy .now) (a .query .now) _ (j .judge-policy .ensures) (c .enum-told .given .1)
+    known-few (a .our-key) (a .policy .now) (a .query .now) _ (j .judge-policy .ensures) (c .enum-told .given .1)
 
 returns : tie.Need-returns
 returns c =
     let j = c .before .before .before in
     let a = j .before .before .before .args in
-    policy-refused (a .policy .now) (a .query .now) _ (j .judge-policy .ensures) (c .before .judgement .given .1)
+    policy-refused (a .our-key) (a .policy .now) (a .query .now) _ (j .judge-policy .ensures) (c .before .judgement .given .1)
 
 returns-2 : tie.Need-returns-2
 returns-2 c =
     let q = c .before .before .before in
     let j = q .before .before .before in
     let a = j .before .before .before .args in
-    query-unjudged (a .policy .now) (a .query .now) _ (j .judge-policy .ensures) (q .before .enum-told .given .1) (q .judge-query .ensures) (c .before .number .given .1)
+    query-unjudged (a .our-key) (a .policy .now) (a .query .now) _ (j .judge-policy .ensures) (q .before .enum-told .given .1) (q .judge-query .ensures) (c .before .number .given .1)
 
 returns-3 : tie.Need-returns-3
 returns-3 c =
     let q = c .before .before .before .before in
     let j = q .before .before .before in
     let a = j .before .before .before .args in
-    query-judged (a .policy .now) (a .query .now) _ (j .judge-policy .ensures) (q .before .enum-told .given .1) (q .judge-query .ensures) (c .before .before .facts .given .1) (c .verdict .ensures)
+    query-judged (a .our-key) (a .policy .now) (a .query .now) _ (j .judge-policy .ensures) (q .before .enum-told .given .1) (q .judge-query .ensures) (c .before .before .facts .given .1) (c .verdict .ensures)
 
 pub judge-spec : {M : Type 1} → statement M
 judge-spec =

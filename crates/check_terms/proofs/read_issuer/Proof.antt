@@ -1,8 +1,8 @@
 -- Each way out is a law of `TermAnswers`.
 use Rattle.check_terms.proofs.TermAnswers.{issuer-refused, issuer-key, issuer-number, issuer-variable}
 use borrow.Author.Needs.{needs}
-use Rattle.check_terms.proofs.pass_issuer.Statement.{statement}
-use Rattle.check_terms.proofs.pass_issuer.Tie as tie
+use Rattle.check_terms.proofs.read_issuer.Statement.{statement}
+use Rattle.check_terms.proofs.read_issuer.Tie as tie
 
 returns : tie.Need-returns
 returns c = let a = c .before .before .before .before .before .args in issuer-refused (a .words .now) (a .at) (a .variables) (c .before .before .before .read-term .ensures) (c .before .n .given .1)
@@ -24,8 +24,8 @@ returns-3 c =
 returns-4 : tie.Need-returns-4
 returns-4 c = let a = c .before .before .before .before .before .before .before .args in issuer-variable (a .words .now) (a .at) (a .variables) (c .before .before .before .before .before .read-term .ensures) (c .before .before .before .t .given .1) (c .enum-told .given .1)
 
-pub pass-issuer-spec : {M : Type 1} → statement M
-pass-issuer-spec =
+pub read-issuer-spec : {M : Type 1} → statement M
+read-issuer-spec =
     tie.close
     (tie.spec
     (λ c κs. search needs)
