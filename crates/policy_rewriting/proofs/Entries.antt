@@ -9,10 +9,7 @@ use lib.ListN.{length, getD, take, drop}
 use lib.Seq.{drop-cons}
 use borrow.Author.Tests.{eq-eqb, ne-eqb}
 use Rattle.rows.specs.Name.{Polarity, minus, polarityOf}
-use Rattle.policy.specs.Syntax.{Expr}
-use Rattle.policy.specs.Polarity.{Known}
-use Rattle.policy.specs.Table.{Entry, entryAt, entryWords}
-use Rattle.policy.specs.Definitions.{passed, checkPolicy}
+use Rattle.policy.specs.Table.{entryAt, entryWords}
 use Rattle.policy.specs.External.{listsKeys, keysListed, moved, entryFour}
 use Rattle.policy.proofs.Judging.{policy-accepted}
 use Rattle.policy_places.specs.Places.{SomeExpr}
@@ -29,30 +26,27 @@ use Rattle.policy_rewriting.proofs.Walks.{then-laid}
 -- ---- the list of compromised keys
 
 pub table-of : {policy : List ℕ} (g : Passing policy) → TableParts policy (g .entries)
-table-of {policy} g = table-parts policy (g .entries) (policy-accepted policy (g .entries) (g .exprs) (g .known) (g .passes) .listed)
+table-of {policy} g = table-parts policy (g .entries) (policy-accepted (g .ours) policy (g .entries) (g .exprs) (g .known) (g .passes) .listed)
 
 module _ (policy : List ℕ) where
-  entries-of : (xs : List Entry) (es : List Expr) (ks : List Known) → checkPolicy policy ≡ passed xs es ks → xs ≡ entriesFrom (getD policy 1 0) policy 2
-  entries-of xs es ks h = table-parts policy xs (policy-accepted policy xs es ks h .listed) .are
-
   pub none-listed : getD policy 1 0 ≡ 0 → SayKeys policy false
   unfolding entriesFrom keysListed
-  none-listed z = record { says = λ xs es ks h. sym (ap keysListed (entries-of xs es ks h ∙ ap (λ (n : ℕ). entriesFrom n policy 2) z)) }
+  none-listed z = record { says = λ g. sym (ap keysListed (table-of g .are ∙ ap (λ (n : ℕ). entriesFrom n policy 2) z)) }
 
   module _ (some : getD policy 1 0 ≡ 0 → ⊥) where
-    first-listed : (xs : List Entry) (es : List Expr) (ks : List Known) → checkPolicy policy ≡ passed xs es ks → keysListed xs ≡ listsKeys (entryAt policy 2)
+    first-listed : (g : Passing policy) → keysListed (g .entries) ≡ listsKeys (entryAt policy 2)
     unfolding entriesFrom keysListed
-    first-listed xs es ks h =
+    first-listed g =
         let e : getD policy 1 0 ≡ suc (getD policy 1 0 - 1) = omega arith in
-        ap keysListed (entries-of xs es ks h ∙ ap (λ (n : ℕ). entriesFrom n policy 2) e)
+        ap keysListed (table-of g .are ∙ ap (λ (n : ℕ). entriesFrom n policy 2) e)
 
     pub other-name-listed : (getD policy 2 0 ≡ 0 → ⊥) → SayKeys policy false
     unfolding listsKeys entryAt
-    other-name-listed n = record { says = λ xs es ks h. sym (first-listed xs es ks h ∙ rw (ne-eqb (getD policy 2 0) 0 n) refl) }
+    other-name-listed n = record { says = λ g. sym (first-listed g ∙ rw (ne-eqb (getD policy 2 0) 0 n) refl) }
 
     pub polarity-listed : getD policy 2 0 ≡ 0 → SayKeys policy (eqb (getD policy 3 0) 1)
     unfolding listsKeys entryAt
-    polarity-listed n = record { says = λ xs es ks h. sym (first-listed xs es ks h ∙ rw (eq-eqb (getD policy 2 0) 0 n) refl) }
+    polarity-listed n = record { says = λ g. sym (first-listed g ∙ rw (eq-eqb (getD policy 2 0) 0 n) refl) }
 
     pub first-inside : Passing policy → 6 ≤ length policy
     first-inside g = let t = table-of g .header .fits in omega arith
@@ -84,20 +78,20 @@ module _ (policy : List ℕ) (i : ℕ) {at : ℕ} (place : at ≡ entryPlace i) 
 
   pub definition-broken : {keys : Bool} {to : ℕ} {before after : List ℕ} → mayBe keys i (signOf (not (eqb (getD policy (at + 1) 0) 0))) ≡ false → WalkedDefinition keys policy i to before Broken after
   unfolding Answered
-  definition-broken {keys} h = record { walked = λ m e p. record { answer = rw (sym (ap (mayBe keys i) sign-at) ∙ h) refl } }
+  definition-broken {keys} h = record { walked = λ scope e p. record { answer = rw (sym (ap (mayBe keys i) sign-at) ∙ h) refl } }
 
   pub definition-walked : {keys : Bool} {to : ℕ} {ws before after : List ℕ} {r : Vetted} → mayBe keys i (signOf (not (eqb (getD policy (at + 1) 0) 0))) ≡ true →
       ws ≡ entryWords policy (entryAt policy (entryPlace i)) → WalkedExpr keys (signOf (not (eqb (getD policy (at + 1) 0) 0))) ws 0 to before r after → WalkedDefinition keys policy i to before r after
   definition-walked {keys} {to} {before = before} {after = after} {r = r} h f w =
       let is = entryWords policy (entryAt policy (entryPlace i)) in
       let here = subst (λ (p : Polarity). WalkedExpr keys p is 0 to before r after) sign-at (subst (λ (us : List ℕ). WalkedExpr keys (signOf (not (eqb (getD policy (at + 1) 0) 0))) us 0 to before r after) f w) in
-      record { walked = λ m e p. rw (sym (ap (mayBe keys i) sign-at) ∙ h) (here .walked m 0 e (whole-here m is e p)) }
+      record { walked = λ scope e p. rw (sym (ap (mayBe keys i) sign-at) ∙ h) (here .walked scope 0 e (whole-here scope is e p)) }
 
 -- what is asked of the walk over it
 pub definition-asked : {policy : List ℕ} {i to : ℕ} {ws : List ℕ} → AskDefinition policy i to → ws ≡ entryWords policy (entryAt policy (entryPlace i)) → SomeExpr ws 0 × Roomy ws 0 to
 definition-asked {to = to} a f =
-    let here = whole-here (a .known) _ (a .expr) (a .parses) in
-    subst (λ (ws : List ℕ). SomeExpr ws 0 × Roomy ws 0 to) (sym f) (record { m = a .known; n = 0; e = a .expr; here = here }, a .room)
+    let here = whole-here (a .scope) _ (a .expr) (a .parses) in
+    subst (λ (ws : List ℕ). SomeExpr ws 0 × Roomy ws 0 to) (sym f) (record { scope = a .scope; n = 0; e = a .expr; here = here }, a .room)
 
 -- ---- the words of an entry
 

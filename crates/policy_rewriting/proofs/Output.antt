@@ -14,10 +14,10 @@ use Rattle.rows.proofs.Lists.{no-elements}
 use Rattle.policy.specs.Syntax.{Expr}
 use Rattle.policy.specs.Words.{each, exprWords}
 use Rattle.policy.specs.Parse.{parsed, parse}
-use Rattle.policy.specs.Polarity.{Known}
+use Rattle.policy.specs.Polarity.{Known, scopeOf}
 use Rattle.policy.specs.Format.{formatOf}
 use Rattle.policy.specs.Table.{Entry, entryAt, entryWords}
-use Rattle.policy.specs.Definitions.{knownOf, passed, checkPolicy}
+use Rattle.policy.specs.Definitions.{knownOf}
 use Rattle.policy.specs.External.{externalExpr, listsKeys, keysListed, allPlus, isExternal, vetAll, vetLater, moved, placed, entryFour, parts, policyWords, output}
 use Rattle.policy.proofs.Judging.{AcceptedDefinition, Accepted, none, one, policy-accepted}
 use Rattle.policy.proofs.SoundTable.{SoundEntry, InTable, SoundTable, table-sound}
@@ -28,11 +28,11 @@ use Rattle.policy.proofs.Decoding.{parse-words}
 use Rattle.policy_table.specs.Entries.{entryPlace}
 use Rattle.policy_rewriting.specs.Laid.{laid}
 use Rattle.policy_rewriting.specs.Walks.{vets, outLeaf, out, Answered, Walked, Roomy}
-use Rattle.policy_rewriting.specs.Output.{Passing, SayKeys, mayBe, sign, AskDefinition, WalkedDefinition, headerOf, MeasuredAs, SayWords}
+use Rattle.policy_rewriting.specs.Output.{Passing, SayKeys, mayBe, sign, AskDefinition, WalkedDefinition, headerOf, MeasuredAs}
 use Rattle.policy_rewriting.specs.declared.vetting.Vetted.{Vetted}
 use Rattle.policy_rewriting.specs.declared.vetting.Vetted.the-variants as vetted
 use Rattle.policy_rewriting.specs.declared.Measured.the-variants.{Words, Broken}
-use Rattle.policy_rewriting.proofs.Laid.{laid-none, laid-length, laid-append, laid-apart}
+use Rattle.policy_rewriting.proofs.Laid.{laid-none, laid-append, laid-apart}
 use Rattle.policy_rewriting.proofs.Entries.{word-first}
 use Rattle.policy_rewriting.proofs.Walks.{answer-told}
 
@@ -124,10 +124,10 @@ keys-outs (x ∷ xs) (e ∷ es) l k h =
 -- ---- a policy is the policy of its definitions
 
 -- a definition's words are those of its expression
-module _ (p : List ℕ) {due : ℕ} {earlier : List Entry} {x : Entry} {ks : List Known} {e : Expr} (s : SoundEntry p due earlier x) (a : AcceptedDefinition p ks x e) where
+module _ (p : List ℕ) {due : ℕ} {earlier : List Entry} {x : Entry} {ks : List Known} {e : Expr} {ours : ℕ} (s : SoundEntry p due earlier x) (a : AcceptedDefinition ours p ks x e) where
   entry-spelled : take (x .size) (drop (x .offset) p) ≡ exprWords e 0
   unfolding entryWords
-  entry-spelled = parse-words (length ks) (entryWords p x) e (a .parses)
+  entry-spelled = parse-words (scopeOf ours ks) (entryWords p x) e (a .parses)
 
   entry-size : length (exprWords e 0) ≡ x .size
   entry-size = ap length (sym entry-spelled) ∙ length-take-le (x .size) (drop (x .offset) p) (omega (arith, length-drop (x .offset) p, s .ends))
@@ -136,7 +136,7 @@ same-place : (x : Entry) (due size : ℕ) → x .offset ≡ due → size ≡ x .
 same-place x due size o s = rw (← o, s) refl
 
 module _ (p : List ℕ) where
-  placed-same : (at due : ℕ) (earlier : List Entry) {xs : List Entry} {ks ls : List Known} {es : List Expr} → InTable p at due earlier xs → Accepted p xs ks es ls → placed due xs es ≡ xs
+  placed-same : (at due : ℕ) (earlier : List Entry) {xs : List Entry} {ks ls : List Known} {es : List Expr} {ours : ℕ} → InTable p at due earlier xs → Accepted ours p xs ks es ls → placed due xs es ≡ xs
   unfolding InTable placed
   placed-same at due earlier h none = refl
   placed-same at due earlier h (one {x = x} {xs = xs} {e = e} {es = es} a rest) =
@@ -163,7 +163,7 @@ module _ (p : List ℕ) where
       four-words at (omega arith) ∙ ap (λ (y : Entry). entryFour y ++ drop (at + 4) p) (sym (h .0)) ∙ ap (λ (r : List ℕ). entryFour x ++ r) rest
       ∙ sym (append-assoc (entryFour x) (each entryFour xs) (drop (at + 4 * length (x ∷ xs)) p))
 
-  parts-same : (at due : ℕ) (earlier : List Entry) {xs : List Entry} {ks ls : List Known} {es : List Expr} → InTable p at due earlier xs → Accepted p xs ks es ls → drop due p ≡ parts es
+  parts-same : (at due : ℕ) (earlier : List Entry) {xs : List Entry} {ks ls : List Known} {es : List Expr} {ours : ℕ} → InTable p at due earlier xs → Accepted ours p xs ks es ls → drop due p ≡ parts es
   unfolding InTable parts each
   parts-same at due earlier h none = drop-of-length-le p {i = due} (omega (arith, h))
   parts-same at due earlier h (one {x = x} {e = e} {es = es} a rest) =
@@ -171,10 +171,12 @@ module _ (p : List ℕ) where
       ∙ ap (λ (ws : List ℕ). ws ++ drop (x .size) (drop (x .offset) p)) (entry-spelled p (h .1) a)
       ∙ ap (λ (ws : List ℕ). exprWords e 0 ++ ws) (drop-drop (x .size) (x .offset) p ∙ parts-same (at + 4) (x .offset + x .size) (x ∷ earlier) (h .2) rest)
 
-  policy-same : (xs : List Entry) (es : List Expr) (ks : List Known) → checkPolicy p ≡ passed xs es ks → policyWords (formatOf p) xs es ≡ p
+  policy-same : (g : Passing p) → policyWords (formatOf p) (g .entries) (g .exprs) ≡ p
   unfolding policyWords
-  policy-same xs es ks h =
-      let a = policy-accepted p xs es ks h in
+  policy-same g =
+      let xs = g .entries in
+      let es = g .exprs in
+      let a = policy-accepted (g .ours) p xs es (g .known) (g .passes) in
       let t = table-sound p xs (a .listed) in
       let fits = t .header .fits in
       let count = t .count in
@@ -190,17 +192,23 @@ module _ (p : List ℕ) where
       ∙ ap (λ (ws : List ℕ). formatOf p ∷ ws) (sym (drop-cons p 1 0 (omega arith))) ∙ sym (drop-cons p 0 0 (omega arith))
 
 -- what is laid for an external policy is its output
-output-is : (policy : List ℕ) (keys : Bool) (xs : List Entry) (es : List Expr) (ks : List Known) → checkPolicy policy ≡ passed xs es ks → keys ≡ keysListed xs → isExternal xs es ≡ true →
-    policyWords (formatOf policy) xs (outs keys xs es) ≡ output policy xs es
+output-is : {policy : List ℕ} (keys : Bool) (g : Passing policy) → keys ≡ keysListed (g .entries) → isExternal (g .entries) (g .exprs) ≡ true →
+    policyWords (formatOf policy) (g .entries) (outs keys (g .entries) (g .exprs)) ≡ output policy (g .entries) (g .exprs)
 unfolding output
-output-is policy keys xs es ks h k ext = go keys k
+output-is {policy} keys g k ext = go keys k
   where
+    xs : List Entry
+    xs = g .entries
+
+    es : List Expr
+    es = g .exprs
+
     lengths : length xs ≡ length es
-    lengths = accepted-lengths (policy-accepted policy xs es ks h .definitions)
+    lengths = accepted-lengths (policy-accepted (g .ours) policy xs es (g .known) (g .passes) .definitions)
 
     go : (b : Bool) → b ≡ keysListed xs → policyWords (formatOf policy) xs (outs b xs es) ≡ (elim (keysListed xs) as (λ c. List ℕ) [ true ↦ policyWords (formatOf policy) xs (vetLater es) | false ↦ policy ])
     go true b = rw (← b) (ap (policyWords (formatOf policy) xs) (keys-outs xs es lengths (sym b) ext))
-    go false b = rw (← b) (ap (policyWords (formatOf policy) xs) (plain-outs xs es lengths) ∙ policy-same policy xs es ks h)
+    go false b = rw (← b) (ap (policyWords (formatOf policy) xs) (plain-outs xs es lengths) ∙ policy-same policy g)
 
 -- ---- definition by definition
 
@@ -236,28 +244,22 @@ goes-on keys place to area All x xs e es {mid} {after} {end} g m n a l h last la
     ∙ ap (λ (r : List ℕ). laid (to + length ws) (parts os) (laid (place + 4) cells r)) (a ∙ ap (laid place four) m) ∙ step-laid to place ws (parts os) four cells area (omega arith))
 
 -- definitions from number i on are still to be laid, the next part at word `to`
-pub record OutputLeft (policy before : List ℕ) (keys : Bool) (i to : ℕ) (area : List ℕ) : Type 0 where
-  -- those of the policy
-  pub allEntries : List Entry
-  pub allExprs : List Expr
-  pub allKnown : List Known
-  pub passes : checkPolicy policy ≡ passed allEntries allExprs allKnown
-  pub keysAre : keys ≡ keysListed allEntries
+pub record OutputLeft {policy : List ℕ} (g : Passing policy) (before : List ℕ) (keys : Bool) (i to : ℕ) (area : List ℕ) : Type 0 where
+  pub keysAre : keys ≡ keysListed (g .entries)
   -- those that are left
   pub entries : List Entry
   pub exprs : List Expr
   pub known : List Known
   pub lastKnown : List Known
-  pub accepted : Accepted policy entries known exprs lastKnown
+  pub accepted : Accepted (g .ours) policy entries known exprs lastKnown
   pub due : ℕ
   pub earlier : List Entry
   pub listed : InTable policy (entryPlace i) due earlier entries
   pub count : i + length entries ≡ getD policy 1 0
   pub behind : entryPlace (getD policy 1 0) ≤ to
   pub room : to ≤ 2 * due
-  pub rules : isExternal allEntries allExprs ≡ rulesFrom keys i entries exprs
-  pub size : length area ≡ length before
-  pub goes : Goes keys (entryPlace i) to area (AllBut (headerOf policy) (policyWords (formatOf policy) allEntries (outs keys allEntries allExprs)) before) entries exprs
+  pub rules : isExternal (g .entries) (g .exprs) ≡ rulesFrom keys i entries exprs
+  pub goes : Goes keys (entryPlace i) to area (AllBut (headerOf policy) (policyWords (formatOf policy) (g .entries) (outs keys (g .entries) (g .exprs))) before) entries exprs
 
 -- the header goes before the entries and the parts
 whole-laid : (f : ℕ) (xs : List Entry) (os : List Expr) (before : List ℕ) → length xs ≡ length os → (end : ℕ) (after : List ℕ) → end ≡ 2 + 4 * length xs + length (parts os) →
@@ -277,22 +279,18 @@ whole-laid f xs os before l end after e h =
 
 module _ (policy before : List ℕ) {keys : Bool} (k : SayKeys policy keys) (g : Passing policy) where
   -- before the first
-  pub none-laid : {to : ℕ} → to ≡ entryPlace (getD policy 1 0) → OutputLeft policy before keys 0 to before
+  pub none-laid : {to : ℕ} → to ≡ entryPlace (getD policy 1 0) → OutputLeft g before keys 0 to before
   none-laid {to} e =
       let xs = g .entries in
       let es = g .exprs in
-      let keysAre = k .says xs es (g .known) (g .passes) in
-      let a = policy-accepted policy xs es (g .known) (g .passes) in
+      let keysAre = k .says g in
+      let a = policy-accepted (g .ours) policy xs es (g .known) (g .passes) in
       let t = table-sound policy xs (a .listed) in
       let os = outs keys xs es in
       let count = t .count in
       let start : to ≡ 2 + 4 * length xs = omega arith in
       let header : headerOf policy ≡ formatOf policy ∷ length xs ∷ [] = ap (λ (n : ℕ). formatOf policy ∷ n ∷ []) (sym count) in
       record {
-        allEntries = xs;
-        allExprs = es;
-        allKnown = g .known;
-        passes = g .passes;
         keysAre = keysAre;
         entries = xs;
         exprs = es;
@@ -306,47 +304,43 @@ module _ (policy before : List ℕ) {keys : Bool} (k : SayKeys policy keys) (g :
         behind = omega arith;
         room = omega arith;
         rules = rules-external keys xs es keysAre;
-        size = refl;
         goes = λ end after h w.
             let all = whole-laid (formatOf policy) xs os before (outs-length keys xs es (accepted-lengths (a .definitions))) end after (h ∙ ap (λ (n : ℕ). n + length (parts os)) start)
             (w ∙ ap (λ (n : ℕ). laid n (parts os) (laid 2 (each entryFour (placed n xs os)) before)) start) in
             (all .0, ap (λ (ws : List ℕ). laid 0 ws after) header ∙ all .1);
       }
 
-passed-same : {xs ys : List Entry} {es fs : List Expr} {ks ls : List Known} → passed xs es ks ≡ passed ys fs ls → (xs ≡ ys) × (es ≡ fs)
-passed-same {xs} {ys} {es} {fs} {ks} {ls} h = (cc, cc)
-
 -- the next one of those that are left
-record Next (policy : List ℕ) (at due : ℕ) (earlier ys : List Entry) (fs : List Expr) (ks ls : List Known) : Type 0 where
+record Next (ours : ℕ) (policy : List ℕ) (at due : ℕ) (earlier ys : List Entry) (fs : List Expr) (ks ls : List Known) : Type 0 where
   x : Entry
   xs : List Entry
   e : Expr
   es : List Expr
   entriesAre : ys ≡ x ∷ xs
   exprsAre : fs ≡ e ∷ es
-  definition : AcceptedDefinition policy ks x e
-  others : Accepted policy xs (ks ++ (knownOf x e ks ∷ [])) es ls
+  definition : AcceptedDefinition ours policy ks x e
+  others : Accepted ours policy xs (ks ++ (knownOf x e ks ∷ [])) es ls
   is : x ≡ entryAt policy at
   entry : SoundEntry policy due earlier x
   table : InTable policy (at + 4) (x .offset + x .size) (x ∷ earlier) xs
 
-next-of : {policy : List ℕ} (at due : ℕ) (earlier : List Entry) {ys : List Entry} {fs : List Expr} {ks ls : List Known} → Accepted policy ys ks fs ls → InTable policy at due earlier ys → 0 < length ys →
-    Next policy at due earlier ys fs ks ls
+next-of : {ours : ℕ} {policy : List ℕ} (at due : ℕ) (earlier : List Entry) {ys : List Entry} {fs : List Expr} {ks ls : List Known} → Accepted ours policy ys ks fs ls → InTable policy at due earlier ys → 0 < length ys →
+    Next ours policy at due earlier ys fs ks ls
 unfolding InTable
 next-of at due earlier none t z = absurd (omega arith)
 next-of at due earlier (one {x = x} {xs = xs} {e = e} {es = es} d rest) t z =
     record { x = x; xs = xs; e = e; es = es; entriesAre = refl; exprsAre = refl; definition = d; others = rest; is = t .0; entry = t .1; table = t .2 }
 
-module _ {policy before : List ℕ} {keys : Bool} {i to : ℕ} {area : List ℕ} (o : OutputLeft policy before keys i to area) where
-  sound : SoundTable policy (o .allEntries)
-  sound = table-sound policy (o .allEntries) (policy-accepted policy (o .allEntries) (o .allExprs) (o .allKnown) (o .passes) .listed)
+module _ {policy before : List ℕ} {g : Passing policy} {keys : Bool} {i to : ℕ} {area : List ℕ} (o : OutputLeft g before keys i to area) where
+  sound : SoundTable policy (g .entries)
+  sound = table-sound policy (g .entries) (policy-accepted (g .ours) policy (g .entries) (g .exprs) (g .known) (g .passes) .listed)
 
   module _ (more : i < getD policy 1 0) where
-    next : Next policy (entryPlace i) (o .due) (o .earlier) (o .entries) (o .exprs) (o .known) (o .lastKnown)
+    next : Next (g .ours) policy (entryPlace i) (o .due) (o .earlier) (o .entries) (o .exprs) (o .known) (o .lastKnown)
     next = next-of (entryPlace i) (o .due) (o .earlier) (o .accepted) (o .listed) (omega (arith, o .count))
 
-    parses : parse (length (o .known)) (entryWords policy (entryAt policy (entryPlace i))) ≡ parsed (next .e)
-    parses = subst (λ (x : Entry). parse (length (o .known)) (entryWords policy x) ≡ parsed (next .e)) (next .is) (next .definition .parses)
+    parses : parse (scopeOf (g .ours) (o .known)) (entryWords policy (entryAt policy (entryPlace i))) ≡ parsed (next .e)
+    parses = subst (λ (x : Entry). parse (scopeOf (g .ours) (o .known)) (entryWords policy x) ≡ parsed (next .e)) (next .is) (next .definition .parses)
 
     pub next-asked : AskDefinition policy i to
     unfolding entryWords
@@ -363,14 +357,14 @@ module _ {policy before : List ℕ} {keys : Bool} {i to : ℕ} {area : List ℕ}
           few = omega arith;
           inside = omega arith;
           ends = subst (λ (x : Entry). x .offset + x .size ≤ length policy) (n .is) ends;
-          known = length (o .known);
+          scope = scopeOf (g .ours) (o .known);
           expr = n .e;
           parses = parses;
           room = subst (λ (x : Entry). Roomy (entryWords policy x) 0 to) (n .is) (record { fits = omega arith });
         }
 
     -- what the rules say of the next one, and of those after it
-    rules-split : isExternal (o .allEntries) (o .allExprs) ≡ ((mayBe keys i (sign (next .x)) && externalExpr (sign (next .x)) (next .e)) && rulesFrom keys (suc i) (next .xs) (next .es))
+    rules-split : isExternal (g .entries) (g .exprs) ≡ ((mayBe keys i (sign (next .x)) && externalExpr (sign (next .x)) (next .e)) && rulesFrom keys (suc i) (next .xs) (next .es))
     unfolding rulesFrom
     rules-split = o .rules ∙ ap (λ (ys : List Entry). rulesFrom keys i ys (o .exprs)) (next .entriesAre) ∙ ap (λ (fs : List Expr). rulesFrom keys i (next .x ∷ next .xs) fs) (next .exprsAre)
 
@@ -378,15 +372,11 @@ module _ {policy before : List ℕ} {keys : Bool} {i to : ℕ} {area : List ℕ}
       walked-next : Walked (mayBe keys i (sign (next .x)) && externalExpr (sign (next .x)) (next .e)) 0 (length (exprWords (next .e) 0)) to (exprWords (out keys (sign (next .x)) (next .e)) 0) area r mid
       walked-next =
           subst (λ (x : Entry). Walked (mayBe keys i (sign x) && externalExpr (sign x) (next .e)) 0 (length (exprWords (next .e) 0)) to (exprWords (out keys (sign x) (next .e)) 0) area r mid)
-          (sym (next .is)) (w .walked (length (o .known)) (next .e) parses)
+          (sym (next .is)) (w .walked (scopeOf (g .ours) (o .known)) (next .e) parses)
 
-      pub next-broken : {after : List ℕ} → r ≡ vetted.Broken → SayWords policy before Broken after
-      unfolding Answered MeasuredAs
-      next-broken e = record {
-        says = λ xs es ks h.
-            let s = passed-same (sym (o .passes) ∙ h) in
-            rw (← (s .0), ← (s .1)) (rules-split ∙ ap (λ (b : Bool). b && rulesFrom keys (suc i) (next .xs) (next .es)) (answer-told walked-next e .answer));
-      }
+      pub next-broken : r ≡ vetted.Broken → isExternal (g .entries) (g .exprs) ≡ false
+      unfolding Answered
+      next-broken e = rules-split ∙ ap (λ (b : Bool). b && rulesFrom keys (suc i) (next .xs) (next .es)) (answer-told walked-next e .answer)
 
       pub next-room : {past end : ℕ} → r ≡ vetted.To past end → (i ≤ 15) × (entryPlace i + 4 ≤ length policy) × (to ≤ end) × (end ≤ 65536)
       unfolding Answered
@@ -406,7 +396,7 @@ module _ {policy before : List ℕ} {keys : Bool} {i to : ℕ} {area : List ℕ}
 
       module _ {past end : ℕ} {after : List ℕ} (e : r ≡ vetted.To past end)
           (l : after ≡ laid (entryPlace i) (entryFour (moved (entryAt policy (entryPlace i)) to (end - to))) mid) where
-        pub next-laid : OutputLeft policy before keys (i + 1) end after
+        pub next-laid : OutputLeft g before keys (i + 1) end after
         unfolding Answered parts each placed outs
         next-laid =
             let n = next in
@@ -424,15 +414,11 @@ module _ {policy before : List ℕ} {keys : Bool} {i to : ℕ} {area : List ℕ}
             let one : i + 1 ≡ suc i = omega arith in
             let place : entryPlace i + 4 ≡ entryPlace (i + 1) = omega arith in
             let left : length (o .entries) ≡ suc (length (n .xs)) = ap length (n .entriesAre) in
-            let All = AllBut (headerOf policy) (policyWords (formatOf policy) (o .allEntries) (outs keys (o .allEntries) (o .allExprs))) before in
+            let All = AllBut (headerOf policy) (policyWords (formatOf policy) (g .entries) (outs keys (g .entries) (g .exprs))) before in
             let moving : after ≡ laid (entryPlace i) (entryFour (moved x to (length ws))) mid =
             l ∙ ap (λ (y : Entry). laid (entryPlace i) (entryFour (moved y to (end - to))) mid) (sym (n .is))
             ∙ ap (λ (k : ℕ). laid (entryPlace i) (entryFour (moved x to k)) mid) (let k : end - to ≡ length ws = omega arith in k) in
             record {
-              allEntries = o .allEntries;
-              allExprs = o .allExprs;
-              allKnown = o .allKnown;
-              passes = o .passes;
               keysAre = o .keysAre;
               entries = n .xs;
               exprs = n .es;
@@ -446,7 +432,6 @@ module _ {policy before : List ℕ} {keys : Bool} {i to : ℕ} {area : List ℕ}
               behind = omega arith;
               room = omega arith;
               rules = rules-split ∙ ap (λ (b : Bool). b && rulesFrom keys (suc i) (n .xs) (n .es)) (answer .0) ∙ ap (λ (j : ℕ). rulesFrom keys j (n .xs) (n .es)) (sym one);
-              size = ap length l ∙ laid-length (entryPlace i) _ mid ∙ ap length (y .area) ∙ laid-length to ws area ∙ o .size;
               goes = subst (λ (at : ℕ). Goes keys at end after All (n .xs) (n .es)) place
                   (goes-on keys (entryPlace i) to area All x (n .xs) (n .e) (n .es)
                   (subst (λ (fs : List Expr). Goes keys (entryPlace i) to area All (x ∷ n .xs) fs) (n .exprsAre)
@@ -455,17 +440,14 @@ module _ {policy before : List ℕ} {keys : Bool} {i to : ℕ} {area : List ℕ}
             }
 
   -- after the last
-  pub all-laid : {after : List ℕ} → getD policy 1 0 ≤ i → after ≡ laid 0 (headerOf policy) area → SayWords policy before (Words to) after
+  pub all-laid : {after : List ℕ} → getD policy 1 0 ≤ i → after ≡ laid 0 (headerOf policy) area →
+      MeasuredAs (isExternal (g .entries) (g .exprs)) (output policy (g .entries) (g .exprs)) before (Words to) after
   unfolding MeasuredAs rulesFrom outs parts each placed
   all-laid {after} done l =
       let none : o .entries ≡ [] = no-elements (o .entries) (omega (arith, o .count)) in
-      let external : isExternal (o .allEntries) (o .allExprs) ≡ true = o .rules ∙ ap (λ (ys : List Entry). rulesFrom keys i ys (o .exprs)) none in
-      let whole = policyWords (formatOf policy) (o .allEntries) (outs keys (o .allEntries) (o .allExprs)) in
+      let external : isExternal (g .entries) (g .exprs) ≡ true = o .rules ∙ ap (λ (ys : List Entry). rulesFrom keys i ys (o .exprs)) none in
+      let whole = policyWords (formatOf policy) (g .entries) (outs keys (g .entries) (g .exprs)) in
       let All = AllBut (headerOf policy) whole before in
-      let g = subst (λ (ys : List Entry). Goes keys (entryPlace i) to area All ys (o .exprs)) none (o .goes) to area (omega arith) (sym (laid-none to _ ∙ laid-none (entryPlace i) area)) in
-      let same = output-is policy keys (o .allEntries) (o .allExprs) (o .allKnown) (o .passes) (o .keysAre) external in
-      record {
-        says = λ xs es ks h.
-            let s = passed-same (sym (o .passes) ∙ h) in
-            rw (← (s .0), ← (s .1)) (external, g .0 ∙ ap length same, l ∙ g .1 ∙ ap (λ (ws : List ℕ). laid 0 ws before) same);
-      }
+      let all = subst (λ (ys : List Entry). Goes keys (entryPlace i) to area All ys (o .exprs)) none (o .goes) to area (omega arith) (sym (laid-none to _ ∙ laid-none (entryPlace i) area)) in
+      let same = output-is keys g (o .keysAre) external in
+      (external, all .0 ∙ ap length same, l ∙ all .1 ∙ ap (λ (ws : List ℕ). laid 0 ws before) same)

@@ -107,12 +107,12 @@ pub record Onward (at to next end : ℕ) : Type 0 where
 module _ {keys : Bool} {p : Polarity} {ws : List ℕ} {at to : ℕ} {before : List ℕ} {next end : ℕ} {after : List ℕ} (w : WalkedExpr keys p ws at to before (To next end) after) where
   pub past-walked : PastExpr ws at next
   unfolding Answered
-  past-walked = record { past = λ m n e s. w .walked m n e s .answer .1 .passed }
+  past-walked = record { past = λ scope n e s. w .walked scope n e s .answer .1 .passed }
 
   pub onward : SomeExpr ws at → Onward at to next end
   unfolding Answered
   onward x =
-      let l = w .walked (x .m) (x .n) (x .e) (x .here) .answer .1 in
+      let l = w .walked (x .scope) (x .n) (x .e) (x .here) .answer .1 in
       let passed = l .passed in
       let ends = l .ends in
       let few = l .few in
@@ -149,48 +149,48 @@ module _ {keys : Bool} {p : Polarity} {ws : List ℕ} {at to : ℕ} {before : Li
   pub leaf-walked : {r : Vetted} {after : List ℕ} → isNode (getD ws at 0) ≡ false → WalkedLeaf keys p ws at to before r after → WalkedExpr keys p ws at to before r after
   unfolding externalExpr eachLeaf exprWords
   leaf-walked {r} {after} c g = record {
-    walked = λ m n e s.
-        on-leaf (λ x. Stands m n ws at x → Walked (externalExpr p x) at (length (exprWords x n)) to (exprWords (out keys p x) n) before r after) s c (λ x h. g .walked m n x (in-leaf h)) s;
+    walked = λ scope n e s.
+        on-leaf (λ x. Stands scope n ws at x → Walked (externalExpr p x) at (length (exprWords x n)) to (exprWords (out keys p x) n) before r after) s c (λ x h. g .walked scope n x (in-leaf h)) s;
   }
 
   pub difference-broken : {after : List ℕ} → getD ws at 0 ≡ 6 → WalkedExpr keys p ws at to before Broken after
   unfolding Answered externalExpr
   difference-broken {after} c = record {
-    walked = λ m n e s. on-difference (λ x. Walked (externalExpr p x) at (length (exprWords x n)) to (exprWords (out keys p x) n) before Broken after) s c (λ a b. record { answer = refl });
+    walked = λ scope n e s. on-difference (λ x. Walked (externalExpr p x) at (length (exprWords x n)) to (exprWords (out keys p x) n) before Broken after) s c (λ a b. record { answer = refl });
   }
 
   module _ (c : getD ws at 0 ≡ 5) {first mid : List ℕ} where
     pub union-broken : {after : List ℕ} → WalkedExpr keys p ws (at + 1) (to + 1) first Broken mid → WalkedExpr keys p ws at to before Broken after
     unfolding Answered externalExpr
     union-broken {after} g = record {
-      walked = λ m n e s.
-          on-union (λ x. Stands m n ws at x → Walked (externalExpr p x) at (length (exprWords x n)) to (exprWords (out keys p x) n) before Broken after) s c
-          (λ a b h. record { answer = rw (g .walked m n a (in-union h .left) .answer) refl }) s;
+      walked = λ scope n e s.
+          on-union (λ x. Stands scope n ws at x → Walked (externalExpr p x) at (length (exprWords x n)) to (exprWords (out keys p x) n) before Broken after) s c
+          (λ a b h. record { answer = rw (g .walked scope n a (in-union h .left) .answer) refl }) s;
     }
 
     pub union-walked : {next end : ℕ} {r : Vetted} {after : List ℕ} → first ≡ laid to (getD ws at 0 ∷ []) before → WalkedExpr keys p ws (at + 1) (to + 1) first (To next end) mid →
         WalkedExpr keys p ws next end mid r after → WalkedExpr keys p ws at to before r after
     unfolding externalExpr eachLeaf exprWords
     union-walked {r = r} {after = after} l g k = record {
-      walked = λ m n e s.
-          on-union (λ x. Stands m n ws at x → Walked (externalExpr p x) at (length (exprWords x n)) to (exprWords (out keys p x) n) before r after) s c
+      walked = λ scope n e s.
+          on-union (λ x. Stands scope n ws at x → Walked (externalExpr p x) at (length (exprWords x n)) to (exprWords (out keys p x) n) before r after) s c
           (λ a b h.
           let long : 1 + (length (exprWords a n) + length (exprWords b n)) ≡ length (5 ∷ (exprWords a n ++ exprWords b n)) = omega (arith, length-append (exprWords a n) (exprWords b n)) in
           sized long (front-walked 1 (5 ∷ []) (l ∙ ap (λ (w : ℕ). laid to (w ∷ []) before) c) (omega arith)
-          (both-walked (g .walked m n a (in-union h .left)) (k .walked m n b (right-here (past-walked g) (in-union h)))))) s;
+          (both-walked (g .walked scope n a (in-union h .left)) (k .walked scope n b (right-here (past-walked g) (in-union h)))))) s;
     }
 
   pub comprehension-walked : {mid : List ℕ} {r : Vetted} {after : List ℕ} → getD ws at 0 ≡ 7 → mid ≡ laid to (getD ws at 0 ∷ getD ws (at + 1) 0 ∷ []) before →
       WalkedBody keys p ws (at + 2) (getD ws (at + 1) 0) (to + 2) mid r after → WalkedExpr keys p ws at to before r after
   unfolding externalExpr eachLeaf exprWords
   comprehension-walked {mid} {r} {after} c l g = record {
-    walked = λ m n e s.
-        on-comprehension (λ x. Stands m n ws at x → Walked (externalExpr p x) at (length (exprWords x n)) to (exprWords (out keys p x) n) before r after) s c
+    walked = λ scope n e s.
+        on-comprehension (λ x. Stands scope n ws at x → Walked (externalExpr p x) at (length (exprWords x n)) to (exprWords (out keys p x) n) before r after) s c
         (λ b h.
         let i = in-comprehension h in
         let count : getD ws (at + 1) 0 ≡ guardCount (outBody keys p b) = sym (i .body .count) ∙ sym (each-guards (outLeaf keys p) b) in
         let long : 2 + length (bodyWords b n) ≡ length (exprWords (comprehension b) n) = omega arith in
-        sized long (front-walked 2 (7 ∷ guardCount (outBody keys p b) ∷ []) (l ∙ rw (c, count) refl) (omega arith) (g .walked m n b (i .body)))) s;
+        sized long (front-walked 2 (7 ∷ guardCount (outBody keys p b) ∷ []) (l ∙ rw (c, count) refl) (omega arith) (g .walked scope n b (i .body)))) s;
   }
 
 -- ---- guards
@@ -237,8 +237,8 @@ module _ {keys : Bool} {p : Polarity} {ws : List ℕ} {at left to : ℕ} {before
       WalkedBody keys p ws at left to before (To next end) after
   unfolding Answered externalExpr eachLeaf exprWords
   head-walked {next} {end} {after} z past l = record {
-    walked = λ m n b s.
-        on-head (λ x. StandsBody m n ws at left x → Walked (externalBody p x) at (length (bodyWords x n)) to (bodyWords (outBody keys p x) n) before (To next end) after) s z
+    walked = λ scope n b s.
+        on-head (λ x. StandsBody scope n ws at left x → Walked (externalBody p x) at (length (bodyWords x n)) to (bodyWords (outBody keys p x) n) before (To next end) after) s z
         (λ ts h. record { answer = (refl, copied (termRowWords ts) (in-head h .words) (past .past n ts (in-head h)) l) }) s;
   }
 
@@ -246,7 +246,7 @@ module _ {keys : Bool} {p : Polarity} {ws : List ℕ} {at left to : ℕ} {before
     pub absent-broken : {after : List ℕ} → getD ws at 0 ≡ 4 → WalkedBody keys p ws at left to before Broken after
     unfolding Answered externalExpr
     absent-broken {after} c = record {
-      walked = λ m n b s.
+      walked = λ scope n b s.
           on-absent (λ x. Walked (externalBody p x) at (length (bodyWords x n)) to (bodyWords (outBody keys p x) n) before Broken after) s z (is-absent c) (λ r e b. record { answer = refl });
     }
 
@@ -254,9 +254,9 @@ module _ {keys : Bool} {p : Polarity} {ws : List ℕ} {at left to : ℕ} {before
       pub draw-broken : {after : List ℕ} → WalkedExpr keys p ws (at + 1) (to + 1) first Broken mid → WalkedBody keys p ws at left to before Broken after
       unfolding Answered externalExpr
       draw-broken {after} g = record {
-        walked = λ m n b s.
-            on-draw (λ x. StandsBody m n ws at left x → Walked (externalBody p x) at (length (bodyWords x n)) to (bodyWords (outBody keys p x) n) before Broken after) s z (is-draw c)
-            (λ e q b h. record { answer = rw (g .walked m n e (in-draw h .operand) .answer) refl }) s;
+        walked = λ scope n b s.
+            on-draw (λ x. StandsBody scope n ws at left x → Walked (externalBody p x) at (length (bodyWords x n)) to (bodyWords (outBody keys p x) n) before Broken after) s z (is-draw c)
+            (λ e q b h. record { answer = rw (g .walked scope n e (in-draw h .operand) .answer) refl }) s;
       }
 
       pub draw-walked : {next end rest past : ℕ} {last : List ℕ} {r : Vetted} {after : List ℕ} → first ≡ laid to (getD ws at 0 ∷ []) before →
@@ -265,17 +265,17 @@ module _ {keys : Bool} {p : Polarity} {ws : List ℕ} {at left to : ℕ} {before
           WalkedBody keys p ws at left to before r after
       unfolding Answered externalExpr eachLeaf exprWords
       draw-walked {next} {end} {rest} {past} {last} {r} {after} f g q l k = record {
-        walked = λ m n b s.
-            on-draw (λ x. StandsBody m n ws at left x → Walked (externalBody p x) at (length (bodyWords x n)) to (bodyWords (outBody keys p x) n) before r after) s z (is-draw c)
+        walked = λ scope n b s.
+            on-draw (λ x. StandsBody scope n ws at left x → Walked (externalBody p x) at (length (bodyWords x n)) to (bodyWords (outBody keys p x) n) before r after) s z (is-draw c)
             (λ e u b h.
             let d = in-draw h in
             let there = pattern-here (past-walked g) d in
             let pattern : Walked true next (length (patternWords n u)) end (patternWords n u) mid (To rest past) last = record { answer = (refl, copied (patternWords n u) (there .words) (q .past n u there) l) } in
-            let body = k .walked m (n + fresh u) b (rest-here (past-walked g) d q) in
+            let body = k .walked scope (n + fresh u) b (rest-here (past-walked g) d q) in
             let long : 1 + (length (exprWords e n) + (length (patternWords n u) + length (bodyWords b (n + fresh u)))) ≡ length (bodyWords (draw e u b) n) =
             omega (arith, length-append (exprWords e n) (patternWords n u ++ bodyWords b (n + fresh u)), length-append (patternWords n u) (bodyWords b (n + fresh u))) in
             sized long (front-walked 1 (1 ∷ []) (f ∙ ap (λ (w : ℕ). laid to (w ∷ []) before) c) (omega arith)
-            (both-walked (g .walked m n e (d .operand)) (both-walked pattern body)))) s;
+            (both-walked (g .walked scope n e (d .operand)) (both-walked pattern body)))) s;
       }
 
     pub test-walked : {past : ℕ} {mid : List ℕ} {r : Vetted} {after : List ℕ} → (getD ws at 0 ≡ 1 → ⊥) → (getD ws at 0 ≡ 4 → ⊥) →
@@ -283,8 +283,8 @@ module _ {keys : Bool} {p : Polarity} {ws : List ℕ} {at left to : ℕ} {before
         WalkedBody keys p ws at left to before r after
     unfolding externalExpr eachLeaf exprWords
     test-walked {r = r} {after = after} d f l k = record {
-      walked = λ m n b s.
-          on-test (λ x. StandsBody m n ws at left x → Walked (externalBody p x) at (length (bodyWords x n)) to (bodyWords (outBody keys p x) n) before r after) s z d f
-          (λ x y c h. compared l 2 x y (bodyWords c n) (bodyWords (outBody keys p c) n) (h .words) (k .walked m n c (in-same h)))
-          (λ x y c h. compared l 3 x y (bodyWords c n) (bodyWords (outBody keys p c) n) (h .words) (k .walked m n c (in-different h))) s;
+      walked = λ scope n b s.
+          on-test (λ x. StandsBody scope n ws at left x → Walked (externalBody p x) at (length (bodyWords x n)) to (bodyWords (outBody keys p x) n) before r after) s z d f
+          (λ x y c h. compared l 2 x y (bodyWords c n) (bodyWords (outBody keys p c) n) (h .words) (k .walked scope n c (in-same h)))
+          (λ x y c h. compared l 3 x y (bodyWords c n) (bodyWords (outBody keys p c) n) (h .words) (k .walked scope n c (in-different h))) s;
     }

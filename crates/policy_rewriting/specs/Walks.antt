@@ -5,6 +5,7 @@ use mathlib.Core.Bool.{Bool, true, false}
 use mathlib.Core.List.{List}
 use lib.ListN.{length}
 use Rattle.rows.specs.Name.{Polarity, plus, minus}
+use Rattle.policy.specs.OwnKey.{Scope}
 use Rattle.policy.specs.Leaf.{Leaf, leafWords}
 use Rattle.policy.specs.Syntax.{Expr, Body}
 use Rattle.policy.specs.Words.{exprWords, bodyWords}
@@ -62,13 +63,13 @@ pub record Walked (external : Bool) (at size to : ℕ) (ws before : List ℕ) (r
 
 module _ (keys : Bool) (p : Polarity) (ws : List ℕ) (at : ℕ) where
   pub record WalkedLeaf (to : ℕ) (before : List ℕ) (r : Vetted) (after : List ℕ) : Type 0 where
-    pub walked : (m n : ℕ) (x : Leaf) → StandsLeaf m n ws at x → Walked (externalLeaf p x) at (length (leafWords x)) to (leafWords (outLeaf keys p x)) before r after
+    pub walked : (scope : Scope) (n : ℕ) (x : Leaf) → StandsLeaf scope n ws at x → Walked (externalLeaf p x) at (length (leafWords x)) to (leafWords (outLeaf keys p x)) before r after
 
   pub record WalkedExpr (to : ℕ) (before : List ℕ) (r : Vetted) (after : List ℕ) : Type 0 where
-    pub walked : (m n : ℕ) (e : Expr) → Stands m n ws at e → Walked (externalExpr p e) at (length (exprWords e n)) to (exprWords (out keys p e) n) before r after
+    pub walked : (scope : Scope) (n : ℕ) (e : Expr) → Stands scope n ws at e → Walked (externalExpr p e) at (length (exprWords e n)) to (exprWords (out keys p e) n) before r after
 
   pub record WalkedBody (left to : ℕ) (before : List ℕ) (r : Vetted) (after : List ℕ) : Type 0 where
-    pub walked : (m n : ℕ) (b : Body) → StandsBody m n ws at left b →
+    pub walked : (scope : Scope) (n : ℕ) (b : Body) → StandsBody scope n ws at left b →
         Walked (externalBody p b) at (length (bodyWords b n)) to (bodyWords (outBody keys p b) n) before r after
 
 -- nothing wraps: two words for each that is left

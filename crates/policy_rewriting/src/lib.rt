@@ -11,7 +11,7 @@ ghost use Rattle.policy.specs.External.{moved, entryFour, rewriteInto, areaAfte
 ghost use Rattle.policy_table.specs.Entries.{entryPlace};
 ghost use Rattle.policy_rewriting.specs.Laid.{laid};
 ghost use Rattle.policy_rewriting.specs.Walks.{signOf};
-ghost use Rattle.policy_rewriting.specs.Output.{Passing, SayKeys, mayBe, AskDefinition, WalkedDefinition, headerOf, SayWords, rewrittenFor};
+ghost use Rattle.policy_rewriting.specs.Output.{Passing, SayKeys, mayBe, AskDefinition, WalkedDefinition, headerOf, SayWords, rewrittenFor, SayReply};
 use judging::PolicyJudgement;
 use judging::judge_policy;
 use laying::lay;
@@ -122,10 +122,10 @@ fn measure(policy: &[u32], keys: bool, area: &mut [u32]) -> Measured
     lay_output(policy, keys, &mut area[0..0])
 }
 
-// A policy that passed 1 to 7: 15, then 11, then the output.
+// A policy that passed 20 and 1 to 7: 15, then 11, then the output.
 fn rewrite_passed(policy: &[u32], area: &mut [u32]) -> Rewritten
     requires { ⌜ Passing (now policy) ⌝ }
-    ensures { λ r. ⌜ (r ≡ rewrittenFor (rewriteInto (now (policy .entry)) (now (area .entry)))) × (now (area .exit) ≡ areaAfter (rewriteInto (now (policy .entry)) (now (area .entry))) (now (area .entry))) ⌝ }
+    ensures { λ r. ⌜ SayReply (now (policy .entry)) (now (area .entry)) r (now (area .exit)) ⌝ }
 {
     let keys = lists_keys(policy);
     let Measured::Words(length) = measure(policy, keys, area) else {
@@ -151,10 +151,11 @@ fn rewrite_passed(policy: &[u32], area: &mut [u32]) -> Rewritten
 }
 
 // The external policy rewritten into the area, and the output's length; or the refusal, which leaves the area as it was.
-pub fn rewrite(policy: &[u32], area: &mut [u32]) -> Rewritten
-    ensures { λ r. ⌜ (r ≡ rewrittenFor (rewriteInto (now (policy .entry)) (now (area .entry)))) × (now (area .exit) ≡ areaAfter (rewriteInto (now (policy .entry)) (now (area .entry))) (now (area .entry))) ⌝ }
+// Our key goes to the checks alone: our own names are guarded as all others are.
+pub fn rewrite(policy: &[u32], our_key: u32, area: &mut [u32]) -> Rewritten
+    ensures { λ r. ⌜ (r ≡ rewrittenFor (rewriteInto «our_key» (now (policy .entry)) (now (area .entry)))) × (now (area .exit) ≡ areaAfter (rewriteInto «our_key» (now (policy .entry)) (now (area .entry))) (now (area .entry))) ⌝ }
 {
-    let judged = judge_policy(policy);
+    let judged = judge_policy(policy, our_key);
     let judgement = judged.judgement;
     match judgement {
         PolicyJudgement::Refused { number, part } => Rewritten::Refused { number, part },
