@@ -15,6 +15,7 @@ use Rattle.rows.proofs.Put.{put-length, part-before}
 use Rattle.sets.proofs.Front.{SameFront, set-same}
 use Rattle.sets.proofs.Standing.{Stands, set-fits, copied-stands}
 use Rattle.read_values.specs.Answers.{Filled}
+use Rattle.policy_table.specs.Entries.{entryPlace}
 use Rattle.read_values.specs.From.{From, withSets, setsIn, sets, SoundFrom}
 use Rattle.read_values.proofs.Answers.{stands-filled}
 use Rattle.read_steps.proofs.Areas.{filled-same}
@@ -68,7 +69,7 @@ sets-same (suc m) a b h =
 abbrev withSet : From → List ℕ → From
 withSet f set = withSets f (put (642 * f .known) (setWords (setIn set)) (f .defs)) (f .known + 1)
 
-module _ {f : From} (sound : SoundFrom f) {set : List ℕ} (filled : Filled set) (room : 642 * f .known + 642 ≤ length (f .defs)) where
+module _ {f : From} (sound : SoundFrom f) {set : List ℕ} (filled : Filled set) (room : 642 * f .known + 642 ≤ length (f .defs)) (table : entryPlace (f .known) + 4 ≤ length (f .policy)) where
   fits : 642 * f .known + length (setWords (setIn set)) ≤ length (f .defs)
   fits = omega (arith, set-fits set (filled .sound))
 
@@ -92,7 +93,7 @@ module _ {f : From} (sound : SoundFrom f) {set : List ℕ} (filled : Filled set)
       (drop-at (take at (f .defs)) _ at (length-take-le at (f .defs) (omega arith)) ∙ ap (λ (z : List ℕ). ws ++ z) (sym (drop-drop (length ws) at (f .defs))))
 
   pub sound-more : SoundFrom (withSet f set)
-  sound-more = record { store = sound .store; links = sound .links; defs = λ d h. lies-at d (eq-or-lt-of-le (omega arith)) }
+  sound-more = record { store = sound .store; links = sound .links; table = omega arith; defs = λ d h. lies-at d (eq-or-lt-of-le (omega arith)) }
     where
       lies-at : (d : ℕ) → (d ≡ f .known) ⊎ (d < f .known) → Filled (drop (setRoom * d) (withSet f set .defs))
       lies-at d (inl e) = subst (λ (j : ℕ). Filled (drop (642 * j) (withSet f set .defs))) (sym e) (stands-filled stands)

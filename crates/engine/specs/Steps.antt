@@ -19,20 +19,20 @@ use Rattle.engine.specs.declared.answering.Progress.{Progress}
 use Rattle.engine.specs.declared.answering.Progress.the-variants.{Done, Refused}
 
 -- a policy and a query that passed, sound stores, and areas that are long enough
-pub record Ready (s : Stores) (policy query definitions scratch : List ℕ) : Type 0 where
+pub record Ready (s : Stores) (ours : ℕ) (policy query definitions scratch : List ℕ) : Type 0 where
   pub es : List Expr
   pub q : Expr
   pub v : Verdict
-  pub passes : check policy query ≡ checked es q v
+  pub passes : check ours policy query ≡ checked es q v
   pub sound : soundStore (s .store) ≡ true
   pub links : soundLinks (s .links) ≡ true
   pub room : definitionRoom ≤ length definitions
   pub space : scratchRoom ≤ length scratch
 
 -- that with some query, and the policy has so many definitions
-pub record ReadyPolicy (s : Stores) (policy : List ℕ) (count : ℕ) (definitions scratch : List ℕ) : Type 0 where
+pub record ReadyPolicy (s : Stores) (ours : ℕ) (policy : List ℕ) (count : ℕ) (definitions scratch : List ℕ) : Type 0 where
   pub query : List ℕ
-  pub ready : Ready s policy query definitions scratch
+  pub ready : Ready s ours policy query definitions scratch
   pub counted : getD policy 1 0 ≡ count
 
 -- what is left of the reading when the definitions are read, or a refusal was met
@@ -46,10 +46,10 @@ SoundIf f (Done draws) = SoundFrom f
 SoundIf f (Refused number part) = Unit {0}
 
 -- all definitions are read, or a refusal was met in one of them, whichever query they are read for
-pub record ReadDefinitions (f : From) (policy : List ℕ) (r : Progress) : Type 0 where
+pub record ReadDefinitions (f : From) (r : Progress) : Type 0 where
   pub sound : SoundIf f r
-  pub means : (query : List ℕ) (es : List Expr) (q : Expr) (v : Verdict) → check policy query ≡ checked es q v → readFrom (f .format) (names f) es q v [] 0 ≡ leftToRead f q v r
+  pub means : (query : List ℕ) (es : List Expr) (q : Expr) (v : Verdict) → check (f .ourKey) (f .policy) query ≡ checked es q v → readFrom (f .format) (names f) es q v [] 0 ≡ leftToRead f q v r
 
-pub record ReadAll (format : ℕ) (held : Evidence) (policy query : List ℕ) (verdict : ℕ) (area : List ℕ) (r : Reply) (now : List ℕ) : Type 0 where
-  pub means : (es : List Expr) (q : Expr) (v : Verdict) → check policy query ≡ checked es q v → verdictWord v ≡ verdict →
+pub record ReadAll (ours format : ℕ) (held : Evidence) (policy query : List ℕ) (verdict : ℕ) (area : List ℕ) (r : Reply) (now : List ℕ) : Type 0 where
+  pub means : (es : List Expr) (q : Expr) (v : Verdict) → check ours policy query ≡ checked es q v → verdictWord v ≡ verdict →
       (r ≡ replyFor (readFrom format held es q v [] 0)) × (now ≡ answerArea (readFrom format held es q v [] 0) area)

@@ -39,13 +39,14 @@ fn read_definitions(
     count: usize,
     minute: u32,
     format: u32,
+    our_key: u32,
     store: &[u32],
     links: &[u32],
     definitions: &mut [u32],
     scratch: &mut [u32],
 ) -> Progress
-    requires { ⌜ ReadyPolicy (record { store = now store; links = now links }) (now policy) count (now definitions) (now scratch) ⌝ }
-    ensures { λ r. ⌜ ReadDefinitions (record { minute = minute; format = format; stores = record { store = now (store .entry); links = now (links .entry) }; defs = now (definitions .exit); known = count }) (now (policy .entry)) r ⌝ }
+    requires { ⌜ ReadyPolicy (record { store = now store; links = now links }) «our_key» (now policy) count (now definitions) (now scratch) ⌝ }
+    ensures { λ r. ⌜ ReadDefinitions (record { minute = minute; format = format; ourKey = «our_key»; policy = now (policy .entry); stores = record { store = now (store .entry); links = now (links .entry) }; defs = now (definitions .exit); known = count }) r ⌝ }
 {
     let mut draws: u32 = 0;
     let mut d: usize = 0;
@@ -54,9 +55,19 @@ fn read_definitions(
         let given = Given {
             minute,
             format,
+            our_key,
             known: d,
         };
-        match read_whole(words, draws, scratch, given, store, definitions, links) {
+        match read_whole(
+            words,
+            draws,
+            scratch,
+            given,
+            store,
+            definitions,
+            links,
+            policy,
+        ) {
             Read::Refused(number) => {
                 let part = d as u32;
                 return Progress::Refused { number, part };
@@ -75,6 +86,7 @@ fn read_definitions(
 pub fn read_all(
     policy: &[u32],
     query: &[u32],
+    our_key: u32,
     minute: u32,
     store: &[u32],
     links: &[u32],
@@ -83,8 +95,8 @@ pub fn read_all(
     definitions: &mut [u32],
     scratch: &mut [u32],
 ) -> Reply
-    requires { ⌜ Ready (record { store = now store; links = now links }) (now policy) (now query) (now definitions) (now scratch) × (setRoom ≤ length (now answer)) ⌝ }
-    ensures { λ r. ⌜ ReadAll (formatOf (now (policy .entry))) (namesHeld (heldIn minute (record { store = now (store .entry); links = now (links .entry) }))) (now (policy .entry)) (now (query .entry)) verdict (now (answer .entry)) r (now (answer .exit)) ⌝ }
+    requires { ⌜ Ready (record { store = now store; links = now links }) «our_key» (now policy) (now query) (now definitions) (now scratch) × (setRoom ≤ length (now answer)) ⌝ }
+    ensures { λ r. ⌜ ReadAll «our_key» (formatOf (now (policy .entry))) (namesHeld (heldIn minute (record { store = now (store .entry); links = now (links .entry) }))) (now (policy .entry)) (now (query .entry)) verdict (now (answer .entry)) r (now (answer .exit)) ⌝ }
 {
     let format = policy[0];
     let count = policy[1] as usize;
@@ -93,6 +105,7 @@ pub fn read_all(
         count,
         minute,
         format,
+        our_key,
         store,
         links,
         definitions,
@@ -103,9 +116,19 @@ pub fn read_all(
             let given = Given {
                 minute,
                 format,
+                our_key,
                 known: count,
             };
-            match read_whole(query, before, scratch, given, store, definitions, links) {
+            match read_whole(
+                query,
+                before,
+                scratch,
+                given,
+                store,
+                definitions,
+                links,
+                policy,
+            ) {
                 Read::Refused(number) => Reply::Refused {
                     number,
                     part: QUERY_PART,

@@ -1,4 +1,4 @@
-// The query call: a policy and a query judged, then read from the certificates that hold at a minute, along links.
+// The query call: a policy and a query judged under our key, then read from the certificates that hold at a minute, along links.
 mod answering;
 
 ghost use mathlib.Core.Path.{_≡_};
@@ -40,10 +40,12 @@ fn roomy(answer: usize, definitions: usize, scratch: usize) -> bool
     SCRATCH_ROOM <= scratch
 }
 
-// Answers a query under a policy from the certificates in the store that hold at the minute, and the links: 1 to 7, 8, 18, 11, then what is met while reading.
+// Answers a query under a policy from the certificates in the store that hold at the minute, and the links: 20, 1 to 7, 8, 18, 11, then
+// what is met while reading.
 pub fn query<'a>(
     policy: &'a [u32],
     query: &'a [u32],
+    our_key: u32,
     minute: u32,
     store: &[u32],
     links: &[u32],
@@ -52,10 +54,10 @@ pub fn query<'a>(
     scratch: &mut [u32],
 ) -> Reply
     ensures { λ r. ⌜ Replied (record { store = now (store .entry); links = now (links .entry) })
-        (lent (now (policy .entry)) (now (query .entry)) minute (now (answer .entry)) (now (definitions .entry)) (now (scratch .entry)))
+        (lent (now (policy .entry)) (now (query .entry)) «our_key» minute (now (answer .entry)) (now (definitions .entry)) (now (scratch .entry)))
         r (now (answer .exit)) (record { store = now (store .exit); links = now (links .exit) }) ⌝ }
 {
-    match judge(policy, query) {
+    match judge(policy, query, our_key) {
         Judgement::Refused { number, part } => Reply::Refused { number, part },
         Judgement::Verdict(verdict) => {
             if !sound_store(store) {
@@ -79,6 +81,7 @@ pub fn query<'a>(
             read_all(
                 policy,
                 query,
+                our_key,
                 minute,
                 store,
                 links,

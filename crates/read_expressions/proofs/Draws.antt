@@ -16,7 +16,7 @@ use Rattle.meaning.specs.Reading.{Result, done, refused, drawable, drawEach, re
 use Rattle.read_values.specs.Values.{Bound, Unchanged}
 use Rattle.policy_places.specs.Places.{StandsPattern, StandsBody, SomeExpr, SomePattern, PastExpr, PastPattern}
 use Rattle.read_values.specs.Answers.{Filled, IfDone}
-use Rattle.read_values.specs.From.{From}
+use Rattle.read_values.specs.From.{From, scopeIn}
 use Rattle.read_steps.specs.Areas.{Gathering, Kept}
 use Rattle.read_steps.specs.Steps.{rowsReadIs, SayDrawn}
 use Rattle.read_expressions.specs.Readers.{gathering, MeansBody, MeansEach, AskExpr, AskBody, AskDraw, AskEach, SayExpr, SayBody, SayDraw, SayEach}
@@ -110,8 +110,8 @@ module _ {f : From} {ws : List ℕ} {pattern rest left : ℕ} {first : List ℕ}
       scope-is : {p : List Slot} → StandsPattern count ws pattern p → scope ≡ count + fresh p
       scope-is s = drawn-scope since e s
 
-      body-here : {p : List Slot} {b : Body} → StandsPattern count ws pattern p → StandsBody (f .known) (count + fresh p) ws rest left b → StandsBody (f .known) scope ws rest left b
-      body-here {p} {b} s w = subst (λ (n : ℕ). StandsBody (f .known) n ws rest left b) (sym (scope-is s)) w
+      body-here : {p : List Slot} {b : Body} → StandsPattern count ws pattern p → StandsBody (scopeIn f) (count + fresh p) ws rest left b → StandsBody (scopeIn f) scope ws rest left b
+      body-here {p} {b} s w = subst (λ (n : ℕ). StandsBody (scopeIn f) n ws rest left b) (sym (scope-is s)) w
 
       pub each-body : AskBody f ws rest left later scope now (free + 642)
       each-body =
@@ -180,7 +180,7 @@ complement (suc n) xs h = refl
 
 module _ {f : From} {ws : List ℕ} {at left : ℕ} {values : List ℕ} {count : ℕ} {area : List ℕ} {free : ℕ} (q : AskDraw f ws at left values count area free) where
   pub some-operand : SomeExpr ws at
-  some-operand = record { m = f .known; n = count; e = q .e; here = q .here .operand }
+  some-operand = record { scope = scopeIn f; n = count; e = q .e; here = q .here .operand }
 
   pub draw-room : free + 642 ≤ length area
   draw-room = let r = q .room in omega (arith, some-room (q .e))

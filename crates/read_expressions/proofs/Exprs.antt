@@ -18,7 +18,7 @@ use Rattle.meaning.specs.Reading.{Result, done, refused, Reading, after, small,
 use Rattle.read_values.specs.Values.{Unchanged}
 use Rattle.policy_places.specs.Places.{Stands, SomeRow, SomeExpr, PastExpr}
 use Rattle.read_values.specs.Answers.{Filled, Empty, setReadIs, testedIs, IfDone}
-use Rattle.read_values.specs.From.{From}
+use Rattle.read_values.specs.From.{From, scopeIn}
 use Rattle.read_steps.specs.Areas.{Gathering}
 use Rattle.read_steps.specs.Steps.{rowsReadIs, SayCombined, SayHas}
 use Rattle.read_leaves.specs.Leaves.{AskLeaf, SayLeaf, SayLeafHas}
@@ -77,25 +77,25 @@ some-room (comprehension b) = omega arith
 
 module _ {f : From} {ws : List ℕ} {at : ℕ} {values : List ℕ} {count : ℕ} {area : List ℕ} (q : AskExpr f ws at values count area) where
   pub some-expr : SomeExpr ws at
-  some-expr = record { m = f .known; n = count; e = q .e; here = q .here }
+  some-expr = record { scope = scopeIn f; n = count; e = q .e; here = q .here }
 
   pub long : 642 ≤ length area
   long = let r = q .room in omega (arith, some-room (q .e))
 
   pub ask-leaf : isNode (getD ws at 0) ≡ false → AskLeaf f ws at values count
   ask-leaf c =
-      on-leaf (λ e. Stands (f .known) count ws at e → AskLeaf f ws at values count) (q .here) c (λ x s. record { sound = q .sound; bound = q .bound; x = x; here = in-leaf s }) (q .here)
+      on-leaf (λ e. Stands (scopeIn f) count ws at e → AskLeaf f ws at values count) (q .here) c (λ x s. record { sound = q .sound; bound = q .bound; x = x; here = in-leaf s }) (q .here)
 
   ask-union : getD ws at 0 ≡ 5 → AskTwo f ws (at + 1) values count area
   unfolding roomOf
   ask-union c =
-      on-union (λ e. Stands (f .known) count ws at e → 642 * roomOf e ≤ length area → AskTwo f ws (at + 1) values count area) (q .here) c
+      on-union (λ e. Stands (scopeIn f) count ws at e → 642 * roomOf e ≤ length area → AskTwo f ws (at + 1) values count area) (q .here) c
       (λ a b s r. record { sound = q .sound; bound = q .bound; x = a; y = b; here = in-union s; left = omega arith; right = omega arith }) (q .here) (q .room)
 
   ask-difference : getD ws at 0 ≡ 6 → AskTwo f ws (at + 1) values count area
   unfolding roomOf
   ask-difference c =
-      on-difference (λ e. Stands (f .known) count ws at e → 642 * roomOf e ≤ length area → AskTwo f ws (at + 1) values count area) (q .here) c
+      on-difference (λ e. Stands (scopeIn f) count ws at e → 642 * roomOf e ≤ length area → AskTwo f ws (at + 1) values count area) (q .here) c
       (λ a b s r. record { sound = q .sound; bound = q .bound; x = a; y = b; here = in-difference s; left = omega arith; right = omega arith }) (q .here) (q .room)
 
   pub ask-two : (getD ws at 0 ≡ 5) ⊎ (getD ws at 0 ≡ 6) → AskTwo f ws (at + 1) values count area
@@ -105,7 +105,7 @@ module _ {f : From} {ws : List ℕ} {at : ℕ} {values : List ℕ} {count : ℕ}
   pub ask-guards : {clear : List ℕ} → getD ws at 0 ≡ 7 → length clear ≡ length area → Empty 0 clear → AskBody f ws (at + 2) (getD ws (at + 1) 0) values count clear 642
   unfolding roomOf
   ask-guards {clear} c l m =
-      on-comprehension (λ e. Stands (f .known) count ws at e → 642 * roomOf e ≤ length area → AskBody f ws (at + 2) (getD ws (at + 1) 0) values count clear 642) (q .here) c
+      on-comprehension (λ e. Stands (scopeIn f) count ws at e → 642 * roomOf e ≤ length area → AskBody f ws (at + 2) (getD ws (at + 1) 0) values count clear 642) (q .here) c
       (λ b s r. record {
         ask = record { sound = q .sound; bound = q .bound; gathering = record { filled = m .filled; finite = m .is }; behind = omega arith };
         b = b;
@@ -123,7 +123,7 @@ module _ {f : From} {ws : List ℕ} {at : ℕ} {values : List ℕ} {count k : �
     filled = g .filled;
     means = record {
       says = λ e s.
-          on-leaf (λ x. Stands (f .known) count ws at x → reading f x (take count values) k ≡ setReadIs r area) s c (λ x h. g .means count x (in-leaf h)) s;
+          on-leaf (λ x. Stands (scopeIn f) count ws at x → reading f x (take count values) k ≡ setReadIs r area) s c (λ x h. g .means count x (in-leaf h)) s;
     };
   }
 
@@ -135,7 +135,7 @@ module _ {f : From} {ws : List ℕ} {at : ℕ} {values : List ℕ} {count k : �
       filled = g .filled;
       means = record {
         says = λ e s.
-            on-union (λ x. Stands (f .known) count ws at x → reading f x (take count values) k ≡ setReadIs r area) s c (λ x y h. g .means .says x y (in-union h)) s;
+            on-union (λ x. Stands (scopeIn f) count ws at x → reading f x (take count values) k ≡ setReadIs r area) s c (λ x y h. g .means .says x y (in-union h)) s;
       };
     }
 
@@ -146,7 +146,7 @@ module _ {f : From} {ws : List ℕ} {at : ℕ} {values : List ℕ} {count k : �
       filled = g .filled;
       means = record {
         says = λ e s.
-            on-difference (λ x. Stands (f .known) count ws at x → reading f x (take count values) k ≡ setReadIs r area) s c (λ x y h. g .means .says x y (in-difference h)) s;
+            on-difference (λ x. Stands (scopeIn f) count ws at x → reading f x (take count values) k ≡ setReadIs r area) s c (λ x y h. g .means .says x y (in-difference h)) s;
       };
     }
 
@@ -174,7 +174,7 @@ say-comprehension {f} {ws} {at} {values} {count} {k} {clear} {r} {later} {area} 
   filled = gathered-filled r area (g .gathering);
   means = record {
     says = λ e s.
-        on-comprehension (λ x. Stands (f .known) count ws at x → reading f x (take count values) k ≡ setReadIs r area) s c
+        on-comprehension (λ x. Stands (scopeIn f) count ws at x → reading f x (take count values) k ≡ setReadIs r area) s c
         (λ b h.
         let b-is : gathering f b (take count values) [] k ≡ rowsReadIs r area =
         ap (λ (xs : List Row). gathering f b (take count values) xs k) (sym (m .none)) ∙ g .means .says b (in-comprehension h .body) in
@@ -186,7 +186,7 @@ say-comprehension {f} {ws} {at} {values} {count} {k} {clear} {r} {later} {area} 
 
 module _ {f : From} {ws : List ℕ} {at : ℕ} {values : List ℕ} {count : ℕ} {area : List ℕ} (q : AskTwo f ws at values count area) where
   pub some-left : SomeExpr ws at
-  some-left = record { m = f .known; n = count; e = q .x; here = q .here .left }
+  some-left = record { scope = scopeIn f; n = count; e = q .x; here = q .here .left }
 
   pub ask-left : AskExpr f ws at values count area
   ask-left = record { sound = q .sound; bound = q .bound; e = q .x; here = q .here .left; room = q .left }
@@ -199,7 +199,7 @@ module _ {f : From} {ws : List ℕ} {at : ℕ} {values : List ℕ} {count : ℕ}
       record { sound = q .sound; bound = bound-after u (q .bound); e = q .y; here = right-here p (q .here); room = omega arith }
 
   pub right-after : {second : ℕ} → PastExpr ws at second → at < second
-  right-after p = let e = p .past (f .known) count (q .x) (q .here .left) in omega (arith, expr-some (q .x) count)
+  right-after p = let e = p .past (scopeIn f) count (q .x) (q .here .left) in omega (arith, expr-some (q .x) count)
 
 module _ {f : From} {ws : List ℕ} {at : ℕ} {values : List ℕ} {count k : ℕ} where
   pub say-left-refused : {minus : Bool} {r : Read} {left later area : List ℕ} {n : ℕ} → SayExpr f ws at values count k r later left → r ≡ Refused n → SayTwo f ws at minus values count k (Refused n) later area
@@ -252,7 +252,7 @@ module _ {f : From} {ws : List ℕ} {at row : ℕ} {values : List ℕ} {count k 
     unchanged = unchanged-self;
     means = record {
       says = λ e s ts t.
-          on-leaf (λ x. Stands (f .known) count ws at x → after (reading f x (take count values) k) (λ y i. done (has y (rowOf (take count values) ts)) i) ≡ testedIs r) s c
+          on-leaf (λ x. Stands (scopeIn f) count ws at x → after (reading f x (take count values) k) (λ y i. done (has y (rowOf (take count values) ts)) i) ≡ testedIs r) s c
           (λ x h. g .means count x (in-leaf h) count ts t) s;
     };
   }

@@ -21,7 +21,7 @@ use Rattle.meaning.proofs.Steps.{either}
 use Rattle.read_values.specs.Values.{Unchanged, passing}
 use Rattle.policy_places.specs.Places.{StandsBody, StandsAbsent, SomeRow, SomeExpr, SomeGuard, PastRow, PastExpr, IsGuard}
 use Rattle.read_values.specs.Answers.{Filled, testedIs, IfDone}
-use Rattle.read_values.specs.From.{From}
+use Rattle.read_values.specs.From.{From, scopeIn}
 use Rattle.read_steps.specs.Areas.{Gathering, Kept}
 use Rattle.read_steps.specs.Steps.{rowsReadIs, SayHead}
 use Rattle.read_expressions.specs.Room.{roomOf, bodyRoom}
@@ -65,15 +65,15 @@ Compares g = (tagOf the-type g ≡ 1) ⊎ (tagOf the-type g ≡ 2)
 -- the guards after a comparison, and what is gathered: it goes by whether the comparison passes
 record Compared (f : From) (ws : List ℕ) (at left count : ℕ) (vs : Values) (g : Held-guard.Guard) (b : Body) : Type 0 where
   pub rest : Body
-  pub here : StandsBody (f .known) count ws (at + 5) (left - 1) rest
+  pub here : StandsBody (scopeIn f) count ws (at + 5) (left - 1) rest
   pub room : bodyRoom rest ≡ bodyRoom b
   pub gathers : (found : List Row) (k : ℕ) → gathering f b vs found k ≡ either (passing vs g) (gathering f rest vs found) (λ j. done found j) k
 
 module _ (f : From) {ws : List ℕ} {at left count : ℕ} (vs : Values) (z : left ≡ 0 → ⊥) where
-  compared-same : {x y : Held-term.Term} → IsGuard ws at (Same x y) → {b : Body} → StandsBody (f .known) count ws at left b → Compared f ws at left count vs (Same x y) b
+  compared-same : {x y : Held-term.Term} → IsGuard ws at (Same x y) → {b : Body} → StandsBody (scopeIn f) count ws at left b → Compared f ws at left count vs (Same x y) b
   unfolding read roomOf
   compared-same {x} {y} i s =
-      on-same (λ c. StandsBody (f .known) count ws at left c → Compared f ws at left count vs (Same x y) c) s z x y i
+      on-same (λ c. StandsBody (scopeIn f) count ws at left c → Compared f ws at left count vs (Same x y) c) s z x y i
       (λ c t. record {
         rest = c;
         here = in-same t;
@@ -82,10 +82,10 @@ module _ (f : From) {ws : List ℕ} {at left count : ℕ} (vs : Values) (z : lef
             ap (λ (o : Bool). either o (gathering f c vs found) (λ j. done found j) k) (same-passes vs refl refl refl);
       }) s
 
-  compared-different : {x y : Held-term.Term} → IsGuard ws at (Different x y) → {b : Body} → StandsBody (f .known) count ws at left b → Compared f ws at left count vs (Different x y) b
+  compared-different : {x y : Held-term.Term} → IsGuard ws at (Different x y) → {b : Body} → StandsBody (scopeIn f) count ws at left b → Compared f ws at left count vs (Different x y) b
   unfolding read roomOf
   compared-different {x} {y} i s =
-      on-different (λ c. StandsBody (f .known) count ws at left c → Compared f ws at left count vs (Different x y) c) s z x y i
+      on-different (λ c. StandsBody (scopeIn f) count ws at left c → Compared f ws at left count vs (Different x y) c) s z x y i
       (λ c t. record {
         rest = c;
         here = in-different t;
@@ -95,7 +95,7 @@ module _ (f : From) {ws : List ℕ} {at left count : ℕ} (vs : Values) (z : lef
             ∙ ap (λ (o : Bool). either o (gathering f c vs found) (λ j. done found j) k) (different-passes vs refl refl refl);
       }) s
 
-  compared : {g : Held-guard.Guard} → Compares g → IsGuard ws at g → {b : Body} → StandsBody (f .known) count ws at left b → Compared f ws at left count vs g b
+  compared : {g : Held-guard.Guard} → Compares g → IsGuard ws at g → {b : Body} → StandsBody (scopeIn f) count ws at left b → Compared f ws at left count vs g b
   compared {g = Draw} (inl e) i s = absurd (omega (arith, e))
   compared {g = Draw} (inr e) i s = absurd (omega (arith, e))
   compared {g = Same x y} t i s = compared-same i s
@@ -107,7 +107,7 @@ module _ (f : From) {ws : List ℕ} {at left count : ℕ} (vs : Values) (z : lef
 
 module _ {f : From} {ws : List ℕ} {at left : ℕ} {values : List ℕ} {count : ℕ} {area : List ℕ} {free : ℕ} (q : AskBody f ws at left values count area free) where
   pub some-head : left ≡ 0 → SomeRow ws at
-  some-head z = on-head (λ b. StandsBody (f .known) count ws at left b → SomeRow ws at) (q .here) z (λ ts s. record { n = count; ts = ts; here = in-head s }) (q .here)
+  some-head z = on-head (λ b. StandsBody (scopeIn f) count ws at left b → SomeRow ws at) (q .here) z (λ ts s. record { n = count; ts = ts; here = in-head s }) (q .here)
 
   module _ (z : left ≡ 0 → ⊥) where
     pub some-guard : SomeGuard ws at
@@ -119,13 +119,13 @@ module _ {f : From} {ws : List ℕ} {at left : ℕ} {values : List ℕ} {count :
     pub ask-draw : IsGuard ws at Draw → AskDraw f ws (at + 1) (left - 1) values count area free
     unfolding roomOf
     ask-draw i =
-        on-draw (λ b. StandsBody (f .known) count ws at left b → free + 642 * bodyRoom b ≤ length area → AskDraw f ws (at + 1) (left - 1) values count area free) (q .here) z i
+        on-draw (λ b. StandsBody (scopeIn f) count ws at left b → free + 642 * bodyRoom b ≤ length area → AskDraw f ws (at + 1) (left - 1) values count area free) (q .here) z i
         (λ e p b s r. record { ask = q .ask; e = e; p = p; b = b; here = in-draw s; room = omega arith; rest = omega arith }) (q .here) (q .room)
 
     pub ask-absent : IsGuard ws at Absent → AskAbsent f ws (at + 1) (left - 1) values count area free
     unfolding roomOf
     ask-absent i =
-        on-absent (λ b. StandsBody (f .known) count ws at left b → free + 642 * bodyRoom b ≤ length area → AskAbsent f ws (at + 1) (left - 1) values count area free) (q .here) z i
+        on-absent (λ b. StandsBody (scopeIn f) count ws at left b → free + 642 * bodyRoom b ≤ length area → AskAbsent f ws (at + 1) (left - 1) values count area free) (q .here) z i
         (λ r e b s h. record { ask = q .ask; r = r; e = e; b = b; here = in-absent s; room = omega arith; rest = omega arith }) (q .here) (q .room)
 
     pub ask-compared : {g : Held-guard.Guard} → Compares g → IsGuard ws at g → AskBody f ws (at + 5) (left - 1) values count area free
@@ -146,7 +146,7 @@ module _ {f : From} {ws : List ℕ} {at left : ℕ} {values : List ℕ} {count k
     kept = g .kept free;
     means = record {
       says = λ b s.
-          on-head (λ x. StandsBody (f .known) count ws at left x → gathering f x (take count values) (rowsIn entry) k ≡ rowsReadIs r area) s z (λ ts h. g .means count ts (in-head h)) s;
+          on-head (λ x. StandsBody (scopeIn f) count ws at left x → gathering f x (take count values) (rowsIn entry) k ≡ rowsReadIs r area) s z (λ ts h. g .means count ts (in-head h)) s;
     };
   }
 
@@ -158,7 +158,7 @@ module _ {f : From} {ws : List ℕ} {at left : ℕ} {values : List ℕ} {count k
       kept = g .kept;
       means = record {
         says = λ b s.
-            on-draw (λ x. StandsBody (f .known) count ws at left x → gathering f x (take count values) (rowsIn entry) k ≡ rowsReadIs r area) s z i (λ e p c h. g .means .says e p c (in-draw h)) s;
+            on-draw (λ x. StandsBody (scopeIn f) count ws at left x → gathering f x (take count values) (rowsIn entry) k ≡ rowsReadIs r area) s z i (λ e p c h. g .means .says e p c (in-draw h)) s;
       };
     }
 
@@ -169,7 +169,7 @@ module _ {f : From} {ws : List ℕ} {at left : ℕ} {values : List ℕ} {count k
       kept = g .kept;
       means = record {
         says = λ b s.
-            on-absent (λ x. StandsBody (f .known) count ws at left x → gathering f x (take count values) (rowsIn entry) k ≡ rowsReadIs r area) s z i (λ t e c h. g .means .says t e c (in-absent h)) s;
+            on-absent (λ x. StandsBody (scopeIn f) count ws at left x → gathering f x (take count values) (rowsIn entry) k ≡ rowsReadIs r area) s z i (λ t e c h. g .means .says t e c (in-absent h)) s;
       };
     }
 
@@ -243,7 +243,7 @@ module _ {f : From} {ws : List ℕ} {at left : ℕ} {values : List ℕ} {count :
 
   module _ {operand : ℕ} (past : PastRow ws at operand) where
     pub some-tested : SomeExpr ws operand
-    some-tested = record { m = f .known; n = count; e = q .e; here = operand-here past (q .here) }
+    some-tested = record { scope = scopeIn f; n = count; e = q .e; here = operand-here past (q .here) }
 
     pub operand-later : length ws - operand < length ws - at
     operand-later =
@@ -282,7 +282,7 @@ after-has (refused n) h g = refl
 
 module _ {f : From} {ws : List ℕ} {at left : ℕ} {values : List ℕ} {count k free : ℕ} {area : List ℕ} {operand : ℕ} (past : PastRow ws at operand) {o : Tested.Tested} {later : List ℕ}
     (said : SayExprHas f ws operand at values count k o later) {back : List ℕ} (b : Back area free back) where
-  answered : {x : Tested.Tested} → o ≡ x → {t : List Term} {e : Expr} {c : Body} → StandsAbsent (f .known) count ws at left t e c →
+  answered : {x : Tested.Tested} → o ≡ x → {t : List Term} {e : Expr} {c : Body} → StandsAbsent (scopeIn f) count ws at left t e c →
       gathering f (absent t e c) (take count values) (rowsIn area) k
       ≡ after (testedIs x) (λ y. either y (λ i. done (rowsIn area) i) (gathering f c (take count values) (rowsIn area)))
   unfolding read

@@ -7,7 +7,7 @@ use Rattle.policy.specs.Syntax.{Expr, leaf, union, difference, comprehension, B
 use Rattle.policy.specs.WellFormed.{depth, bodyDepth, drawCount, bodyDraws}
 use Rattle.policy.proofs.Decoding.{parse-fits}
 use Rattle.policy_places.proofs.Places.{whole-here}
-use Rattle.read_values.specs.From.{From}
+use Rattle.read_values.specs.From.{From, scopeIn}
 use Rattle.read_expressions.specs.Room.{roomOf, bodyRoom, Theorem}
 use Rattle.read_expressions.specs.Readers.{AskExpr, SayExpr, AskWhole, SayWhole}
 use Rattle.read_values.specs.declared.Read.{Read}
@@ -31,7 +31,7 @@ mutual
 
 -- 15 levels and eight draws: 23 sets at most
 pub room-enough : Theorem
-room-enough known e w =
+room-enough scope e w =
     let shallow = w .shallow in
     let draws = w .draws in
     omega (arith, room-needed e)
@@ -44,9 +44,9 @@ module _ {f : From} {ws : List ℕ} {values area : List ℕ} where
         sound = q .sound;
         bound = record { scope = omega arith; long = long };
         e = q .e;
-        here = whole-here (f .known) ws (q .e) (q .parses);
-        room = omega (arith, room-enough (f .known) (q .e) (parse-fits (f .known) ws (q .e) (q .parses)));
+        here = whole-here (scopeIn f) ws (q .e) (q .parses);
+        room = omega (arith, room-enough (scopeIn f) (q .e) (parse-fits (scopeIn f) ws (q .e) (q .parses)));
       }
 
   pub say-whole : {k : ℕ} {r : Read} {later : List ℕ} → SayExpr f ws 0 values 0 k r later area → SayWhole f ws k r area
-  say-whole s = record { filled = s .filled; means = λ e h. s .means .says e (whole-here (f .known) ws e h) }
+  say-whole s = record { filled = s .filled; means = λ e h. s .means .says e (whole-here (scopeIn f) ws e h) }

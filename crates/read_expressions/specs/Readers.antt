@@ -16,7 +16,7 @@ use Rattle.meaning.specs.Reading.{Result, done, Reading, after, small, drawEach
 use Rattle.read_values.specs.Values.{Bound, Unchanged}
 use Rattle.policy_places.specs.Places.{Stands, StandsRow, StandsPattern, StandsBody, StandsTwo, StandsDraw, StandsAbsent}
 use Rattle.read_values.specs.Answers.{Filled, setReadIs, testedIs, IfDone}
-use Rattle.read_values.specs.From.{From, names, sets, SoundFrom}
+use Rattle.read_values.specs.From.{From, scopeIn, names, sets, SoundFrom}
 use Rattle.read_steps.specs.Areas.{Gathering, Kept}
 use Rattle.read_steps.specs.Steps.{rowsReadIs}
 use Rattle.read_expressions.specs.Room.{roomOf, bodyRoom}
@@ -32,13 +32,13 @@ gathering f = gather (f .format) (names f) (sets f)
 -- ---- an expression: whichever stands there is read as `a`, k draws being made before
 
 pub record Means (f : From) (ws : List ℕ) (at count : ℕ) (vs : Values) (k : ℕ) (a : Result RowSet) : Type 0 where
-  pub says : (e : Expr) → Stands (f .known) count ws at e → reading f e vs k ≡ a
+  pub says : (e : Expr) → Stands (scopeIn f) count ws at e → reading f e vs k ≡ a
 
 pub record AskExpr (f : From) (ws : List ℕ) (at : ℕ) (values : List ℕ) (count : ℕ) (area : List ℕ) : Type 0 where
   pub sound : SoundFrom f
   pub bound : Bound values count
   pub e : Expr
-  pub here : Stands (f .known) count ws at e
+  pub here : Stands (scopeIn f) count ws at e
   pub room : setRoom * roomOf e ≤ length area
 
 pub record SayExpr (f : From) (ws : List ℕ) (at : ℕ) (values : List ℕ) (count k : ℕ) (r : Read) (valuesNow area : List ℕ) : Type 0 where
@@ -48,7 +48,7 @@ pub record SayExpr (f : From) (ws : List ℕ) (at : ℕ) (values : List ℕ) (co
 
 -- whether the row that the terms written at `row` come to belongs to it
 pub record MeansHas (f : From) (ws : List ℕ) (at row count : ℕ) (vs : Values) (k : ℕ) (a : Result Bool) : Type 0 where
-  pub says : (e : Expr) → Stands (f .known) count ws at e → (ts : List Term) → StandsRow count ws row ts →
+  pub says : (e : Expr) → Stands (scopeIn f) count ws at e → (ts : List Term) → StandsRow count ws row ts →
       after (reading f e vs k) (λ s i. done (has s (rowOf vs ts)) i) ≡ a
 
 pub record AskHas (f : From) (ws : List ℕ) (at row : ℕ) (values : List ℕ) (count : ℕ) (area : List ℕ) : Type 0 where
@@ -63,7 +63,7 @@ pub record SayExprHas (f : From) (ws : List ℕ) (at row : ℕ) (values : List �
 -- ---- a union or a difference
 
 pub record MeansTwo (f : From) (ws : List ℕ) (at : ℕ) (minus : Bool) (count : ℕ) (vs : Values) (k : ℕ) (a : Result RowSet) : Type 0 where
-  pub says : (x y : Expr) → StandsTwo (f .known) count ws at x y →
+  pub says : (x y : Expr) → StandsTwo (scopeIn f) count ws at x y →
       after (reading f x vs k) (λ s i. after (reading f y vs i) (λ t. small (combined minus s t))) ≡ a
 
 pub record AskTwo (f : From) (ws : List ℕ) (at : ℕ) (values : List ℕ) (count : ℕ) (area : List ℕ) : Type 0 where
@@ -71,7 +71,7 @@ pub record AskTwo (f : From) (ws : List ℕ) (at : ℕ) (values : List ℕ) (cou
   pub bound : Bound values count
   pub x : Expr
   pub y : Expr
-  pub here : StandsTwo (f .known) count ws at x y
+  pub here : StandsTwo (scopeIn f) count ws at x y
   pub left : setRoom * roomOf x ≤ length area
   pub right : setRoom + setRoom * roomOf y ≤ length area
 
@@ -83,18 +83,18 @@ pub record SayTwo (f : From) (ws : List ℕ) (at : ℕ) (minus : Bool) (values :
 -- ---- the guards of a comprehension: with the rows found so far they gather `a`. From `free` on the area is theirs
 
 pub record MeansBody (f : From) (ws : List ℕ) (at left count : ℕ) (vs : Values) (k : ℕ) (found : List Row) (a : Result (List Row)) : Type 0 where
-  pub says : (b : Body) → StandsBody (f .known) count ws at left b → gathering f b vs found k ≡ a
+  pub says : (b : Body) → StandsBody (scopeIn f) count ws at left b → gathering f b vs found k ≡ a
 
 pub record MeansDraw (f : From) (ws : List ℕ) (at left count : ℕ) (vs : Values) (k : ℕ) (found : List Row) (a : Result (List Row)) : Type 0 where
-  pub says : (e : Expr) (p : List Slot) (b : Body) → StandsDraw (f .known) count ws at left e p b → gathering f (draw e p b) vs found k ≡ a
+  pub says : (e : Expr) (p : List Slot) (b : Body) → StandsDraw (scopeIn f) count ws at left e p b → gathering f (draw e p b) vs found k ≡ a
 
 -- the rows xs, drawn in turn: the pattern stands at one place, the guards that follow at another
 pub record MeansEach (f : From) (ws : List ℕ) (pattern rest left count : ℕ) (vs : Values) (xs : List Row) (k : ℕ) (found : List Row) (a : Result (List Row)) : Type 0 where
-  pub says : (p : List Slot) (b : Body) → StandsPattern count ws pattern p → StandsBody (f .known) (count + fresh p) ws rest left b →
+  pub says : (p : List Slot) (b : Body) → StandsPattern count ws pattern p → StandsBody (scopeIn f) (count + fresh p) ws rest left b →
       drawEach (f .format) (gathering f b) p vs xs found k ≡ a
 
 pub record MeansAbsent (f : From) (ws : List ℕ) (at left count : ℕ) (vs : Values) (k : ℕ) (found : List Row) (a : Result (List Row)) : Type 0 where
-  pub says : (r : List Term) (e : Expr) (b : Body) → StandsAbsent (f .known) count ws at left r e b → gathering f (absent r e b) vs found k ≡ a
+  pub says : (r : List Term) (e : Expr) (b : Body) → StandsAbsent (scopeIn f) count ws at left r e b → gathering f (absent r e b) vs found k ≡ a
 
 -- what all four ask
 pub record AskGuards (f : From) (values : List ℕ) (count : ℕ) (area : List ℕ) (free : ℕ) : Type 0 where
@@ -106,7 +106,7 @@ pub record AskGuards (f : From) (values : List ℕ) (count : ℕ) (area : List �
 pub record AskBody (f : From) (ws : List ℕ) (at left : ℕ) (values : List ℕ) (count : ℕ) (area : List ℕ) (free : ℕ) : Type 0 where
   pub ask : AskGuards f values count area free
   pub b : Body
-  pub here : StandsBody (f .known) count ws at left b
+  pub here : StandsBody (scopeIn f) count ws at left b
   pub room : free + setRoom * bodyRoom b ≤ length area
 
 pub record AskDraw (f : From) (ws : List ℕ) (at left : ℕ) (values : List ℕ) (count : ℕ) (area : List ℕ) (free : ℕ) : Type 0 where
@@ -114,7 +114,7 @@ pub record AskDraw (f : From) (ws : List ℕ) (at left : ℕ) (values : List ℕ
   pub e : Expr
   pub p : List Slot
   pub b : Body
-  pub here : StandsDraw (f .known) count ws at left e p b
+  pub here : StandsDraw (scopeIn f) count ws at left e p b
   pub room : free + setRoom * roomOf e ≤ length area
   pub rest : free + setRoom + setRoom * bodyRoom b ≤ length area
 
@@ -124,7 +124,7 @@ pub record AskEach (f : From) (ws : List ℕ) (pattern rest left : ℕ) (values 
   pub p : List Slot
   pub b : Body
   pub slots : StandsPattern count ws pattern p
-  pub here : StandsBody (f .known) (count + fresh p) ws rest left b
+  pub here : StandsBody (scopeIn f) (count + fresh p) ws rest left b
   pub drawn : Filled (drop free area)
   pub room : free + setRoom + setRoom * bodyRoom b ≤ length area
 
@@ -133,7 +133,7 @@ pub record AskAbsent (f : From) (ws : List ℕ) (at left : ℕ) (values : List �
   pub r : List Term
   pub e : Expr
   pub b : Body
-  pub here : StandsAbsent (f .known) count ws at left r e b
+  pub here : StandsAbsent (scopeIn f) count ws at left r e b
   pub room : free + setRoom * roomOf e ≤ length area
   pub rest : free + setRoom * bodyRoom b ≤ length area
 
@@ -162,9 +162,9 @@ SayAbsent f ws at left values count k free entry = SayGuards (MeansAbsent f ws a
 pub record AskWhole (f : From) (ws area : List ℕ) : Type 0 where
   pub sound : SoundFrom f
   pub e : Expr
-  pub parses : parse (f .known) ws ≡ parsed e
+  pub parses : parse (scopeIn f) ws ≡ parsed e
   pub long : 16384 ≤ length area
 
 pub record SayWhole (f : From) (ws : List ℕ) (k : ℕ) (r : Read) (area : List ℕ) : Type 0 where
   pub filled : IfDone Filled r area
-  pub means : (e : Expr) → parse (f .known) ws ≡ parsed e → reading f e [] k ≡ setReadIs r area
+  pub means : (e : Expr) → parse (scopeIn f) ws ≡ parsed e → reading f e [] k ≡ setReadIs r area

@@ -1,6 +1,7 @@
 -- How many sets of the lent area a reading takes.
 use Prim.Native.Nat.{ℕ, suc, _*_, _≤_, max}
 use Rattle.rows.specs.Layout.{setRoom}
+use Rattle.policy.specs.OwnKey.{Scope}
 use Rattle.policy.specs.Syntax.{Expr, leaf, union, difference, comprehension, Body, head, draw, same, different, absent}
 use Rattle.policy.specs.WellFormed.{WellFormed}
 
@@ -23,4 +24,4 @@ unfoldable mutual
 
 -- 11, "scratch area under 16,384": every well-formed definition and query is read within it, and nothing is tested while reading
 abbrev pub Theorem : Type 0
-Theorem = (known : ℕ) (e : Expr) → WellFormed known e → setRoom * roomOf e ≤ 16384
+Theorem = (scope : Scope) (e : Expr) → WellFormed scope e → setRoom * roomOf e ≤ 16384

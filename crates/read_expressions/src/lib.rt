@@ -40,9 +40,10 @@ fn read_expr(
     store: &[u32],
     defs: &[u32],
     links: &[u32],
+    policy: &[u32],
 ) -> Read
-    requires { ⌜ AskExpr (from given (now store) (now defs) (now links)) (now words) at (now values) count (now area) ⌝ }
-    ensures { λ r. ⌜ SayExpr (from given (now (store .entry)) (now (defs .entry)) (now (links .entry))) (now (words .entry)) at (now (values .entry)) count draws r (now (values .exit)) (now (area .exit)) ⌝ }
+    requires { ⌜ AskExpr (from given (now store) (now defs) (now links) (now policy)) (now words) at (now values) count (now area) ⌝ }
+    ensures { λ r. ⌜ SayExpr (from given (now (store .entry)) (now (defs .entry)) (now (links .entry)) (now (policy .entry))) (now (words .entry)) at (now (values .entry)) count draws r (now (values .exit)) (now (area .exit)) ⌝ }
 {
     let code = words[at];
     if !is_node(code) {
@@ -57,6 +58,7 @@ fn read_expr(
             store,
             defs,
             links,
+            policy,
         );
     }
     if code == CODE_COMPREHENSION {
@@ -73,6 +75,7 @@ fn read_expr(
             store,
             defs,
             links,
+            policy,
             left,
             SET_ROOM,
         );
@@ -88,6 +91,7 @@ fn read_expr(
         store,
         defs,
         links,
+        policy,
         code == CODE_DIFFERENCE,
     )
 }
@@ -104,10 +108,11 @@ fn read_two(
     store: &[u32],
     defs: &[u32],
     links: &[u32],
+    policy: &[u32],
     minus: bool,
 ) -> Read
-    requires { ⌜ AskTwo (from given (now store) (now defs) (now links)) (now words) at (now values) count (now area) ⌝ }
-    ensures { λ r. ⌜ SayTwo (from given (now (store .entry)) (now (defs .entry)) (now (links .entry))) (now (words .entry)) at minus (now (values .entry)) count draws r (now (values .exit)) (now (area .exit)) ⌝ }
+    requires { ⌜ AskTwo (from given (now store) (now defs) (now links) (now policy)) (now words) at (now values) count (now area) ⌝ }
+    ensures { λ r. ⌜ SayTwo (from given (now (store .entry)) (now (defs .entry)) (now (links .entry)) (now (policy .entry))) (now (words .entry)) at minus (now (values .entry)) count draws r (now (values .exit)) (now (area .exit)) ⌝ }
 {
     match read_expr(
         words,
@@ -120,6 +125,7 @@ fn read_two(
         store,
         defs,
         links,
+        policy,
     ) {
         Read::Refused(n) => Read::Refused(n),
         Read::Done(used) => {
@@ -135,6 +141,7 @@ fn read_two(
                 store,
                 defs,
                 links,
+                policy,
             ) {
                 Read::Refused(n) => Read::Refused(n),
                 Read::Done(total) => combine_parts(minus, total, area),
@@ -155,11 +162,12 @@ fn read_guards(
     store: &[u32],
     defs: &[u32],
     links: &[u32],
+    policy: &[u32],
     left: u32,
     free: usize,
 ) -> Read
-    requires { ⌜ AskBody (from given (now store) (now defs) (now links)) (now words) at left (now values) count (now area) free ⌝ }
-    ensures { λ r. ⌜ SayBody (from given (now (store .entry)) (now (defs .entry)) (now (links .entry))) (now (words .entry)) at left (now (values .entry)) count draws free (now (area .entry)) r (now (values .exit)) (now (area .exit)) ⌝ }
+    requires { ⌜ AskBody (from given (now store) (now defs) (now links) (now policy)) (now words) at left (now values) count (now area) free ⌝ }
+    ensures { λ r. ⌜ SayBody (from given (now (store .entry)) (now (defs .entry)) (now (links .entry)) (now (policy .entry))) (now (words .entry)) at left (now (values .entry)) count draws free (now (area .entry)) r (now (values .exit)) (now (area .exit)) ⌝ }
 {
     if left == 0 {
         // Named, so that the answer's two parts are not written apart where calls write theirs, and read back together: see `row_of`.
@@ -179,6 +187,7 @@ fn read_guards(
             store,
             defs,
             links,
+            policy,
             left - 1,
             free,
         ),
@@ -195,6 +204,7 @@ fn read_guards(
                     store,
                     defs,
                     links,
+                    policy,
                     left - 1,
                     free,
                 );
@@ -212,6 +222,7 @@ fn read_guards(
             store,
             defs,
             links,
+            policy,
             left - 1,
             free,
         ),
@@ -230,11 +241,12 @@ fn read_draw(
     store: &[u32],
     defs: &[u32],
     links: &[u32],
+    policy: &[u32],
     left: u32,
     free: usize,
 ) -> Read
-    requires { ⌜ AskDraw (from given (now store) (now defs) (now links)) (now words) at left (now values) count (now area) free ⌝ }
-    ensures { λ r. ⌜ SayDraw (from given (now (store .entry)) (now (defs .entry)) (now (links .entry))) (now (words .entry)) at left (now (values .entry)) count draws free (now (area .entry)) r (now (values .exit)) (now (area .exit)) ⌝ }
+    requires { ⌜ AskDraw (from given (now store) (now defs) (now links) (now policy)) (now words) at left (now values) count (now area) free ⌝ }
+    ensures { λ r. ⌜ SayDraw (from given (now (store .entry)) (now (defs .entry)) (now (links .entry)) (now (policy .entry))) (now (words .entry)) at left (now (values .entry)) count draws free (now (area .entry)) r (now (values .exit)) (now (area .exit)) ⌝ }
 {
     match read_expr(
         words,
@@ -247,6 +259,7 @@ fn read_draw(
         store,
         defs,
         links,
+        policy,
     ) {
         Read::Refused(n) => Read::Refused(n),
         Read::Done(before) => {
@@ -267,6 +280,7 @@ fn read_draw(
                 store,
                 defs,
                 links,
+                policy,
                 left,
                 free,
                 pattern,
@@ -287,12 +301,13 @@ fn draw_rows(
     store: &[u32],
     defs: &[u32],
     links: &[u32],
+    policy: &[u32],
     left: u32,
     free: usize,
     pattern: usize,
 ) -> Read
-    requires { ⌜ AskEach (from given (now store) (now defs) (now links)) (now words) pattern at left (now values) count (now area) free ⌝ }
-    ensures { λ r. ⌜ SayEach (from given (now (store .entry)) (now (defs .entry)) (now (links .entry))) (now (words .entry)) pattern at left (now (values .entry)) count draws free (now (area .entry)) r (now (values .exit)) (now (area .exit)) ⌝ }
+    requires { ⌜ AskEach (from given (now store) (now defs) (now links) (now policy)) (now words) pattern at left (now values) count (now area) free ⌝ }
+    ensures { λ r. ⌜ SayEach (from given (now (store .entry)) (now (defs .entry)) (now (links .entry)) (now (policy .entry))) (now (words .entry)) pattern at left (now (values .entry)) count draws free (now (area .entry)) r (now (values .exit)) (now (area .exit)) ⌝ }
 {
     let listed = wide(area[free + 1]);
     let mut used = draws;
@@ -328,6 +343,7 @@ fn draw_rows(
                     store,
                     defs,
                     links,
+                    policy,
                     left,
                     free + SET_ROOM,
                 ) {
@@ -356,11 +372,12 @@ fn read_absent(
     store: &[u32],
     defs: &[u32],
     links: &[u32],
+    policy: &[u32],
     left: u32,
     free: usize,
 ) -> Read
-    requires { ⌜ AskAbsent (from given (now store) (now defs) (now links)) (now words) at left (now values) count (now area) free ⌝ }
-    ensures { λ r. ⌜ SayAbsent (from given (now (store .entry)) (now (defs .entry)) (now (links .entry))) (now (words .entry)) at left (now (values .entry)) count draws free (now (area .entry)) r (now (values .exit)) (now (area .exit)) ⌝ }
+    requires { ⌜ AskAbsent (from given (now store) (now defs) (now links) (now policy)) (now words) at left (now values) count (now area) free ⌝ }
+    ensures { λ r. ⌜ SayAbsent (from given (now (store .entry)) (now (defs .entry)) (now (links .entry)) (now (policy .entry))) (now (words .entry)) at left (now (values .entry)) count draws free (now (area .entry)) r (now (values .exit)) (now (area .exit)) ⌝ }
 {
     let operand = skip_row(words, at);
     match expr_has(
@@ -374,6 +391,7 @@ fn read_absent(
         store,
         defs,
         links,
+        policy,
         at,
     ) {
         Tested::Refused(n) => Read::Refused(n),
@@ -391,6 +409,7 @@ fn read_absent(
                 store,
                 defs,
                 links,
+                policy,
                 left,
                 free,
             )
@@ -410,10 +429,11 @@ fn expr_has(
     store: &[u32],
     defs: &[u32],
     links: &[u32],
+    policy: &[u32],
     row: usize,
 ) -> Tested
-    requires { ⌜ AskHas (from given (now store) (now defs) (now links)) (now words) at row (now values) count (now area) ⌝ }
-    ensures { λ r. ⌜ SayExprHas (from given (now (store .entry)) (now (defs .entry)) (now (links .entry))) (now (words .entry)) at row (now (values .entry)) count draws r (now (values .exit)) ⌝ }
+    requires { ⌜ AskHas (from given (now store) (now defs) (now links) (now policy)) (now words) at row (now values) count (now area) ⌝ }
+    ensures { λ r. ⌜ SayExprHas (from given (now (store .entry)) (now (defs .entry)) (now (links .entry)) (now (policy .entry))) (now (words .entry)) at row (now (values .entry)) count draws r (now (values .exit)) ⌝ }
 {
     let code = words[at];
     if !is_node(code) {
@@ -428,6 +448,7 @@ fn expr_has(
             store,
             defs,
             links,
+            policy,
             row,
         );
     }
@@ -442,6 +463,7 @@ fn expr_has(
         store,
         defs,
         links,
+        policy,
     ) {
         Read::Refused(n) => Tested::Refused(n),
         Read::Done(used) => told(has_row(words, row, values, count, area), used),
@@ -457,9 +479,10 @@ pub fn read_whole(
     store: &[u32],
     defs: &[u32],
     links: &[u32],
+    policy: &[u32],
 ) -> Read
-    requires { ⌜ AskWhole (from given (now store) (now defs) (now links)) (now words) (now area) ⌝ }
-    ensures { λ r. ⌜ SayWhole (from given (now (store .entry)) (now (defs .entry)) (now (links .entry))) (now (words .entry)) draws r (now (area .exit)) ⌝ }
+    requires { ⌜ AskWhole (from given (now store) (now defs) (now links) (now policy)) (now words) (now area) ⌝ }
+    ensures { λ r. ⌜ SayWhole (from given (now (store .entry)) (now (defs .entry)) (now (links .entry)) (now (policy .entry))) (now (words .entry)) draws r (now (area .exit)) ⌝ }
 {
     let mut values = [0u32; 16];
     read_expr(
@@ -473,5 +496,6 @@ pub fn read_whole(
         store,
         defs,
         links,
+        policy,
     )
 }

@@ -1,3 +1,4 @@
+pub mod Listed
 pub mod ByCode
 pub mod Literals
 pub mod Vetted

@@ -50,7 +50,7 @@ unfolding polarityWord
 polarity-small plus = omega arith
 polarity-small minus = omega arith
 
-polarity-back : (p : Polarity) → p ≡ polarityOf (polarityWord p)
+pub polarity-back : (p : Polarity) → p ≡ polarityOf (polarityWord p)
 unfolding polarityWord polarityOf
 polarity-back plus = refl
 polarity-back minus = refl
@@ -80,13 +80,13 @@ module _ {form : ℕ} {listed : Bool} where
 -- ---- a name where it stands
 
 -- the issuer, the name and the polarity where they stand
-record NameHere (ws : List ℕ) (at : ℕ) (t : Term) (m : ℕ) (p : Polarity) : Type 0 where
-  issuer : At ws at (termWords t)
-  name : getD ws (at + 2) 0 ≡ m
-  polarity : getD ws (at + 3) 0 ≡ polarityWord p
-  inside : at + 4 ≤ length ws
+pub record NameHere (ws : List ℕ) (at : ℕ) (t : Term) (m : ℕ) (p : Polarity) : Type 0 where
+  pub issuer : At ws at (termWords t)
+  pub name : getD ws (at + 2) 0 ≡ m
+  pub polarity : getD ws (at + 3) 0 ≡ polarityWord p
+  pub inside : at + 4 ≤ length ws
 
-name-here : {ws : List ℕ} {at : ℕ} (t : Term) (m : ℕ) (p : Polarity) → At ws at (nameWords t m p) → NameHere ws at t m p
+pub name-here : {ws : List ℕ} {at : ℕ} (t : Term) (m : ℕ) (p : Polarity) → At ws at (nameWords t m p) → NameHere ws at t m p
 name-here {ws} {at} t m p h =
     let l = term-length t in
     let e : at + length (termWords t) ≡ at + 2 = omega arith in

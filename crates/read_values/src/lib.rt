@@ -17,10 +17,11 @@ use refusals::TOO_MANY_DRAWS;
 use row_words::row::Row;
 use row_words::wide;
 
-// The numbers that stay the same through a reading: the minute that is asked about, the policy's format, and how many definitions were read before.
+// The numbers that stay the same through a reading: the minute that is asked about, the policy's format, our key, and how many definitions were read before.
 pub struct Given {
     pub minute: u32,
     pub format: u32,
+    pub our_key: u32,
     pub known: usize,
 }
 

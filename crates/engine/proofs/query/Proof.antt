@@ -36,13 +36,13 @@ linked r = r .before .before
 abbrev call : tie.After-judge → Call
 call j =
     let a = start j .args in
-    lent (a .policy .now) (a .query .now) (a .minute) (a .answer .now) (a .definitions .now) (a .scratch .now)
+    lent (a .policy .now) (a .query .now) (a .our-key) (a .minute) (a .answer .now) (a .definitions .now) (a .scratch .now)
 
 abbrev held : tie.After-judge → Stores
 held j = record { store = start j .args .store .now; links = start j .args .links .now }
 
-has-verdict : (v : tie.After-verdict) → (w : Verdict) × (judge (call (judged v) .policy) (call (judged v) .query) ≡ verdict w) × (verdictWord w ≡ v .verdict .given .0 .0)
-has-verdict v = verdict-in (judge (call (judged v) .policy) (call (judged v) .query)) (v .verdict .given .0 .0) (sym (v .verdict .given .1) ∙ judged v .judge .ensures)
+has-verdict : (v : tie.After-verdict) → (w : Verdict) × (judge (call (judged v) .ourKey) (call (judged v) .policy) (call (judged v) .query) ≡ verdict w) × (verdictWord w ≡ v .verdict .given .0 .0)
+has-verdict v = verdict-in (judge (call (judged v) .ourKey) (call (judged v) .policy) (call (judged v) .query)) (v .verdict .given .0 .0) (sym (v .verdict .given .1) ∙ judged v .judge .ensures)
 
 sound : (e : tie.Else1) → soundStore (held (judged (passed e)) .store) ≡ true
 sound e = sym (e .before .sound-store .ensures) ∙ not-false _ (e .if1 .left)
@@ -91,7 +91,7 @@ returns-4 c =
     let j = n .before .before in
     let number = n .number .given .0 .0 in
     let part = n .number .given .0 .1 .0 in
-    refuses-judged (held j) _ number part (refusal-in (judge (call j .policy) (call j .query)) number part (sym (n .number .given .1) ∙ j .judge .ensures))
+    refuses-judged (held j) _ number part (refusal-in (judge (call j .ourKey) (call j .policy) (call j .query)) number part (sym (n .number .given .1) ∙ j .judge .ensures))
 
 returns-5 : tie.Need-returns-5
 returns-5 c =
@@ -101,7 +101,7 @@ returns-5 c =
     let e = tested l in
     let v = passed e in
     let t = has-verdict v in
-    replies (held (judged v)) _ (t .0) (t .1) (sound e) (links-sound l) (room r) (v .verdict .given .0 .0) (t .2) (read .read-all .result) (read .read-all .last .1 .1 .1 .1 .1 .1 .0) (read .read-all .ensures)
+    replies (held (judged v)) _ (t .0) (t .1) (sound e) (links-sound l) (room r) (v .verdict .given .0 .0) (t .2) (read .read-all .result) (read .read-all .last .1 .1 .1 .1 .1 .1 .1 .0) (read .read-all .ensures)
 
 pub query-spec : {M : Type 1} → statement M
 query-spec =

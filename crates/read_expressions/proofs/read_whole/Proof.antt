@@ -6,7 +6,7 @@ use Rattle.read_expressions.proofs.read_whole.Statement.{statement}
 use Rattle.read_expressions.proofs.read_whole.Tie as tie
 
 read-expr-requires : tie.Need-read-expr-requires
-read-expr-requires c κs = ask-whole (omega arith) (c .before .before .before .before .before .before .before .pre)
+read-expr-requires c κs = ask-whole (omega arith) (c .before .before .before .before .before .before .before .before .pre)
 
 returns : tie.Need-returns
 returns c = say-whole (c .before .before .read-expr .ensures)

@@ -1,43 +1,25 @@
 -- The part begins where the definition's set does.
-use Prim.Native.Nat.{_*_}
+use Prim.Native.Nat.{_+_, _*_, _≤_}
 use native.Mathlib.Omega.{arith}
-use lib.ListN.{length-drop}
+use lib.ListN.{length, length-drop}
 use Rattle.read_leaves.proofs.ByCode.{definition-part}
 use borrow.Author.Needs.{needs}
 use Rattle.read_leaves.proofs.definition_set.Statement.{statement}
 use Rattle.read_leaves.proofs.definition_set.Tie as tie
 
-sub-result : tie.Need-sub-result
-sub-result c =
-    let start = c .before .before in
-    let number = c .wide .ensures in
-    let long = start .pre .1 (start .args .d) (start .pre .0) .long in
-    let part = length-drop (642 * start .args .d) (start .args .defs .now) in
-    let fits = start .good in
+inside : (c : tie.Start) → 642 * c .args .d + 642 ≤ length (c .args .defs .now)
+inside c =
+    let long = c .pre .1 (c .args .d) (c .pre .0) .long in
+    let part = length-drop (642 * c .args .d) (c .args .defs .now) in
     omega arith
-
-part-result-start : tie.Need-part-result-start
-part-result-start c =
-    let start = c .before .before in
-    let number = c .wide .ensures in
-    let long = start .pre .1 (start .args .d) (start .pre .0) .long in
-    let part = length-drop (642 * start .args .d) (start .args .defs .now) in
-    let fits = start .good in
-    omega arith
-
-returns : tie.Need-returns
-returns c =
-    let start = c .before .before .before in
-    definition-part (start .args .defs .now) (c .before .wide .ensures) (start .pre .0) (start .pre .1 (start .args .d) (start .pre .0))
 
 pub definition-set-spec : {M : Type 1} → statement M
 definition-set-spec =
     tie.close
     (tie.spec
-    (λ c κs. search needs)
+    (λ c. let i = inside c in let fits = c .good in omega arith)
+    (λ c. let i = inside c in let fits = c .good in omega arith)
+    (λ c. let i = inside c in let fits = c .good in omega arith)
+    (λ c. let i = inside c in let fits = c .good in omega arith)
     (λ c. search needs)
-    (λ c. search needs)
-    sub-result
-    part-result-start
-    (λ c. search needs)
-    returns)
+    (λ c. definition-part (c .before .args .defs .now) (c .before .pre .0) (c .before .pre .1 (c .before .args .d) (c .before .pre .0))))

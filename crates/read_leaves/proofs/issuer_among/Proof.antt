@@ -5,7 +5,9 @@ use Rattle.read_leaves.proofs.issuer_among.Statement.{statement}
 use Rattle.read_leaves.proofs.issuer_among.Tie as tie
 
 returns : tie.Need-returns
-returns c = looks-up _ (c .before .before .before .before .term-at .ensures) (c .before .before .before .value-of .ensures) (c .before .definition-set .ensures) (c .has .ensures)
+returns c =
+    let read = c .before .before .before .before in
+    looks-up _ (read .before .term-at .ensures) (read .value-of .ensures) (c .before .before .wide .ensures) (c .before .definition-set .ensures) (c .has .ensures)
 
 pub issuer-among-spec : {M : Type 1} → statement M
 issuer-among-spec =
@@ -17,6 +19,7 @@ issuer-among-spec =
     (λ c. search needs)
     (λ c. search needs)
     (λ c. search needs)
+    (λ c κs. search needs)
     (λ c κs. search needs)
     (λ c κs. search needs)
     returns)

@@ -1,14 +1,14 @@
 -- A name's row and a definition's are looked up where they stand; of any other leaf the set is read.
 use native.Mathlib.Omega.{arith}
-use Rattle.policy_places.proofs.Leaves.{inside-leaf, definition-inside, some-name}
-use Rattle.read_leaves.proofs.ByCode.{some-here, known-here, leaf-name-has, leaf-definition-has, leaf-filled, leaf-refused, leaf-looked}
+use Rattle.policy_places.proofs.Leaves.{inside-leaf, definition-inside}
+use Rattle.read_leaves.proofs.ByCode.{some-here, known-here, ask-listed, leaf-name-has, leaf-definition-has, leaf-filled, leaf-refused, leaf-looked}
 use borrow.Author.Needs.{needs}
 use Rattle.read_leaves.proofs.leaf_has.Statement.{statement}
 use Rattle.read_leaves.proofs.leaf_has.Tie as tie
 
--- where all that is lent is known
-abbrev entry : tie.After-shared-slice-known4 → tie.Start
-entry k = k .before .before .before .before .before
+-- where it starts, from where all that is lent is known
+abbrev entry : tie.After-shared-slice-known5 → tie.Start
+entry k = k .before .before .before .before .before .before
 
 mul-code : tie.Need-mul-code
 mul-code c =
@@ -24,37 +24,37 @@ shared-slice-read-code c =
     let fits = start .good in
     omega arith
 
-add-name-has : tie.Need-add-name-has
-add-name-has c =
+add-listed-has : tie.Need-add-listed-has
+add-listed-has c =
     let start = entry (c .before .before) in
     let i = inside-leaf (start .pre .0 .here) in
     let fits = start .good in
     omega arith
 
-name-has-requires : tie.Need-name-has-requires
-name-has-requires c κs =
+listed-has-requires : tie.Need-listed-has-requires
+listed-has-requires c κs =
     let start = entry (c .before .before .before) in
-    (start .pre .0 .bound, some-name (some-here (start .pre .0)) (c .before .if1 .taken), start .pre .2, start .pre .0 .sound .store, start .pre .0 .sound .links, start .pre .1)
+    (ask-listed (start .pre .0) (c .before .if1 .taken), start .pre .1, start .pre .2)
 
 returns : tie.Need-returns
-returns c = leaf-name-has _ (c .before .before .before .before .if1 .taken) (c .before .before .name-has .ensures)
+returns c = leaf-name-has _ (c .before .before .before .before .if1 .taken) (c .before .before .listed-has .ensures)
 
-add-definition-set : tie.Need-add-definition-set
-add-definition-set c =
+add-wide : tie.Need-add-wide
+add-wide c =
     let start = entry (c .before .before .before) in
     let i = definition-inside (some-here (start .pre .0)) (c .if2 .taken) in
     let fits = start .good in
     omega arith
 
-mul-definition-set : tie.Need-mul-definition-set
-mul-definition-set c =
+mul-wide : tie.Need-mul-wide
+mul-wide c =
     let start = entry (c .before .before .before) in
     let i = definition-inside (some-here (start .pre .0)) (c .if2 .taken) in
     let fits = start .good in
     omega arith
 
-shared-slice-read-definition-set : tie.Need-shared-slice-read-definition-set
-shared-slice-read-definition-set c =
+shared-slice-read-wide : tie.Need-shared-slice-read-wide
+shared-slice-read-wide c =
     let start = entry (c .before .before .before .before) in
     let i = definition-inside (some-here (start .pre .0)) (c .before .if2 .taken) in
     let fits = start .good in
@@ -62,11 +62,15 @@ shared-slice-read-definition-set c =
 
 definition-set-requires : tie.Need-definition-set-requires
 definition-set-requires c κs =
-    let start = entry (c .before .before .before .before) in
-    (known-here (start .pre .0) (c .before .if2 .taken), start .pre .0 .sound .defs)
+    let start = entry (c .before .before .before .before .before) in
+    let known = known-here (start .pre .0) (c .before .before .if2 .taken) in
+    let number = c .wide .ensures in
+    (omega arith, start .pre .0 .sound .defs)
 
 returns-2 : tie.Need-returns-2
-returns-2 c = leaf-definition-has _ (c .before .before .before .before .if2 .taken) (c .before .before .definition-set .ensures) (c .before .has-row .ensures) (c .told .ensures)
+returns-2 c =
+    let read = c .before .before in
+    leaf-definition-has _ (read .before .before .before .if2 .taken) (read .before .wide .ensures) (read .definition-set .ensures) (c .before .has-row .ensures) (c .told .ensures)
 
 has-row-requires-2 : tie.Need-has-row-requires-2
 has-row-requires-2 c κs =
@@ -85,13 +89,14 @@ leaf-has-spec =
     (tie.spec
     mul-code
     shared-slice-read-code
-    add-name-has
-    name-has-requires
+    add-listed-has
+    listed-has-requires
     (λ c. search needs)
     returns
-    add-definition-set
-    mul-definition-set
-    shared-slice-read-definition-set
+    add-wide
+    mul-wide
+    shared-slice-read-wide
+    (λ c κs. search needs)
     definition-set-requires
     (λ c κs. search needs)
     (λ c κs. search needs)

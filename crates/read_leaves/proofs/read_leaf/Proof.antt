@@ -1,14 +1,14 @@
 -- Each leaf by its code; what it says goes to whichever leaf has that code.
 use native.Mathlib.Omega.{arith}
-use Rattle.policy_places.proofs.Leaves.{inside-leaf, definition-inside, some-name, some-rows}
-use Rattle.read_leaves.proofs.ByCode.{some-here, known-here, literal-code, leaf-rows, leaf-name, leaf-definition}
+use Rattle.policy_places.proofs.Leaves.{inside-leaf, definition-inside, some-rows}
+use Rattle.read_leaves.proofs.ByCode.{some-here, known-here, ask-listed, literal-code, leaf-rows, leaf-name, leaf-definition}
 use borrow.Author.Needs.{needs}
 use Rattle.read_leaves.proofs.read_leaf.Statement.{statement}
 use Rattle.read_leaves.proofs.read_leaf.Tie as tie
 
--- where all that is lent is known
-abbrev entry : tie.After-shared-slice-known4 → tie.Start
-entry k = k .before .before .before .before .before
+-- where it starts, from where all that is lent is known
+abbrev entry : tie.After-shared-slice-known5 → tie.Start
+entry k = k .before .before .before .before .before .before
 
 mul-code : tie.Need-mul-code
 mul-code c =
@@ -24,37 +24,37 @@ shared-slice-read-code c =
     let fits = start .good in
     omega arith
 
-add-read-name : tie.Need-add-read-name
-add-read-name c =
+add-read-listed : tie.Need-add-read-listed
+add-read-listed c =
     let start = entry (c .before .before) in
     let i = inside-leaf (start .pre .0 .here) in
     let fits = start .good in
     omega arith
 
-read-name-requires : tie.Need-read-name-requires
-read-name-requires c κs =
+read-listed-requires : tie.Need-read-listed-requires
+read-listed-requires c κs =
     let start = entry (c .before .before .before) in
-    (start .pre .0 .bound, some-name (some-here (start .pre .0)) (c .before .if1 .taken), start .pre .0 .sound .store, start .pre .0 .sound .links, start .pre .1)
+    (ask-listed (start .pre .0) (c .before .if1 .taken), start .pre .1)
 
 returns : tie.Need-returns
-returns c = leaf-name _ (c .before .before .before .before .if1 .taken) (c .before .before .read-name .ensures)
+returns c = leaf-name _ (c .before .before .before .before .if1 .taken) (c .before .before .read-listed .ensures)
 
-add-definition-set : tie.Need-add-definition-set
-add-definition-set c =
+add-wide : tie.Need-add-wide
+add-wide c =
     let start = entry (c .before .before .before) in
     let i = definition-inside (some-here (start .pre .0)) (c .if2 .taken) in
     let fits = start .good in
     omega arith
 
-mul-definition-set : tie.Need-mul-definition-set
-mul-definition-set c =
+mul-wide : tie.Need-mul-wide
+mul-wide c =
     let start = entry (c .before .before .before) in
     let i = definition-inside (some-here (start .pre .0)) (c .if2 .taken) in
     let fits = start .good in
     omega arith
 
-shared-slice-read-definition-set : tie.Need-shared-slice-read-definition-set
-shared-slice-read-definition-set c =
+shared-slice-read-wide : tie.Need-shared-slice-read-wide
+shared-slice-read-wide c =
     let start = entry (c .before .before .before .before) in
     let i = definition-inside (some-here (start .pre .0)) (c .before .if2 .taken) in
     let fits = start .good in
@@ -62,13 +62,17 @@ shared-slice-read-definition-set c =
 
 definition-set-requires : tie.Need-definition-set-requires
 definition-set-requires c κs =
-    let start = entry (c .before .before .before .before) in
-    (known-here (start .pre .0) (c .before .if2 .taken), start .pre .0 .sound .defs)
+    let start = entry (c .before .before .before .before .before) in
+    let known = known-here (start .pre .0) (c .before .before .if2 .taken) in
+    let number = c .wide .ensures in
+    (omega arith, start .pre .0 .sound .defs)
 
 returns-2 : tie.Need-returns-2
 returns-2 c =
-    let start = entry (c .before .before .before .before .before .before .before .before .before) in
-    leaf-definition _ (c .before .before .before .before .before .before .if2 .taken) (c .before .before .before .before .definition-set .ensures) (start .args .area .now) (start .pre .1) (c .before .before .copy .ensures)
+    let read = c .before .before .before .before in
+    let test = read .before .before .before in
+    let start = entry (test .before .before .before) in
+    leaf-definition _ (test .if2 .taken) (read .before .wide .ensures) (read .definition-set .ensures) (start .args .area .now) (start .pre .1) (c .before .before .copy .ensures)
 
 returns-3 : tie.Need-returns-3
 returns-3 c = c .before .before .read-vetted .ensures
@@ -100,13 +104,14 @@ read-leaf-spec =
     (tie.spec
     mul-code
     shared-slice-read-code
-    add-read-name
-    read-name-requires
+    add-read-listed
+    read-listed-requires
     (λ c. search needs)
     returns
-    add-definition-set
-    mul-definition-set
-    shared-slice-read-definition-set
+    add-wide
+    mul-wide
+    shared-slice-read-wide
+    (λ c κs. search needs)
     definition-set-requires
     (λ c κs. search needs)
     (λ c. search needs)

@@ -2,14 +2,14 @@
 use native.Mathlib.Omega.{arith}
 use Rattle.policy_places.proofs.Leaves.{vetted-inside}
 use Rattle.read_leaves.proofs.ByCode.{some-here}
-use Rattle.read_leaves.proofs.Vetted.{vetted-known, vetted-name, vetted-lacks, vetted-looked}
+use Rattle.read_leaves.proofs.Vetted.{vetted-known, ask-vetted, vetted-lacks, vetted-looked}
 use borrow.Author.Needs.{needs}
 use Rattle.read_leaves.proofs.vetted_has.Statement.{statement}
 use Rattle.read_leaves.proofs.vetted_has.Tie as tie
 
--- where all that is lent is known
-abbrev entry : tie.After-shared-slice-known4 → tie.Start
-entry k = k .before .before .before .before .before
+-- where it starts, from where all that is lent is known
+abbrev entry : tie.After-shared-slice-known5 → tie.Start
+entry k = k .before .before .before .before .before .before
 
 issuer-among-requires : tie.Need-issuer-among-requires
 issuer-among-requires c κs =
@@ -20,26 +20,25 @@ issuer-among-requires c κs =
 returns : tie.Need-returns
 returns c = vetted-lacks _ _ (entry (c .before .before .before) .pre .3) (c .before .before .issuer-among .ensures) (c .before .if1 .taken) (c .told .ensures)
 
-add-name-has : tie.Need-add-name-has
-add-name-has c =
+add-listed-has : tie.Need-add-listed-has
+add-listed-has c =
     let start = entry (c .before .before) in
     let long = vetted-inside (some-here (start .pre .0)) (start .pre .3) in
     let fits = start .good in
     omega arith
 
-name-has-requires : tie.Need-name-has-requires
-name-has-requires c κs =
+listed-has-requires : tie.Need-listed-has-requires
+listed-has-requires c κs =
     let start = entry (c .before .before .before) in
-    let ask = start .pre .0 in
-    (ask .bound, vetted-name ask (start .pre .3), start .pre .2, ask .sound .store, ask .sound .links, start .pre .1)
+    (ask-vetted (start .pre .0) (start .pre .3), start .pre .1, start .pre .2)
 
 returns-2 : tie.Need-returns-2
 returns-2 c =
     let h = c .before .before in
     let among = h .before .before .before in
-    vetted-looked _ _ (entry (among .before) .pre .3) (among .issuer-among .ensures) (h .before .before .if1 .left) (h .name-has .ensures)
+    vetted-looked _ _ (entry (among .before) .pre .3) (among .issuer-among .ensures) (h .before .before .if1 .left) (h .listed-has .ensures)
 
 pub vetted-has-spec : {M : Type 1} → statement M
 vetted-has-spec =
     tie.close
-    (tie.spec issuer-among-requires (λ c κs. search needs) returns add-name-has name-has-requires (λ c. search needs) returns-2)
+    (tie.spec issuer-among-requires (λ c κs. search needs) returns add-listed-has listed-has-requires (λ c. search needs) returns-2)

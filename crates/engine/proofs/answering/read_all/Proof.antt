@@ -34,7 +34,7 @@ read-whole-requires : tie.Need-read-whole-requires
 read-whole-requires c κs =
     let told = c .before .before in
     let defs = defined told in
-    query-asked (defs .read-definitions .ensures) (told .before .before2 .given .1) refl (start defs .pre .0) (defs .read-definitions .kept .1 .1 .1 .1 .1 .1 .1 .0)
+    query-asked (defs .read-definitions .ensures) (told .before .before2 .given .1) refl (start defs .pre .0) (defs .read-definitions .kept .1 .1 .1 .1 .1 .1 .1 .1 .0)
 
 copy-requires : tie.Need-copy-requires
 copy-requires c κs =

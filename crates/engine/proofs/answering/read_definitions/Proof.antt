@@ -8,11 +8,11 @@ use Rattle.engine.proofs.answering.read_definitions.Statement.{statemen
 use Rattle.engine.proofs.answering.read_definitions.Tie as tie
 
 abbrev Inv-loop : tie.InvT-loop
-Inv-loop policy count minute format store links definitions₀ scratch₀ draws₀ d₀ definitions scratch draws d =
-    ReadSoFar policy count (record { minute = minute; format = format; stores = record { store = store; links = links }; defs = definitions; known = d }) draws × (length definitions ≡ length definitions₀) × (length scratch ≡ length scratch₀)
+Inv-loop policy count minute format ours store links definitions₀ scratch₀ draws₀ d₀ definitions scratch draws d =
+    ReadSoFar count (record { minute = minute; format = format; ourKey = ours; policy = policy; stores = record { store = store; links = links }; defs = definitions; known = d }) draws × (length definitions ≡ length definitions₀) × (length scratch ≡ length scratch₀)
 
 abbrev μ-loop : tie.MeasureT-loop
-μ-loop policy count minute format store links definitions₀ scratch₀ draws₀ d₀ definitions scratch draws d = count - d
+μ-loop policy count minute format ours store links definitions₀ scratch₀ draws₀ d₀ definitions scratch draws d = count - d
 
 -- where the reader starts, from the loop
 abbrev start : tie.At-loop Inv-loop μ-loop → tie.Start Inv-loop μ-loop
@@ -59,7 +59,7 @@ loop-again c =
     let loop = here .before .before in
     let more = here .before .loop-test .taken in (
       next-read (loop .loop .inv .0) more (here .definition-words .ensures) (read .read-whole .ensures) (c .before .before .before .before .before .before .total .given .1)
-          (place-inside (start loop .pre) more (loop .loop .inv .1)) (c .before .before .place-set .ensures),
+          (place-inside (start loop .pre) more (loop .loop .inv .1)) (words-inside (start loop .pre) more .1) (c .before .before .place-set .ensures),
       c .before .before .place-set .kept .0 ∙ loop .loop .inv .1,
       read .read-whole .kept .1 .1 .0 ∙ loop .loop .inv .2,
     )

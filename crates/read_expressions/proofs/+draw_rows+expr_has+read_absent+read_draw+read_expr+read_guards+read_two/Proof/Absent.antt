@@ -9,7 +9,7 @@ use Rattle.read_expressions.proofs.+draw_rows+expr_has+read_absent+read
 
 -- where the reader starts, from where the row was looked for
 abbrev start : (t : ℕ) → read-absent-lts.After-expr-has (read-absent-claims t) (read-absent-at t) read-absent.Post → read-absent-lts.Start (read-absent-claims t) (read-absent-at t) read-absent.Post
-start t c = c .before .before .before .before .before .before .before .before .before
+start t c = c .before .before .before .before .before .before .before .before .before .before
 
 -- where the row was looked for, from where the guards that follow are read
 abbrev tested : (t : ℕ) → read-absent-lts.After-read-guards (read-absent-claims t) (read-absent-at t) read-absent.Post → read-absent-lts.After-expr-has (read-absent-claims t) (read-absent-at t) read-absent.Post
@@ -20,23 +20,23 @@ back : (t : ℕ) (c : read-absent-lts.After-expr-has (read-absent-claims t) (rea
 back t c = given-back (start t c .args .area .now) (start t c .args .free) (c .expr-has .last .1 .1 .1 .1 .1 .0) (absent-inside (start t c .pre .1)) (start t c .pre .1 .ask .behind) (c .expr-has .kept .1 .1 .1 .1 .1 .0)
 
 pub skip-row-requires : (t : ℕ) → read-absent-lts.Need-skip-row-requires (read-absent-claims t) (read-absent-at t) read-absent.Post
-skip-row-requires t c κs = absent-row (c .before .before .before .before .before .pre .1)
+skip-row-requires t c κs = absent-row (c .before .before .before .before .before .before .pre .1)
 
 pub mul-expr-has : (t : ℕ) → read-absent-lts.Need-mul-expr-has (read-absent-claims t) (read-absent-at t) read-absent.Post
-mul-expr-has t c = let room = absent-room (c .before .before .before .before .before .before .before .pre .1) in let fits = c .before .before .before .before .before .before .before .good in omega arith
+mul-expr-has t c = let room = absent-room (c .before .before .before .before .before .before .before .before .pre .1) in let fits = c .before .before .before .before .before .before .before .before .good in omega arith
 
 pub sub-expr-has : (t : ℕ) → read-absent-lts.Need-sub-expr-has (read-absent-claims t) (read-absent-at t) read-absent.Post
-sub-expr-has t c = let room = absent-room (c .before .before .before .before .before .before .before .pre .1) in omega arith
+sub-expr-has t c = let room = absent-room (c .before .before .before .before .before .before .before .before .pre .1) in omega arith
 
 pub part-expr-has-start : (t : ℕ) → read-absent-lts.Need-part-expr-has-start (read-absent-claims t) (read-absent-at t) read-absent.Post
-part-expr-has-start t c = let room = absent-room (c .before .before .before .before .before .before .before .pre .1) in omega arith
+part-expr-has-start t c = let room = absent-room (c .before .before .before .before .before .before .before .before .pre .1) in omega arith
 
 pub part-expr-has-end : (t : ℕ) → read-absent-lts.Need-part-expr-has-end (read-absent-claims t) (read-absent-at t) read-absent.Post
-part-expr-has-end t c = let room = absent-room (c .before .before .before .before .before .before .before .pre .1) in omega arith
+part-expr-has-end t c = let room = absent-room (c .before .before .before .before .before .before .before .before .pre .1) in omega arith
 
 pub expr-has-requires : (t : ℕ) → read-absent-lts.Need-expr-has-requires (read-absent-claims t) (read-absent-at t) read-absent.Post
 expr-has-requires t c κs =
-    let q = c .before .before .before .before .before .before .before .before .pre in
+    let q = c .before .before .before .before .before .before .before .before .before .pre in
     let measure = q .0 in
     let later = operand-later (q .1) (c .before .before .skip-row .ensures) in
     (omega arith, ask-has (q .1) (c .before .before .skip-row .ensures))

@@ -43,75 +43,75 @@ use Rattle.policy_places.proofs.skip.skip_row.Reads as skip-row-reads
 use Rattle.read_values.proofs.told.Reads as told-reads
 
 -- twice the words left; one more where an expression is read from the same word on
-abbrev pub μ-draw-rows : Measures 6 draw-rows-kinds.ps ℕ
+abbrev pub μ-draw-rows : Measures 7 draw-rows-kinds.ps ℕ
 μ-draw-rows κs a = 2 * (length (a .0 .now) - a .1 .0) + 1
 
-abbrev pub μ-expr-has : Measures 6 expr-has-kinds.ps ℕ
+abbrev pub μ-expr-has : Measures 7 expr-has-kinds.ps ℕ
 μ-expr-has κs a = 2 * (length (a .0 .now) - a .1 .0) + 1
 
-abbrev pub μ-read-absent : Measures 6 read-absent-kinds.ps ℕ
+abbrev pub μ-read-absent : Measures 7 read-absent-kinds.ps ℕ
 μ-read-absent κs a = 2 * (length (a .0 .now) - a .1 .0) + 1
 
-abbrev pub μ-read-draw : Measures 6 read-draw-kinds.ps ℕ
+abbrev pub μ-read-draw : Measures 7 read-draw-kinds.ps ℕ
 μ-read-draw κs a = 2 * (length (a .0 .now) - a .1 .0) + 1
 
-abbrev pub μ-read-expr : Measures 6 read-expr-kinds.ps ℕ
+abbrev pub μ-read-expr : Measures 7 read-expr-kinds.ps ℕ
 μ-read-expr κs a = 2 * (length (a .0 .now) - a .1 .0)
 
-abbrev pub μ-read-guards : Measures 6 read-guards-kinds.ps ℕ
+abbrev pub μ-read-guards : Measures 7 read-guards-kinds.ps ℕ
 μ-read-guards κs a = 2 * (length (a .0 .now) - a .1 .0)
 
-abbrev pub μ-read-two : Measures 6 read-two-kinds.ps ℕ
+abbrev pub μ-read-two : Measures 7 read-two-kinds.ps ℕ
 μ-read-two κs a = 2 * (length (a .0 .now) - a .1 .0) + 1
 
-abbrev pub draw-rows-at : ℕ → In 6 draw-rows-kinds.ps
-draw-rows-at t = and 6 draw-rows-kinds.ps (is 6 draw-rows-kinds.ps μ-draw-rows t) draw-rows.Pre
+abbrev pub draw-rows-at : ℕ → In 7 draw-rows-kinds.ps
+draw-rows-at t = and 7 draw-rows-kinds.ps (is 7 draw-rows-kinds.ps μ-draw-rows t) draw-rows.Pre
 
-abbrev pub draw-rows-below : ℕ → In 6 draw-rows-kinds.ps
-draw-rows-below t = and 6 draw-rows-kinds.ps (falls 6 draw-rows-kinds.ps _<_ μ-draw-rows t) draw-rows.Pre
+abbrev pub draw-rows-below : ℕ → In 7 draw-rows-kinds.ps
+draw-rows-below t = and 7 draw-rows-kinds.ps (falls 7 draw-rows-kinds.ps _<_ μ-draw-rows t) draw-rows.Pre
 
-abbrev pub expr-has-at : ℕ → In 6 expr-has-kinds.ps
-expr-has-at t = and 6 expr-has-kinds.ps (is 6 expr-has-kinds.ps μ-expr-has t) expr-has.Pre
+abbrev pub expr-has-at : ℕ → In 7 expr-has-kinds.ps
+expr-has-at t = and 7 expr-has-kinds.ps (is 7 expr-has-kinds.ps μ-expr-has t) expr-has.Pre
 
-abbrev pub expr-has-below : ℕ → In 6 expr-has-kinds.ps
-expr-has-below t = and 6 expr-has-kinds.ps (falls 6 expr-has-kinds.ps _<_ μ-expr-has t) expr-has.Pre
+abbrev pub expr-has-below : ℕ → In 7 expr-has-kinds.ps
+expr-has-below t = and 7 expr-has-kinds.ps (falls 7 expr-has-kinds.ps _<_ μ-expr-has t) expr-has.Pre
 
-abbrev pub read-absent-at : ℕ → In 6 read-absent-kinds.ps
-read-absent-at t = and 6 read-absent-kinds.ps (is 6 read-absent-kinds.ps μ-read-absent t) read-absent.Pre
+abbrev pub read-absent-at : ℕ → In 7 read-absent-kinds.ps
+read-absent-at t = and 7 read-absent-kinds.ps (is 7 read-absent-kinds.ps μ-read-absent t) read-absent.Pre
 
-abbrev pub read-absent-below : ℕ → In 6 read-absent-kinds.ps
-read-absent-below t = and 6 read-absent-kinds.ps (falls 6 read-absent-kinds.ps _<_ μ-read-absent t) read-absent.Pre
+abbrev pub read-absent-below : ℕ → In 7 read-absent-kinds.ps
+read-absent-below t = and 7 read-absent-kinds.ps (falls 7 read-absent-kinds.ps _<_ μ-read-absent t) read-absent.Pre
 
-abbrev pub read-draw-at : ℕ → In 6 read-draw-kinds.ps
-read-draw-at t = and 6 read-draw-kinds.ps (is 6 read-draw-kinds.ps μ-read-draw t) read-draw.Pre
+abbrev pub read-draw-at : ℕ → In 7 read-draw-kinds.ps
+read-draw-at t = and 7 read-draw-kinds.ps (is 7 read-draw-kinds.ps μ-read-draw t) read-draw.Pre
 
-abbrev pub read-draw-below : ℕ → In 6 read-draw-kinds.ps
-read-draw-below t = and 6 read-draw-kinds.ps (falls 6 read-draw-kinds.ps _<_ μ-read-draw t) read-draw.Pre
+abbrev pub read-draw-below : ℕ → In 7 read-draw-kinds.ps
+read-draw-below t = and 7 read-draw-kinds.ps (falls 7 read-draw-kinds.ps _<_ μ-read-draw t) read-draw.Pre
 
-abbrev pub read-expr-at : ℕ → In 6 read-expr-kinds.ps
-read-expr-at t = and 6 read-expr-kinds.ps (is 6 read-expr-kinds.ps μ-read-expr t) read-expr.Pre
+abbrev pub read-expr-at : ℕ → In 7 read-expr-kinds.ps
+read-expr-at t = and 7 read-expr-kinds.ps (is 7 read-expr-kinds.ps μ-read-expr t) read-expr.Pre
 
-abbrev pub read-expr-below : ℕ → In 6 read-expr-kinds.ps
-read-expr-below t = and 6 read-expr-kinds.ps (falls 6 read-expr-kinds.ps _<_ μ-read-expr t) read-expr.Pre
+abbrev pub read-expr-below : ℕ → In 7 read-expr-kinds.ps
+read-expr-below t = and 7 read-expr-kinds.ps (falls 7 read-expr-kinds.ps _<_ μ-read-expr t) read-expr.Pre
 
-abbrev pub read-guards-at : ℕ → In 6 read-guards-kinds.ps
-read-guards-at t = and 6 read-guards-kinds.ps (is 6 read-guards-kinds.ps μ-read-guards t) read-guards.Pre
+abbrev pub read-guards-at : ℕ → In 7 read-guards-kinds.ps
+read-guards-at t = and 7 read-guards-kinds.ps (is 7 read-guards-kinds.ps μ-read-guards t) read-guards.Pre
 
-abbrev pub read-guards-below : ℕ → In 6 read-guards-kinds.ps
-read-guards-below t = and 6 read-guards-kinds.ps (falls 6 read-guards-kinds.ps _<_ μ-read-guards t) read-guards.Pre
+abbrev pub read-guards-below : ℕ → In 7 read-guards-kinds.ps
+read-guards-below t = and 7 read-guards-kinds.ps (falls 7 read-guards-kinds.ps _<_ μ-read-guards t) read-guards.Pre
 
-abbrev pub read-two-at : ℕ → In 6 read-two-kinds.ps
-read-two-at t = and 6 read-two-kinds.ps (is 6 read-two-kinds.ps μ-read-two t) read-two.Pre
+abbrev pub read-two-at : ℕ → In 7 read-two-kinds.ps
+read-two-at t = and 7 read-two-kinds.ps (is 7 read-two-kinds.ps μ-read-two t) read-two.Pre
 
-abbrev pub read-two-below : ℕ → In 6 read-two-kinds.ps
-read-two-below t = and 6 read-two-kinds.ps (falls 6 read-two-kinds.ps _<_ μ-read-two t) read-two.Pre
+abbrev pub read-two-below : ℕ → In 7 read-two-kinds.ps
+read-two-below t = and 7 read-two-kinds.ps (falls 7 read-two-kinds.ps _<_ μ-read-two t) read-two.Pre
 
 abbrev pub draw-rows-Inv-loop : draw-rows-lts.InvT-loop
-draw-rows-Inv-loop words at values₀ count draws area₀ given store defs links left free pattern listed used₀ i₀ values area used i =
-    Drawing (from given store defs links) words pattern at left values₀ count draws free area₀ listed values area used i
+draw-rows-Inv-loop words at values₀ count draws area₀ given store defs links policy left free pattern listed used₀ i₀ values area used i =
+    Drawing (from given store defs links policy) words pattern at left values₀ count draws free area₀ listed values area used i
 
 abbrev pub draw-rows-μ-loop : draw-rows-lts.MeasureT-loop
-draw-rows-μ-loop words at values₀ count draws area₀ given store defs links left free pattern listed used₀ i₀ values area used i = listed - i
+draw-rows-μ-loop words at values₀ count draws area₀ given store defs links policy left free pattern listed used₀ i₀ values area used i = listed - i
 
 -- what `draw_rows` knows of the functions that it calls
 abbrev pub draw-rows-claims : ℕ → draw-rows-lts.Claims

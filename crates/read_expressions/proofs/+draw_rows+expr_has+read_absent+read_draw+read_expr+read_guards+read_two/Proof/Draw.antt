@@ -11,7 +11,7 @@ use Rattle.read_expressions.proofs.+draw_rows+expr_has+read_absent+read
 
 -- where the reader starts, from where the operand is read
 abbrev start : (t : ℕ) → read-draw-lts.After-read-expr (read-draw-claims t) (read-draw-at t) read-draw.Post → read-draw-lts.Start (read-draw-claims t) (read-draw-at t) read-draw.Post
-start t c = c .before .before .before .before .before .before .before .before
+start t c = c .before .before .before .before .before .before .before .before .before
 
 -- where the operand is read, from where the pattern is passed
 abbrev operand-read : (t : ℕ) → read-draw-lts.After-skip-pattern (read-draw-claims t) (read-draw-at t) read-draw.Post → read-draw-lts.After-read-expr (read-draw-claims t) (read-draw-at t) read-draw.Post
@@ -22,8 +22,8 @@ abbrev passed : (t : ℕ) → read-draw-lts.After-draw-rows (read-draw-claims t)
 passed t c = c .before .before .before .before .before
 
 operand : (t : ℕ) (c : read-draw-lts.After-skip-pattern (read-draw-claims t) (read-draw-at t) read-draw.Post) →
-    Operand (from (start t (operand-read t c) .args .given) (start t (operand-read t c) .args .store .now) (start t (operand-read t c) .args .defs .now) (start t (operand-read t c) .args .links .now)) (start t (operand-read t c) .args .words .now)
-    (start t (operand-read t c) .args .at) (start t (operand-read t c) .args .values .now) (start t (operand-read t c) .args .count) (start t (operand-read t c) .args .draws)
+    Operand (from (start t (operand-read t c) .args .given) (start t (operand-read t c) .args .store .now) (start t (operand-read t c) .args .defs .now) (start t (operand-read t c) .args .links .now)
+    (start t (operand-read t c) .args .policy .now)) (start t (operand-read t c) .args .words .now) (start t (operand-read t c) .args .at) (start t (operand-read t c) .args .values .now) (start t (operand-read t c) .args .count) (start t (operand-read t c) .args .draws)
     (start t (operand-read t c) .args .area .now) (start t (operand-read t c) .args .free)
     (givenBack (start t (operand-read t c) .args .area .now) (start t (operand-read t c) .args .free) (operand-read t c .read-expr .last .1 .1 .1 .1 .1 .0) (draw-inside (start t (operand-read t c) .pre .1))
     (operand-read t c .read-expr .kept .1 .1 .1 .1 .1 .0))
@@ -31,19 +31,19 @@ operand : (t : ℕ) (c : read-draw-lts.After-skip-pattern (read-draw-claims t) (
 operand t c = drawn (start t (operand-read t c) .pre .1) (operand-read t c .read-expr .kept .1 .1 .1 .1 .1 .0) (operand-read t c .read-expr .ensures) (c .before .before .before .before2 .given .1)
 
 pub mul-read-expr : (t : ℕ) → read-draw-lts.Need-mul-read-expr (read-draw-claims t) (read-draw-at t) read-draw.Post
-mul-read-expr t c = let room = draw-room (c .before .before .before .before .before .before .pre .1) in let fits = c .before .before .before .before .before .before .good in omega arith
+mul-read-expr t c = let room = draw-room (c .before .before .before .before .before .before .before .pre .1) in let fits = c .before .before .before .before .before .before .before .good in omega arith
 
 pub sub-read-expr : (t : ℕ) → read-draw-lts.Need-sub-read-expr (read-draw-claims t) (read-draw-at t) read-draw.Post
-sub-read-expr t c = let room = draw-room (c .before .before .before .before .before .before .pre .1) in omega arith
+sub-read-expr t c = let room = draw-room (c .before .before .before .before .before .before .before .pre .1) in omega arith
 
 pub part-read-expr-start : (t : ℕ) → read-draw-lts.Need-part-read-expr-start (read-draw-claims t) (read-draw-at t) read-draw.Post
-part-read-expr-start t c = let room = draw-room (c .before .before .before .before .before .before .pre .1) in omega arith
+part-read-expr-start t c = let room = draw-room (c .before .before .before .before .before .before .before .pre .1) in omega arith
 
 pub part-read-expr-end : (t : ℕ) → read-draw-lts.Need-part-read-expr-end (read-draw-claims t) (read-draw-at t) read-draw.Post
-part-read-expr-end t c = let room = draw-room (c .before .before .before .before .before .before .pre .1) in omega arith
+part-read-expr-end t c = let room = draw-room (c .before .before .before .before .before .before .before .pre .1) in omega arith
 
 pub read-expr-requires : (t : ℕ) → read-draw-lts.Need-read-expr-requires (read-draw-claims t) (read-draw-at t) read-draw.Post
-read-expr-requires t c κs = let q = c .before .before .before .before .before .before .before .pre in let measure = q .0 in (omega arith, ask-operand (q .1))
+read-expr-requires t c κs = let q = c .before .before .before .before .before .before .before .before .pre in let measure = q .0 in (omega arith, ask-operand (q .1))
 
 pub skip-expr-requires : (t : ℕ) → read-draw-lts.Need-skip-expr-requires (read-draw-claims t) (read-draw-at t) read-draw.Post
 skip-expr-requires t c κs = some-operand (start t (c .before .before .before .before .before) .pre .1)

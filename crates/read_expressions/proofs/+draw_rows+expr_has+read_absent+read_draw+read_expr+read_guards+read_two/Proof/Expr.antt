@@ -18,7 +18,7 @@ use Rattle.read_expressions.proofs.+draw_rows+expr_has+read_absent+read
 
 -- where the reader starts, from where its code is told
 abbrev start : (t : ℕ) → read-expr-lts.After-is-node (read-expr-claims t) (read-expr-at t) read-expr.Post → read-expr-lts.Start (read-expr-claims t) (read-expr-at t) read-expr.Post
-start t c = c .before .before .before .before .before .before .before
+start t c = c .before .before .before .before .before .before .before .before
 
 no-node : (t : ℕ) (c : read-expr-lts.Then1 (read-expr-claims t) (read-expr-at t) read-expr.Post) → isNode (getD (start t (c .before) .args .words .now) (start t (c .before) .args .at) 0) ≡ false
 no-node t c = sym (c .before .is-node .ensures) ∙ not-true _ (c .if1 .taken)
@@ -32,10 +32,10 @@ body : (t : ℕ) (c : read-expr-lts.Then2 (read-expr-claims t) (read-expr-at t) 
 body t c = some-body (some-expr (start t (c .before .before) .pre .1)) (c .if2 .taken)
 
 pub mul-code : (t : ℕ) → read-expr-lts.Need-mul-code (read-expr-claims t) (read-expr-at t) read-expr.Post
-mul-code t c = let i = inside (c .before .before .before .before .before .pre .1 .here) in let fits = c .before .before .before .before .before .good in omega arith
+mul-code t c = let i = inside (c .before .before .before .before .before .before .pre .1 .here) in let fits = c .before .before .before .before .before .before .good in omega arith
 
 pub shared-slice-read-code : (t : ℕ) → read-expr-lts.Need-shared-slice-read-code (read-expr-claims t) (read-expr-at t) read-expr.Post
-shared-slice-read-code t c = let i = inside (c .before .before .before .before .before .before .pre .1 .here) in let fits = c .before .before .before .before .before .before .good in omega arith
+shared-slice-read-code t c = let i = inside (c .before .before .before .before .before .before .before .pre .1 .here) in let fits = c .before .before .before .before .before .before .before .good in omega arith
 
 pub read-leaf-requires : (t : ℕ) → read-expr-lts.Need-read-leaf-requires (read-expr-claims t) (read-expr-at t) read-expr.Post
 read-leaf-requires t c κs = (ask-leaf (start t (c .before .before .before) .pre .1) (no-node t (c .before .before)), long (start t (c .before .before .before) .pre .1))

@@ -11,16 +11,16 @@ use Rattle.read_expressions.proofs.+draw_rows+expr_has+read_absent+read
 
 -- where the reader starts, from where the first guard is read
 abbrev start : (t : ℕ) → read-guards-lts.After-guard-at (read-guards-claims t) (read-guards-at t) read-guards.Post → read-guards-lts.Start (read-guards-claims t) (read-guards-at t) read-guards.Post
-start t c = c .before .before .before .before .before .before .before
+start t c = c .before .before .before .before .before .before .before .before
 
 pub insert-head-requires : (t : ℕ) → read-guards-lts.Need-insert-head-requires (read-guards-claims t) (read-guards-at t) read-guards.Post
-insert-head-requires t c κs = let q = c .before .before .before .before .before .before .before .before .pre .1 in (q .ask .bound, q .ask .gathering, some-head q (c .before .before .if1 .taken))
+insert-head-requires t c κs = let q = c .before .before .before .before .before .before .before .before .before .pre .1 in (q .ask .bound, q .ask .gathering, some-head q (c .before .before .if1 .taken))
 
 pub returns : (t : ℕ) → read-guards-lts.Need-returns (read-guards-claims t) (read-guards-at t) read-guards.Post
 returns t c = say-head (c .before .before .before .before .before .if1 .taken) (c .before .before .insert-head .ensures)
 
 pub guard-at-requires : (t : ℕ) → read-guards-lts.Need-guard-at-requires (read-guards-claims t) (read-guards-at t) read-guards.Post
-guard-at-requires t c κs = some-guard (c .before .before .before .before .before .before .pre .1) (c .if1 .left)
+guard-at-requires t c κs = some-guard (c .before .before .before .before .before .before .before .pre .1) (c .if1 .left)
 
 pub add-read-draw : (t : ℕ) → read-guards-lts.Need-add-read-draw (read-guards-claims t) (read-guards-at t) read-guards.Post
 add-read-draw t c = let i = inside-body (start t (c .before .before) .pre .1 .here) in let fits = start t (c .before .before) .good in omega arith

@@ -15,7 +15,7 @@ use Rattle.read_expressions.proofs.+draw_rows+expr_has+read_absent+read
 
 -- where the reader starts, from where the code is told
 abbrev start : (t : ℕ) → expr-has-lts.After-is-node (expr-has-claims t) (expr-has-at t) expr-has.Post → expr-has-lts.Start (expr-has-claims t) (expr-has-at t) expr-has.Post
-start t c = c .before .before .before .before .before .before .before
+start t c = c .before .before .before .before .before .before .before .before
 
 abbrev tested : (t : ℕ) → expr-has-lts.After-read-expr (expr-has-claims t) (expr-has-at t) expr-has.Post → expr-has-lts.After-is-node (expr-has-claims t) (expr-has-at t) expr-has.Post
 tested t c = c .before .before .before .before
@@ -24,10 +24,10 @@ no-node : (t : ℕ) (c : expr-has-lts.Then1 (expr-has-claims t) (expr-has-at t) 
 no-node t c = sym (c .before .is-node .ensures) ∙ not-true _ (c .if1 .taken)
 
 pub mul-code : (t : ℕ) → expr-has-lts.Need-mul-code (expr-has-claims t) (expr-has-at t) expr-has.Post
-mul-code t c = let i = inside (c .before .before .before .before .before .pre .1 .ask .here) in let fits = c .before .before .before .before .before .good in omega arith
+mul-code t c = let i = inside (c .before .before .before .before .before .before .pre .1 .ask .here) in let fits = c .before .before .before .before .before .before .good in omega arith
 
 pub shared-slice-read-code : (t : ℕ) → expr-has-lts.Need-shared-slice-read-code (expr-has-claims t) (expr-has-at t) expr-has.Post
-shared-slice-read-code t c = let i = inside (c .before .before .before .before .before .before .pre .1 .ask .here) in let fits = c .before .before .before .before .before .before .good in omega arith
+shared-slice-read-code t c = let i = inside (c .before .before .before .before .before .before .before .pre .1 .ask .here) in let fits = c .before .before .before .before .before .before .before .good in omega arith
 
 pub leaf-has-requires : (t : ℕ) → expr-has-lts.Need-leaf-has-requires (expr-has-claims t) (expr-has-at t) expr-has.Post
 leaf-has-requires t c κs =

@@ -10,7 +10,7 @@ use Rattle.read_expressions.proofs.+draw_rows+expr_has+read_absent+read
 -- where the reader starts, from where the rows are drawn
 abbrev start : (t : ℕ) → draw-rows-lts.At-loop (draw-rows-claims t) (draw-rows-at t) draw-rows.Post draw-rows-Inv-loop draw-rows-μ-loop → draw-rows-lts.Start (draw-rows-claims t)
     (draw-rows-at t) draw-rows.Post draw-rows-Inv-loop draw-rows-μ-loop
-start t c = c .before .before .before .before .before .before .before .before
+start t c = c .before .before .before .before .before .before .before .before .before
 
 -- where rows are drawn on, from where it is known what came of it
 abbrev turn : (t : ℕ) → draw-rows-lts.After-draw-next (draw-rows-claims t) (draw-rows-at t) draw-rows.Post draw-rows-Inv-loop draw-rows-μ-loop → draw-rows-lts.At-loop (draw-rows-claims t)
@@ -23,16 +23,16 @@ abbrev drawn : (t : ℕ) → draw-rows-lts.After-read-guards (draw-rows-claims t
 drawn t c = c .before .before .before .before .before .before
 
 pub add-wide : (t : ℕ) → draw-rows-lts.Need-add-wide (draw-rows-claims t) (draw-rows-at t) draw-rows.Post draw-rows-Inv-loop draw-rows-μ-loop
-add-wide t c = let room = each-room (c .before .before .before .before .before .pre .1) in let fits = c .before .before .before .before .before .good in omega arith
+add-wide t c = let room = each-room (c .before .before .before .before .before .before .pre .1) in let fits = c .before .before .before .before .before .before .good in omega arith
 
 pub mul-wide : (t : ℕ) → draw-rows-lts.Need-mul-wide (draw-rows-claims t) (draw-rows-at t) draw-rows.Post draw-rows-Inv-loop draw-rows-μ-loop
-mul-wide t c = let room = each-room (c .before .before .before .before .before .pre .1) in let fits = c .before .before .before .before .before .good in omega arith
+mul-wide t c = let room = each-room (c .before .before .before .before .before .before .pre .1) in let fits = c .before .before .before .before .before .before .good in omega arith
 
 pub slice-read-wide : (t : ℕ) → draw-rows-lts.Need-slice-read-wide (draw-rows-claims t) (draw-rows-at t) draw-rows.Post draw-rows-Inv-loop draw-rows-μ-loop
-slice-read-wide t c = let room = each-room (c .before .before .before .before .before .before .pre .1) in omega arith
+slice-read-wide t c = let room = each-room (c .before .before .before .before .before .before .before .pre .1) in omega arith
 
 pub loop-holds : (t : ℕ) → draw-rows-lts.Need-loop-holds (draw-rows-claims t) (draw-rows-at t) draw-rows.Post draw-rows-Inv-loop draw-rows-μ-loop
-loop-holds t c = drawing-start (c .before .before .before .before .before .before .before .pre .1) (c .wide .ensures)
+loop-holds t c = drawing-start (c .before .before .before .before .before .before .before .before .pre .1) (c .wide .ensures)
 
 pub draw-next-requires : (t : ℕ) → draw-rows-lts.Need-draw-next-requires (draw-rows-claims t) (draw-rows-at t) draw-rows.Post draw-rows-Inv-loop draw-rows-μ-loop
 draw-next-requires t c κs = ask-next (c .before .before .before .loop .inv)

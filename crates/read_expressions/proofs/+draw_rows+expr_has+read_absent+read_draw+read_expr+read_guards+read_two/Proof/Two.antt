@@ -9,7 +9,7 @@ use Rattle.read_expressions.proofs.+draw_rows+expr_has+read_absent+read
 
 -- where the reader starts, from where the left operand is read
 abbrev start : (t : ℕ) → read-two-lts.After-read-expr (read-two-claims t) (read-two-at t) read-two.Post → read-two-lts.Start (read-two-claims t) (read-two-at t) read-two.Post
-start t c = c .before .before .before .before .before .before .before .before
+start t c = c .before .before .before .before .before .before .before .before .before
 
 -- where the left operand is read, from where the right one is
 abbrev left-read : (t : ℕ) → read-two-lts.After-read-expr2 (read-two-claims t) (read-two-at t) read-two.Post → read-two-lts.After-read-expr (read-two-claims t) (read-two-at t) read-two.Post
@@ -19,7 +19,7 @@ left-room : (t : ℕ) (c : read-two-lts.After-read-expr (read-two-claims t) (rea
 left-room t c = let size = c .read-expr .kept .1 .1 .1 .1 .1 .0 in let room = start t c .pre .1 .right in omega arith
 
 pub read-expr-requires : (t : ℕ) → read-two-lts.Need-read-expr-requires (read-two-claims t) (read-two-at t) read-two.Post
-read-expr-requires t c κs = let q = c .before .before .before .before .before .before .before .pre in let measure = q .0 in (omega arith, ask-left (q .1))
+read-expr-requires t c κs = let q = c .before .before .before .before .before .before .before .before .pre in let measure = q .0 in (omega arith, ask-left (q .1))
 
 pub skip-expr-requires : (t : ℕ) → read-two-lts.Need-skip-expr-requires (read-two-claims t) (read-two-at t) read-two.Post
 skip-expr-requires t c κs = some-left (start t (c .before .before .before .before .before) .pre .1)
