@@ -1,5 +1,5 @@
-//! A portal in Rust: a curator's policies are judged or rewritten, certificates arrive for a semester, links between lists for good, and the tables that an
-//! astronomer gets follow them, the clock and the policy's format.
+//! A portal in Rust: a curator's policies, with own names, are judged or rewritten, certificates arrive for a semester, links between lists for good,
+//! and the tables that an astronomer gets follow them, the clock and the policy's format.
 //!
 //!     bash run
 //!
@@ -10,13 +10,14 @@ use txindurbe::{
     Rows, Slot, Store, Table, Term, Validity, Verdict,
 };
 
+/// Our key: names under it are own names.
 const ARCHIVE: u32 = key(0);
 const OBSERVATORY: u32 = key(1);
 const PARTNER: u32 = key(2);
+const AUTHORITY: u32 = key(3);
 const COMPROMISED: u16 = 0;
 const RELEASED: u16 = 1;
 const WITHDRAWN: u16 = 2;
-/// The name that the policy gives its definition.
 const PUBLIC: u16 = 10;
 const X: Term = Term::Variable(0);
 
@@ -34,25 +35,36 @@ fn observations<const COUNT: usize>(numbers: [u32; COUNT]) -> Expression {
     Expression::rows(&rows.each_ref().map(|row| row.as_slice()))
 }
 
-/// Each x that is released and absent from what is withdrawn.
+/// An own name, which stands for the policy's definition of it.
+fn own(name: u16) -> Expression {
+    Expression::list(ARCHIVE, name, Polarity::Plus)
+}
+
+fn our_released() -> Definition {
+    Definition { name: RELEASED, polarity: Polarity::Plus, expression: released() }
+}
+
+/// Each x of our released list that is absent from what is withdrawn.
+fn public() -> Definition {
+    let expression = Expression::each(&[Guard::Draw(own(RELEASED), vec![Slot::New(0)]), Guard::Absent(vec![X], withdrawn())], &[X]);
+    Definition { name: PUBLIC, polarity: Polarity::Plus, expression }
+}
+
 fn policy(format: Format) -> Policy {
-    let expression = Expression::each(&[Guard::Draw(released(), vec![Slot::New(0)]), Guard::Absent(vec![X], withdrawn())], &[X]);
-    Policy::in_format(format, &[Definition { name: PUBLIC, polarity: Polarity::Plus, expression }])
+    Policy::in_format(ARCHIVE, format, &[our_released(), public()])
 }
 
 /// Each x that is withdrawn.
-fn refused_policy() -> Policy {
+fn through_withdrawn() -> Policy {
     let expression = Expression::each(&[Guard::Draw(withdrawn(), vec![Slot::New(0)])], &[X]);
-    Policy::new(&[Definition { name: PUBLIC, polarity: Polarity::Minus, expression }])
+    Policy::new(ARCHIVE, &[Definition { name: PUBLIC, polarity: Polarity::Minus, expression }])
 }
 
-/// What is released, and before it whose word is taken for which keys are compromised.
+/// Our released list, all of which is public, and before it whose word is taken for which keys are compromised.
 fn external_policy() -> Policy {
-    let compromised = Expression::list(ARCHIVE, COMPROMISED, Polarity::Minus);
-    Policy::new(&[
-        Definition { name: COMPROMISED, polarity: Polarity::Minus, expression: compromised },
-        Definition { name: PUBLIC, polarity: Polarity::Plus, expression: released() },
-    ])
+    let compromised = Expression::list(AUTHORITY, COMPROMISED, Polarity::Minus);
+    let compromised = Definition { name: COMPROMISED, polarity: Polarity::Minus, expression: compromised };
+    Policy::new(ARCHIVE, &[compromised, our_released(), Definition { name: PUBLIC, polarity: Polarity::Plus, expression: own(RELEASED) }])
 }
 
 struct Portal {
@@ -67,17 +79,17 @@ struct Portal {
 }
 
 impl Portal {
-    /// The policy's last definition says what is public.
-    fn new(policy: Policy, last: u32, now: Minute, store: Store, links: Links) -> Portal {
-        let (public, catalogue, embargo) = (Expression::definition(last), observations([7, 8, 9]), observations([9]));
+    /// What is public is an own name, whichever policy defines it.
+    fn new(policy: Policy, now: Minute) -> Portal {
+        let (catalogue, embargo) = (observations([7, 8, 9]), observations([9]));
         Portal {
             policy,
-            public: Query::new(&public),
-            not_public: Query::new(&catalogue.clone().minus(public)),
+            public: Query::new(&own(PUBLIC)),
+            not_public: Query::new(&catalogue.clone().minus(own(PUBLIC))),
             not_under_embargo: Query::new(&catalogue.minus(embargo)),
             now,
-            store,
-            links,
+            store: Store::new(),
+            links: Links::new(),
             engine: Engine::new(),
         }
     }
@@ -90,6 +102,16 @@ impl Portal {
         };
         println!("  what {question}: {verdict}");
         Ok(())
+    }
+
+    /// Why another policy cannot stand, and the words that it is refused for.
+    fn show_refusal(&self, other: &Policy) {
+        if let Err(refusal) = other.judge(&self.public) {
+            println!("  {refusal}");
+            if let Some(part) = refusal.part {
+                println!("  its words: {}", words(other.part(&self.public, part)));
+            }
+        }
     }
 
     /// The certificate's signature has been checked before.
@@ -190,20 +212,18 @@ fn atom(word: u32) -> String {
 fn main() -> Result<(), Refusal> {
     let semester = Validity::from_dates(Date::day(2027, 1, 1), Date::day(2027, 7, 1))?;
     let next = Validity::from_dates(Date::day(2027, 7, 1), Date::day(2028, 1, 1))?;
-    let mut portal = Portal::new(policy(Format::EqualWidths), 0, Minute::from_date(Date::day(2027, 3, 20))?, Store::new(), Links::new());
-    println!("The policy: an observation is public if observatory k1 released it and did not withdraw it.");
+    let mut portal = Portal::new(policy(Format::EqualWidths), Minute::from_date(Date::day(2027, 3, 20))?);
+    println!("Our key is k0. The policy: our released list is observatory k1's, and an observation of it is public if k1 did not withdraw it.");
     portal.judge("is public", &portal.public)?;
     portal.judge("of 7, 8 and 9 is not public", &portal.not_public)?;
     portal.judge("of 7, 8 and 9 is not under embargo", &portal.not_under_embargo)?;
 
     println!("Another policy goes through k1's withdrawn list, of which certificates say only what is not in it:");
-    let other = refused_policy();
-    if let Err(refusal) = other.judge(&portal.public) {
-        println!("  {refusal}");
-        if let Some(part) = refusal.part {
-            println!("  its words: {}", words(other.part(&portal.public, part)));
-        }
-    }
+    portal.show_refusal(&through_withdrawn());
+    println!("Another one says what is public first, by an own name that it defines only after that:");
+    portal.show_refusal(&Policy::new(ARCHIVE, &[public(), our_released()]));
+    println!("The policy, with the number 5 as our key:");
+    portal.show_refusal(&Policy::from_words(5, portal.policy.words().to_vec()));
 
     println!("No certificate yet.");
     portal.it_is(portal.now)?;
@@ -214,9 +234,12 @@ fn main() -> Result<(), Refusal> {
     portal.arrives(Certificate::listed(OBSERVATORY, RELEASED, [8], semester))?;
     portal.arrives(Certificate::not_listed(OBSERVATORY, WITHDRAWN, [8], semester))?;
     portal.arrives(Certificate::listed(OBSERVATORY, RELEASED, [7, 1], semester))?;
-    for (name, list) in [("released", released()), ("withdrawn", withdrawn())] {
+    println!("Our released list is what the policy says that it is, whatever is certified under our key:");
+    portal.arrives(Certificate::listed(ARCHIVE, RELEASED, [9], semester))?;
+    portal.arrives(Certificate::not_listed(OBSERVATORY, WITHDRAWN, [9], semester))?;
+    for (name, list) in [("k1's released", released()), ("k1's withdrawn", withdrawn()), ("our released", own(RELEASED))] {
         let answer = portal.engine.query(&portal.policy, &Query::new(&list), portal.now, &portal.store, &portal.links)?;
-        println!("Now k1's {name} list has, {}", table(&answer.table));
+        println!("Now {name} list has, {}", table(&answer.table));
     }
 
     println!("The certificates are for a semester: before it they do not hold yet, and at its end they hold no longer.");
@@ -249,12 +272,16 @@ fn main() -> Result<(), Refusal> {
     portal.policy = policy(Format::WiderRows);
     portal.show_tables()?;
 
-    println!("An external policy: an observation is public if k1 released it, and k0 says which keys are compromised. Rewritten, it vets each key:");
+    println!("An external policy: our released list is k1's, all of it is public, and k3 says which keys are compromised. Rewritten, it vets keys:");
     let external = external_policy();
     let rewritten = external.rewrite()?;
-    println!("  what is public: {}", words(external.part(&portal.public, Part::Definition(1))));
-    println!("  rewritten: {}", words(rewritten.part(&portal.public, Part::Definition(1))));
-    let mut portal = Portal::new(rewritten, 1, portal.now, portal.store, portal.links);
+    for (name, part) in [("our released list", Part::Definition(1)), ("what is public", Part::Definition(2))] {
+        let [before, after] = [&external, &rewritten].map(|policy| words(policy.part(&portal.public, part)));
+        println!("  {name}: {before}, rewritten: {after}");
+    }
+    portal.policy = rewritten;
     portal.show_tables()?;
-    portal.arrives(Certificate::not_listed(ARCHIVE, COMPROMISED, [OBSERVATORY], next))
+    portal.arrives(Certificate::not_listed(AUTHORITY, COMPROMISED, [OBSERVATORY], next))?;
+    println!("What is public goes through an own name, so that our key must not be compromised either:");
+    portal.arrives(Certificate::not_listed(AUTHORITY, COMPROMISED, [ARCHIVE], next))
 }

@@ -23,7 +23,7 @@ extern "C" {
 
 /* The version of this interface, and the same as one number that grows with it. */
 #define TXINDURBE_VERSION_MAJOR 0
-#define TXINDURBE_VERSION_MINOR 7
+#define TXINDURBE_VERSION_MINOR 8
 #define TXINDURBE_VERSION_PATCH 0
 #define TXINDURBE_VERSION (TXINDURBE_VERSION_MAJOR * 1000000 + TXINDURBE_VERSION_MINOR * 1000 + TXINDURBE_VERSION_PATCH)
 
@@ -59,6 +59,14 @@ enum {
     TXB_WIDER_ROWS = 2               /* a pattern of width w matches every row of at least w atoms by its first w: x matches 7 and 7/2027, with x = 7 */
 };
 
+/* Our key is the archive's own: the word our_key of each call that checks definitions. Where it stands as the fixed issuer of a list (code 4), in a policy or
+ * in a query, the list is an own name and stands for a definition: the one of that name and polarity. It must be available at that place, which those before
+ * it in the policy are, and in a query any; else TXB_NOT_IN_SCOPE. An own name has the definition's rows, whatever is certified or linked under our key. It is
+ * open, and so not to be drawn from, just where its definition is: a - own name may be drawn from if that is not open, a + own name may not if it is. A vetted
+ * list (code 8) of our key is vetted as any other, and what it vets is the definition. A variable that holds our key reads certificates and links as with any
+ * key, and links that lead to our key's lists reach what is certified of them. With another word as our key, the same words of a policy may mean something
+ * else. */
+
 /* Lengths. A longer store or area is fine. A store of either kind starts empty if its first word is 0, whatever the others are. */
 enum {
     TXB_POLICY_WORDS = 8192,         /* the most words of a policy: an area of so many takes every rewritten one */
@@ -86,14 +94,17 @@ enum {
     TXB_HELD = 1                     /* it was there already, a certificate with the same term */
 };
 
-/* Refusal numbers. txb_file gives 8, 9, 10 and 17, txb_file_link 18 and 19, txb_judge 1 to 7, txb_query 1 to 8, 11 to 14 and 18, txb_rewrite 1 to 7, 11 and
- * 15, txb_minutes and txb_date 16. */
+/* Refusal numbers. txb_file gives 8, 9, 10 and 17, txb_file_link 18 and 19, txb_judge 1 to 7 and 20, txb_query 1 to 8, 11 to 14, 18 and 20, txb_rewrite 1 to
+ * 7, 11, 15 and 20, txb_minutes and txb_date 16. In which order: 20, 1, 2, then 3 to 7 of each definition in turn, then of the query (3, 4 or 5 at the first
+ * word where one of them applies, the lowest there, then 6, then 7); after these, txb_query gives 8, 18, 11, then 12, 13 or 14 as it is met while reading, and
+ * txb_rewrite, which has no query, 15, then 11. */
 enum {
     TXB_BAD_HEADER = 1,              /* policy: under 2 or over 8,192 words, a format other than 1 and 2, over 16 definitions, or the table is cut short */
     TXB_BAD_TABLE = 2,               /* policy: a table entry breaks a rule, or the parts do not end with the policy */
     TXB_BAD_WORD = 3,                /* a code, tag, count, width, name or polarity outside its rule; a fixed issuer that is a number; words that run
                                         out or are left over; a query of 0 or over 1,024 words */
-    TXB_NOT_IN_SCOPE = 4,            /* a variable not in scope, a wrong new number, a 17th variable, a definition that is not available */
+    TXB_NOT_IN_SCOPE = 4,            /* a variable not in scope, a wrong new number, a 17th variable, a definition that is not available, by its number or by
+                                        an own name */
     TXB_TOO_DEEP = 5,                /* an expression at depth 16, or a ninth draw */
     TXB_NO_POLARITY = 6,             /* a definition does not have its declared polarity, or a query has none */
     TXB_OPEN_DRAW = 7,               /* a draw from an expression that may be a complement */
@@ -110,7 +121,8 @@ enum {
     TXB_BAD_TERM = 17,               /* the certificate's end is not after its first minute */
     TXB_BAD_LINK = 18,               /* the link is not five words, or one of its keys is a number, one of its names over 65,535, or its polarity over 1; or
                                         the link store is too short or unsound */
-    TXB_LINKS_FULL = 19              /* 256 links are held and this one is new */
+    TXB_LINKS_FULL = 19,             /* 256 links are held and this one is new */
+    TXB_NOT_A_KEY = 20               /* the word given as our key is a number and not a key */
 };
 
 /* The part that a refusal is about: 0 to 15 a definition, or one of these. */
@@ -127,28 +139,31 @@ uint32_t txb_file(uint32_t *store, size_t store_words, const uint32_t *certifica
  * store, and never a word past its last link. */
 uint32_t txb_file_link(uint32_t *links, size_t links_words, const uint32_t *link, size_t link_words);
 
-/* Judges a policy and a query without a store. Returns 0 and the verdict that an answer would have, with the part TXB_NO_PART; or a refusal number from 1 to
- * 7 and its part, with the verdict TXB_NO_VERDICT. */
-uint32_t txb_judge(const uint32_t *policy, size_t policy_words, const uint32_t *query, size_t query_words, uint32_t *part, uint32_t *verdict);
+/* Judges a policy and a query without a store. Returns 0 and the verdict that an answer would have, with the part TXB_NO_PART; or a refusal number,
+ * TXB_NOT_A_KEY or one from 1 to 7, and its part, with the verdict TXB_NO_VERDICT. */
+uint32_t txb_judge(const uint32_t *policy, size_t policy_words, const uint32_t *query, size_t query_words, uint32_t our_key, uint32_t *part,
+                   uint32_t *verdict);
 
 /* Answers a query from those certificates of the store that hold at the minute, and from the links. A name is read with the certified rows of every name that
- * links of its polarity reach from it. A row counts once, however many of its certificates hold then. Returns 0, the verdict and the number of draws, with the
- * part TXB_NO_PART: the table then fills 2 + 5 * count words of the answer area, and the rest of it is unchanged. Or returns a refusal number and its part,
- * with the verdict TXB_NO_VERDICT and 0 draws: the answer area is then unchanged, and what it holds from an earlier query is no answer to this one.
- * TXB_BAD_LINK comes right after TXB_BAD_STORE, also where no name is read. The definition and scratch areas hold arbitrary words afterwards; what was in them
- * makes no difference. */
-uint32_t txb_query(const uint32_t *policy, size_t policy_words, const uint32_t *query, size_t query_words, uint32_t minute, const uint32_t *store,
-                   size_t store_words, const uint32_t *links, size_t links_words, uint32_t *answer, size_t answer_words, uint32_t *definitions,
-                   size_t definitions_words, uint32_t *scratch, size_t scratch_words, uint32_t *part, uint32_t *verdict, uint32_t *draws);
+ * links of its polarity reach from it, an own name as the set that its definition has come to. A row counts once, however many of its certificates hold then.
+ * Returns 0, the verdict and the number of draws, with the part TXB_NO_PART: the table then fills 2 + 5 * count words of the answer area, and the rest of it
+ * is unchanged. Or returns a refusal number and its part, with the verdict TXB_NO_VERDICT and 0 draws: the answer area is then unchanged, and what it holds
+ * from an earlier query is no answer to this one. TXB_NOT_A_KEY comes before all others; TXB_BAD_LINK right after TXB_BAD_STORE, also where no name is read.
+ * The definition and scratch areas hold arbitrary words afterwards; what was in them makes no difference. */
+uint32_t txb_query(const uint32_t *policy, size_t policy_words, const uint32_t *query, size_t query_words, uint32_t our_key, uint32_t minute,
+                   const uint32_t *store, size_t store_words, const uint32_t *links, size_t links_words, uint32_t *answer, size_t answer_words,
+                   uint32_t *definitions, size_t definitions_words, uint32_t *scratch, size_t scratch_words, uint32_t *part, uint32_t *verdict,
+                   uint32_t *draws);
 
 /* Rewrites an external policy, so that it relies on no list of a compromised key. In an external policy definition 0 may be the name 0, -, which lists the
  * compromised keys; every other definition is +, and none has a difference, an absent guard or code 8. Each key's list (code 4) in a later definition becomes
  * vetted (code 8, the same words, then definition 0): that list if the key's row is absent from definition 0, no rows otherwise. The keys of lists that links
- * reach from it are not vetted. Without a definition of name 0, -, the output equals the input; either way it has the same format. Queries are not rewritten.
- * Returns 0 and the output's length, with the part TXB_NO_PART: the output fills so many words of the area, and the rest of it is unchanged. Or returns a
- * refusal number and its part, with the length 0: the area is then unchanged. TXB_NOT_EXTERNAL comes after 1 to 7, TXB_SHORT_AREA after that, if the area has
- * fewer words than the output. */
-uint32_t txb_rewrite(const uint32_t *policy, size_t policy_words, uint32_t *area, size_t area_words, uint32_t *part, size_t *length);
+ * reach from it are not vetted. Own names become vetted too: they have no rows if our key is compromised. Without a definition of name 0, -, the output equals
+ * the input; either way it has the same format, and is meant for the same word as our key. Queries are not rewritten. Returns 0 and the output's length, with
+ * the part TXB_NO_PART: the output fills so many words of the area, and the rest of it is unchanged. Or returns a refusal number and its part, with the length
+ * 0: the area is then unchanged. TXB_NOT_A_KEY comes before all others, TXB_NOT_EXTERNAL after 1 to 7, TXB_SHORT_AREA after that, if the area has fewer words
+ * than the output. */
+uint32_t txb_rewrite(const uint32_t *policy, size_t policy_words, uint32_t our_key, uint32_t *area, size_t area_words, uint32_t *part, size_t *length);
 
 /* Where the words of a part stand (0 to 15 a definition, 16 the query), to show what a refusal is about. Returns how many they are. They start at the word
  * start of the policy, and of_query is 0; or they are the whole query, at any length, of_query is 1 and start 0. There are none if there is no such definition

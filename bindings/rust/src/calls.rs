@@ -1,7 +1,7 @@
 //! The nine calls of `include/txindurbe.h` over slices of words. All of this crate's unsafe code is here.
 //!
 //! Every call takes any words at all and ends: what is malformed gets its refusal number. Most portals use [`Store`](crate::Store),
-//! [`Links`](crate::Links) and [`Engine`](crate::Engine) instead.
+//! [`Links`](crate::Links) and [`Engine`](crate::Engine) instead, and a [`Policy`](crate::Policy), which keeps its words and our key together.
 
 use std::ops::Range;
 
@@ -14,6 +14,7 @@ mod c {
             policy_words: usize,
             query: *const u32,
             query_words: usize,
+            our_key: u32,
             minute: u32,
             store: *const u32,
             store_words: usize,
@@ -29,8 +30,24 @@ mod c {
             verdict: *mut u32,
             draws: *mut u32,
         ) -> u32;
-        pub fn txb_judge(policy: *const u32, policy_words: usize, query: *const u32, query_words: usize, part: *mut u32, verdict: *mut u32) -> u32;
-        pub fn txb_rewrite(policy: *const u32, policy_words: usize, area: *mut u32, area_words: usize, part: *mut u32, length: *mut usize) -> u32;
+        pub fn txb_judge(
+            policy: *const u32,
+            policy_words: usize,
+            query: *const u32,
+            query_words: usize,
+            our_key: u32,
+            part: *mut u32,
+            verdict: *mut u32,
+        ) -> u32;
+        pub fn txb_rewrite(
+            policy: *const u32,
+            policy_words: usize,
+            our_key: u32,
+            area: *mut u32,
+            area_words: usize,
+            part: *mut u32,
+            length: *mut usize,
+        ) -> u32;
         pub fn txb_part(
             policy: *const u32,
             policy_words: usize,
@@ -110,7 +127,7 @@ pub fn file_link(links: &mut [u32], link: &[u32]) -> u32 {
 }
 
 /// The answer's set is written to the front of its area.
-pub fn query(policy: &[u32], query: &[u32], minute: u32, store: &[u32], links: &[u32], lent: Lent) -> Reply {
+pub fn query(policy: &[u32], query: &[u32], our_key: u32, minute: u32, store: &[u32], links: &[u32], lent: Lent) -> Reply {
     let Lent { answer, definitions, scratch } = lent;
     let [mut part, mut verdict, mut draws] = [UNWRITTEN; 3];
     let number = unsafe {
@@ -119,6 +136,7 @@ pub fn query(policy: &[u32], query: &[u32], minute: u32, store: &[u32], links: &
             policy.len(),
             query.as_ptr(),
             query.len(),
+            our_key,
             minute,
             store.as_ptr(),
             store.len(),
@@ -138,16 +156,16 @@ pub fn query(policy: &[u32], query: &[u32], minute: u32, store: &[u32], links: &
     Reply { number, part, verdict, draws }
 }
 
-pub fn judge(policy: &[u32], query: &[u32]) -> Judgement {
+pub fn judge(policy: &[u32], query: &[u32], our_key: u32) -> Judgement {
     let [mut part, mut verdict] = [UNWRITTEN; 2];
-    let number = unsafe { c::txb_judge(policy.as_ptr(), policy.len(), query.as_ptr(), query.len(), &mut part, &mut verdict) };
+    let number = unsafe { c::txb_judge(policy.as_ptr(), policy.len(), query.as_ptr(), query.len(), our_key, &mut part, &mut verdict) };
     Judgement { number, part, verdict }
 }
 
 /// The output is written to the front of the area.
-pub fn rewrite(policy: &[u32], area: &mut [u32]) -> Rewriting {
+pub fn rewrite(policy: &[u32], our_key: u32, area: &mut [u32]) -> Rewriting {
     let (mut part, mut length) = (UNWRITTEN, UNWRITTEN_SIZE);
-    let number = unsafe { c::txb_rewrite(policy.as_ptr(), policy.len(), area.as_mut_ptr(), area.len(), &mut part, &mut length) };
+    let number = unsafe { c::txb_rewrite(policy.as_ptr(), policy.len(), our_key, area.as_mut_ptr(), area.len(), &mut part, &mut length) };
     Rewriting { number, part, length }
 }
 

@@ -29,7 +29,8 @@ impl Verdict {
 /// others. Rows are certified of a list also where [`Link`](crate::Link)s bring them from others. Whether a row belongs to a query can hang on the rows that are
 /// not certified, and the verdict says what the table promises about them. The promises are proved, and are kept as long as the links, and the certificates that
 /// hold at the minute asked for, are true. They compare answers, and at one minute: with more certificates and links a query may also come to be refused, as with
-/// too many rows, and at another minute other certificates hold, so that a table may gain rows and lose others.
+/// too many rows, and at another minute other certificates hold, so that a table may gain rows and lose others. Two policies are
+/// the same if both their words and our key are.
 #[derive(Clone, PartialEq, Eq, Debug)]
 pub enum Table {
     /// Exactly the rows that belong to the query whatever the lists have beside what is certified. Other rows may belong too. When more certificates and
@@ -69,10 +70,12 @@ impl Engine {
         Engine { answer: vec![0; ANSWER_WORDS], definitions: vec![0; DEFINITIONS_WORDS], scratch: vec![0; SCRATCH_WORDS] }
     }
 
-    /// From the certificates that hold at the minute, and from the links. A row counts once, however many of its certificates hold then.
+    /// From the certificates that hold at the minute, and from the links; own names from the definitions, by the policy's [`our_key`](Policy::our_key). A row
+    /// counts once, however many of its certificates hold then.
     pub fn query(&mut self, policy: &Policy, query: &Query, minute: Minute, store: &Store, links: &Links) -> Result<Answer, Refusal> {
         let Engine { answer, definitions, scratch } = self;
-        let reply = calls::query(policy.words(), query.words(), minute.number(), store.words(), links.words(), Lent { answer, definitions, scratch });
+        let lent = Lent { answer, definitions, scratch };
+        let reply = calls::query(policy.words(), query.words(), policy.our_key(), minute.number(), store.words(), links.words(), lent);
         let verdict = Verdict::from_numbers(reply.number, reply.part, reply.verdict)?;
         let rows = Rows::from_words(answer);
         let table = match verdict {

@@ -53,12 +53,12 @@ impl Expression {
     }
 
     /// A key's list. With certificates for some of its rows alone, its own or those that [`Link`](crate::Link)s bring, + reads as those rows, − as all rows but
-    /// those.
+    /// those. Under our key it is an own name, and stands for the definition of that name and polarity: see [`Policy`](crate::Policy).
     pub fn list(key: u32, name: u16, polarity: Polarity) -> Expression {
         Expression::list_of(Term::Atom(key), name, polarity)
     }
 
-    /// The list of a key that a variable holds.
+    /// The list of a key that a variable holds. If it holds our key, certificates and links are read as with any other.
     pub fn list_of(issuer: Term, name: u16, polarity: Polarity) -> Expression {
         let mut words = vec![4];
         term(issuer, &mut words);
@@ -68,7 +68,7 @@ impl Expression {
 
     /// A key's + list if the key, as a row of one atom, is absent from a definition of compromised keys, no rows otherwise. The definition must be declared −:
     /// where it is read from a − list, each key counts as compromised until it is certified not to be. [`Policy::rewrite`](crate::Policy::rewrite) writes this
-    /// for a policy's lists.
+    /// for a policy's lists. Under our key it is the + definition of that name, if our key is absent, no rows otherwise; it is open where that definition is.
     pub fn vetted_list(key: u32, name: u16, compromised: u32) -> Expression {
         Expression::vetted_list_of(Term::Atom(key), name, compromised)
     }

@@ -7,7 +7,8 @@
 //! - [`Rows`]: no set lists over 128 rows, and what would is refused;
 //! - [`Validity`]: a certificate is read only while its term lasts;
 //! - [`Link`]: what is certified of one list may count for others;
-//! - [`Format`]: whether a policy matches rows that are wider than its patterns.
+//! - [`Format`]: whether a policy matches rows that are wider than its patterns;
+//! - [`Policy`]: names under our own key stand for the policy's definitions.
 //!
 //! ```
 //! use txindurbe::{
@@ -15,8 +16,10 @@
 //!     Validity,
 //! };
 //!
+//! const OUR_KEY: u32 = key(9);
 //! const RELEASED: u16 = 1;
 //! const WITHDRAWN: u16 = 2;
+//! const PUBLIC: u16 = 10;
 //!
 //! fn main() -> Result<(), txindurbe::Refusal> {
 //!     let (observatory, partner) = (key(1), key(2));
@@ -41,12 +44,12 @@
 //!         ],
 //!         &[x],
 //!     );
-//!     let policy = Policy::new(&[Definition { name: 10, polarity: Polarity::Plus, expression: public }]);
+//!     let policy = Policy::new(OUR_KEY, &[Definition { name: PUBLIC, polarity: Polarity::Plus, expression: public }]);
 //!
-//!     // An astronomer's search, in March.
+//!     // An astronomer's search for what is public, an own name, in March.
 //!     let now = Minute::from_date(Date::day(2027, 3, 20))?;
 //!     let mut engine = Engine::new();
-//!     let answer = engine.query(&policy, &Query::new(&Expression::definition(0)), now, &store, &links)?;
+//!     let answer = engine.query(&policy, &Query::new(&Expression::list(OUR_KEY, PUBLIC, Polarity::Plus)), now, &store, &links)?;
 //!     assert!(answer.table.rows().contains(observation));
 //!     match answer.table {
 //!         Table::Lower(rows) => println!("these rows, whatever is in the lists that we do not hold: {rows:?}"),

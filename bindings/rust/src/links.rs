@@ -8,7 +8,8 @@ use crate::{calls, Filing, Polarity, Refusal};
 /// With + the first list contains the other, with − it is contained in the other. Either way, what is certified of the other list is so of the first one: + lists
 /// gain rows by links, − lists lose them. So it goes on along any number of links, circles too. A link has no term: it holds at every minute.
 ///
-/// [`vetted_list`](crate::Expression::vetted_list) vets the key of the list that it names, and none of those that links reach from it.
+/// [`vetted_list`](crate::Expression::vetted_list) vets the key of the list that it names, and none of those that links reach from it. An own name of a
+/// [`Policy`](crate::Policy) has no links: those of our key's lists are followed from other lists, and from a variable that holds our key.
 #[derive(Clone, Copy, PartialEq, Eq, PartialOrd, Ord, Hash, Debug)]
 pub struct Link {
     pub key: u32,

@@ -16,7 +16,7 @@ pub struct Definition {
 /// [`vetted_list`](Expression::vetted_list) is vetted, are whole rows in both.
 ///
 /// ```
-/// use txindurbe::{Engine, Expression, Format, Guard, Links, Minute, Policy, Query, Row, Rows, Slot, Store, Table, Term};
+/// use txindurbe::{key, Engine, Expression, Format, Guard, Links, Minute, Policy, Query, Row, Rows, Slot, Store, Table, Term};
 ///
 /// fn main() -> Result<(), txindurbe::Refusal> {
 ///     // Each x of these observations, one of which has an epoch.
@@ -24,8 +24,8 @@ pub struct Definition {
 ///     let query = Query::new(&Expression::each(&[Guard::Draw(observations, vec![Slot::New(0)])], &[Term::Variable(0)]));
 ///
 ///     let ask = |policy| Engine::new().query(&policy, &query, Minute::new(0), &Store::new(), &Links::new());
-///     let equal = ask(Policy::in_format(Format::EqualWidths, &[]))?;
-///     let wider = ask(Policy::in_format(Format::WiderRows, &[]))?;
+///     let equal = ask(Policy::in_format(key(9), Format::EqualWidths, &[]))?;
+///     let wider = ask(Policy::in_format(key(9), Format::WiderRows, &[]))?;
 ///     assert_eq!(equal.table, Table::Exact(Rows::Only(vec![Row::from([7])])));
 ///     assert_eq!(wider.table, Table::Exact(Rows::Only(vec![Row::from([7]), Row::from([8])])));
 ///     assert_eq!((equal.draws, wider.draws), (2, 2));
@@ -51,20 +51,51 @@ impl Format {
     }
 }
 
-/// A policy's words: its [`Format`], a table of definitions, then each one's expression.
+/// A policy's words, and our key. The words are its [`Format`], a table of definitions, then each one's expression.
+///
+/// Our key is the archive's own. Curators write it before their own names: a [`list`](Expression::list) under our key, an own name, stands for the definition
+/// of that name and polarity. The definition must be available there, which those before it are, and in a query any; else the refusal is
+/// [`NotInScope`](crate::RefusalKind::NotInScope). An own name has the definition's rows, whatever is certified or linked under our key, and may be drawn from
+/// where the definition may: also under −, if that is not open. The key that a [`list_of`](Expression::list_of) finds in a variable is never read as ours.
+///
+/// Judging, rewriting and asking take our key from the policy, so that no two are mixed. A number is refused as [`NotAKey`](crate::RefusalKind::NotAKey),
+/// before all else.
+///
+/// ```
+/// use txindurbe::{key, Definition, Engine, Expression, Links, Minute, Polarity, Policy, Query, Row, Rows, Store, Table, Term};
+///
+/// const OUR_KEY: u32 = key(9);
+/// const PUBLIC: u16 = 10;
+///
+/// fn main() -> Result<(), txindurbe::Refusal> {
+///     let observation = Expression::rows(&[&[Term::Atom(7)]]);
+///     let policy = Policy::new(OUR_KEY, &[Definition { name: PUBLIC, polarity: Polarity::Plus, expression: observation }]);
+///     let public = |key, polarity| Query::new(&Expression::list(key, PUBLIC, polarity));
+///
+///     // Ours is the definition; another key's is what that key certified, here nothing.
+///     let ask = |query| Engine::new().query(&policy, &query, Minute::new(0), &Store::new(), &Links::new());
+///     assert_eq!(ask(public(OUR_KEY, Polarity::Plus))?.table, Table::Lower(Rows::Only(vec![Row::from([7])])));
+///     assert_eq!(ask(public(key(1), Polarity::Plus))?.table, Table::Lower(Rows::Only(vec![])));
+///
+///     // With − the name is another one, which is not defined.
+///     assert_eq!(policy.judge(&public(OUR_KEY, Polarity::Minus)).unwrap_err().number(), 4);
+///     Ok(())
+/// }
+/// ```
 #[derive(Clone, PartialEq, Eq, Debug)]
 pub struct Policy {
+    our_key: u32,
     words: Vec<u32>,
 }
 
 impl Policy {
     /// In format 1, [`Format::EqualWidths`].
-    pub fn new(definitions: &[Definition]) -> Policy {
-        Policy::in_format(Format::EqualWidths, definitions)
+    pub fn new(our_key: u32, definitions: &[Definition]) -> Policy {
+        Policy::in_format(our_key, Format::EqualWidths, definitions)
     }
 
     /// In either format. The same definitions may have other rows in the other one: where rows are wider than the patterns that draw them.
-    pub fn in_format(format: Format, definitions: &[Definition]) -> Policy {
+    pub fn in_format(our_key: u32, format: Format, definitions: &[Definition]) -> Policy {
         let mut words = vec![format as u32, definitions.len() as u32];
         let mut offset = 2 + 4 * definitions.len() as u32;
         for Definition { name, polarity, expression } in definitions {
@@ -73,14 +104,19 @@ impl Policy {
             offset += length;
         }
         words.extend(definitions.iter().flat_map(|definition| definition.expression.words()));
-        Policy { words }
+        Policy { our_key, words }
     }
 
     /// Any words at all; the engine refuses what is malformed.
-    pub fn from_words(words: Vec<u32>) -> Policy {
-        Policy { words }
+    pub fn from_words(our_key: u32, words: Vec<u32>) -> Policy {
+        Policy { our_key, words }
     }
 
+    pub fn our_key(&self) -> u32 {
+        self.our_key
+    }
+
+    /// Without our key, which is kept apart.
     pub fn words(&self) -> &[u32] {
         &self.words
     }
@@ -89,11 +125,11 @@ impl Policy {
     /// [`BadHeader`](crate::RefusalKind::BadHeader).
     ///
     /// ```
-    /// use txindurbe::{Format, Policy};
+    /// use txindurbe::{key, Format, Policy};
     ///
-    /// assert_eq!(Policy::new(&[]).format(), Some(Format::EqualWidths));
-    /// assert_eq!(Policy::from_words(vec![2, 0]).format(), Some(Format::WiderRows));
-    /// assert_eq!(Policy::from_words(vec![3, 0]).format(), None);
+    /// assert_eq!(Policy::new(key(9), &[]).format(), Some(Format::EqualWidths));
+    /// assert_eq!(Policy::from_words(key(9), vec![2, 0]).format(), Some(Format::WiderRows));
+    /// assert_eq!(Policy::from_words(key(9), vec![3, 0]).format(), None);
     /// ```
     pub fn format(&self) -> Option<Format> {
         self.words.first().copied().and_then(Format::from_number)
@@ -101,24 +137,24 @@ impl Policy {
 
     /// The verdict that an answer to this query has, whatever the store; or the refusal that it would get with any.
     pub fn judge(&self, query: &Query) -> Result<Verdict, Refusal> {
-        let judgement = calls::judge(&self.words, query.words());
+        let judgement = calls::judge(&self.words, query.words(), self.our_key);
         Verdict::from_numbers(judgement.number, judgement.part, judgement.verdict)
     }
 
     /// An external policy rewritten, so that it relies on no list of a compromised key.
     ///
     /// In an external policy definition 0 may be the name 0, −, which lists the compromised keys. Every other definition is +, and none has a difference, an
-    /// absent guard or a [`vetted_list`](Expression::vetted_list). Each [`list`](Expression::list) in a later definition becomes vetted by definition 0.
-    /// Without a definition of name 0, −, the output equals this policy; either way it has the same [`Format`]. A query is not rewritten: it asks for the
-    /// definitions, or for lists as it names them.
+    /// absent guard or a [`vetted_list`](Expression::vetted_list). Each [`list`](Expression::list) in a later definition becomes vetted by definition 0, own
+    /// names too: they have no rows if our key is compromised. Without a definition of name 0, −, the output equals this policy; either way it has the same
+    /// [`Format`] and our key. A query is not rewritten: it asks for the definitions, or for lists as it names them.
     pub fn rewrite(&self) -> Result<Policy, Refusal> {
         let mut words = vec![0; POLICY_WORDS];
-        let rewriting = calls::rewrite(&self.words, &mut words);
+        let rewriting = calls::rewrite(&self.words, self.our_key, &mut words);
         if rewriting.number > 0 {
             return Err(Refusal::from_number(rewriting.number, Part::from_number(rewriting.part)));
         }
         words.truncate(rewriting.length);
-        Ok(Policy { words })
+        Ok(Policy { our_key: self.our_key, words })
     }
 
     /// The words of the definition or query that a refusal is about; none if there is no such definition or the policy's table is broken.
@@ -156,24 +192,36 @@ impl Query {
 #[cfg(test)]
 mod tests {
     use super::*;
-    use crate::Term;
+    use crate::{key, Term};
 
     #[test]
     fn a_policy_says_its_format_in_word_0() {
         let definitions = [Definition { name: 10, polarity: Polarity::Plus, expression: Expression::rows(&[&[Term::Atom(7)]]) }];
         for (format, word) in [(Format::EqualWidths, 1), (Format::WiderRows, 2)] {
-            let policy = Policy::in_format(format, &definitions);
+            let policy = Policy::in_format(key(9), format, &definitions);
             assert_eq!(policy.words(), [word, 1, 10, 0, 6, 5, 1, 1, 1, 0, 7]);
             assert_eq!(policy.format(), Some(format));
         }
-        assert_eq!(Policy::new(&definitions), Policy::in_format(Format::EqualWidths, &definitions));
+        assert_eq!(Policy::new(key(9), &definitions), Policy::in_format(key(9), Format::EqualWidths, &definitions));
+    }
+
+    #[test]
+    fn a_policy_keeps_our_key_beside_its_words() {
+        for our_key in [key(0), key(9), u32::MAX, 5] {
+            let made = [Policy::new(our_key, &[]), Policy::in_format(our_key, Format::EqualWidths, &[]), Policy::from_words(our_key, vec![1, 0])];
+            for policy in made {
+                assert_eq!((policy.our_key(), policy.words()), (our_key, &[1, 0][..]));
+                // the same words with another key are another policy
+                assert_ne!(policy, Policy::from_words(key(8), vec![1, 0]));
+            }
+        }
     }
 
     #[test]
     fn words_that_have_no_format() {
-        assert_eq!(Policy::from_words(vec![]).format(), None);
+        assert_eq!(Policy::from_words(key(9), vec![]).format(), None);
         for word in [0, 3, 1 << 16, 1 << 31, u32::MAX] {
-            assert_eq!(Policy::from_words(vec![word, 0]).format(), None, "{word}");
+            assert_eq!(Policy::from_words(key(9), vec![word, 0]).format(), None, "{word}");
         }
     }
 

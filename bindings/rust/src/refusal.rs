@@ -77,6 +77,7 @@ refusal_table! {
     BadTerm = 17, "the certificate's end is not after its first minute";
     BadLink = 18, "the link is malformed, or the link store too short or unsound";
     LinksFull = 19, "the link store holds 256 links and this one is new";
+    NotAKey = 20, "the number given as our key is not a key";
 }
 
 impl RefusalKind {

@@ -7,6 +7,8 @@ use txindurbe::{
     Store, Table, Term, Validity,
 };
 
+/// No list that is read here is under it.
+const OUR_KEY: u32 = key(9);
 const ALICE: u32 = key(1);
 const OBSERVATORY: u32 = key(2);
 const COMPROMISED: u16 = 0;
@@ -52,18 +54,18 @@ fn refused(kind: RefusalKind) -> Result<Policy, Refusal> {
 #[test]
 fn each_list_of_a_later_definition_is_vetted() {
     let (k1, k2) = (ALICE, OBSERVATORY);
-    let policy = Policy::new(&[compromised(), public(released())]);
+    let policy = Policy::new(OUR_KEY, &[compromised(), public(released())]);
     assert_eq!(policy.words(), [1, 2, 0, 1, 10, 5, 10, 0, 15, 5, 4, 0, k1, 0, 1, 4, 0, k2, 1, 0]);
     let rewritten = policy.rewrite().unwrap();
     assert_eq!(rewritten.words(), [1, 2, 0, 1, 10, 5, 10, 0, 15, 6, 4, 0, k1, 0, 1, 8, 0, k2, 1, 0, 0]);
-    assert_eq!(rewritten, Policy::new(&[compromised(), public(Expression::vetted_list(k2, RELEASED, 0))]));
+    assert_eq!(rewritten, Policy::new(OUR_KEY, &[compromised(), public(Expression::vetted_list(k2, RELEASED, 0))]));
     // it is external no longer
     assert_eq!(rewritten.rewrite(), refused(RefusalKind::NotExternal));
 }
 
 #[test]
 fn a_key_is_relied_on_once_it_is_certified_not_to_be_compromised() {
-    let policy = Policy::new(&[compromised(), public(released())]);
+    let policy = Policy::new(OUR_KEY, &[compromised(), public(released())]);
     let rewritten = policy.rewrite().unwrap();
     let mut store = Store::new();
     store.file(&Certificate::listed(OBSERVATORY, RELEASED, [7], TERM)).unwrap();
@@ -83,9 +85,9 @@ fn variable_issuers_are_vetted_one_by_one() {
     let lists = delegated(trusted(), |observatory| Expression::list_of(observatory, RELEASED, Polarity::Plus));
     let vetted = delegated(Expression::vetted_list(ALICE, TRUSTED, 0), |observatory| Expression::vetted_list_of(observatory, RELEASED, 0));
     let known = Definition { expression: Expression::rows(&[&[Term::Atom(key(3))]]), ..compromised() };
-    let policy = Policy::new(&[known.clone(), public(lists)]);
+    let policy = Policy::new(OUR_KEY, &[known.clone(), public(lists)]);
     let rewritten = policy.rewrite().unwrap();
-    assert_eq!(rewritten, Policy::new(&[known, public(vetted)]));
+    assert_eq!(rewritten, Policy::new(OUR_KEY, &[known, public(vetted)]));
     let mut store = Store::new();
     // a number that Alice trusts has no list
     for trusted in [key(2), key(3), 5] {
@@ -99,7 +101,8 @@ fn variable_issuers_are_vetted_one_by_one() {
 
 #[test]
 fn without_compromised_keys_the_output_equals_the_input() {
-    for policy in [Policy::new(&[]), Policy::new(&[public(released())]), Policy::new(&[Definition { name: 0, ..public(released()) }])] {
+    for definitions in [vec![], vec![public(released())], vec![Definition { name: 0, ..public(released()) }]] {
+        let policy = Policy::new(OUR_KEY, &definitions);
         assert_eq!(policy.rewrite(), Ok(policy));
     }
 }
@@ -119,23 +122,23 @@ fn broken_external_rules_are_refused() {
         vec![public(released()), compromised()],
     ];
     for definitions in broken {
-        assert_eq!(Policy::new(&definitions).rewrite(), refused(RefusalKind::NotExternal), "{definitions:?}");
+        assert_eq!(Policy::new(OUR_KEY, &definitions).rewrite(), refused(RefusalKind::NotExternal), "{definitions:?}");
     }
     // what is refused anyhow comes first, with its part
     let open = Expression::each(&[Guard::Draw(Expression::all_but(&[]), vec![Slot::New(0)])], seven);
     let refusal = Refusal { kind: RefusalKind::OpenDraw, part: Some(Part::Definition(1)) };
-    assert_eq!(Policy::new(&[Definition { name: 1, ..compromised() }, public(open)]).rewrite(), Err(refusal));
-    assert_eq!(Policy::from_words(vec![3, 0]).rewrite(), refused(RefusalKind::BadHeader));
+    assert_eq!(Policy::new(OUR_KEY, &[Definition { name: 1, ..compromised() }, public(open)]).rewrite(), Err(refusal));
+    assert_eq!(Policy::from_words(OUR_KEY, vec![3, 0]).rewrite(), refused(RefusalKind::BadHeader));
 }
 
 #[test]
 fn a_short_area_stays_and_so_do_words_past_the_output() {
-    let policy = Policy::new(&[compromised(), public(released())]);
+    let policy = Policy::new(OUR_KEY, &[compromised(), public(released())]);
     let mut area = [9; 22];
-    assert_eq!(calls::rewrite(policy.words(), &mut area[..20]), Rewriting { number: 11, part: 17, length: 0 });
+    assert_eq!(calls::rewrite(policy.words(), OUR_KEY, &mut area[..20]), Rewriting { number: 11, part: 17, length: 0 });
     assert_eq!(area, [9; 22]);
-    assert_eq!(calls::rewrite(policy.words(), &mut area[..21]), Rewriting { number: 0, part: 17, length: 21 });
+    assert_eq!(calls::rewrite(policy.words(), OUR_KEY, &mut area[..21]), Rewriting { number: 0, part: 17, length: 21 });
     assert_eq!(area[..21], *policy.rewrite().unwrap().words());
-    assert_eq!(calls::rewrite(&[1, 0], &mut area), Rewriting { number: 0, part: 17, length: 2 });
+    assert_eq!(calls::rewrite(&[1, 0], OUR_KEY, &mut area), Rewriting { number: 0, part: 17, length: 2 });
     assert_eq!((&area[..3], area[21]), (&[1, 0, 0][..], 9));
 }

@@ -6,6 +6,8 @@ use txindurbe::{
     RefusalKind, Row, Rows, Slot, Store, Table, Term, Validity, Verdict,
 };
 
+/// No list that is read here is under it.
+const OUR_KEY: u32 = key(9);
 const ALICE: u32 = key(1);
 const OBSERVATORY: u32 = key(2);
 const PARTNER: u32 = key(3);
@@ -79,7 +81,7 @@ fn under(policy: &Policy, query: &Expression, store: &Store, links: &Links) -> (
 
 /// Those under these definitions in format 1, then in format 2.
 fn in_both(definitions: &[Definition], query: &Expression, store: &Store) -> [(Vec<Row>, u32); 2] {
-    FORMATS.map(|format| under(&Policy::in_format(format, definitions), query, store, &Links::new()))
+    FORMATS.map(|format| under(&Policy::in_format(OUR_KEY, format, definitions), query, store, &Links::new()))
 }
 
 /// The rows alone.
@@ -145,7 +147,7 @@ fn rows_that_links_bring_are_matched_alike() {
     let store = store_of([is_released([7]), Certificate::listed(PARTNER, RELEASED, [8, EPOCH], TERM)]);
     let mut links = Links::new();
     assert_eq!(links.file(&Link::containing(OBSERVATORY, RELEASED, PARTNER, RELEASED)), Ok(Filing::Filed));
-    let public = FORMATS.map(|format| under(&Policy::in_format(format, &[]), &each_x(released()), &store, &links));
+    let public = FORMATS.map(|format| under(&Policy::in_format(OUR_KEY, format, &[]), &each_x(released()), &store, &links));
     assert_eq!(public, [(rows([[7]]), 2), (rows([[7], [8]]), 2)]);
 }
 
@@ -199,6 +201,7 @@ fn delegation(format: Format) -> Policy {
         Guard::Draw(Expression::list_of(X, RELEASED, Polarity::Plus), vec![Slot::New(1)]),
     ];
     Policy::in_format(
+        OUR_KEY,
         format,
         &[
             Definition { name: COMPROMISED, polarity: Polarity::Minus, expression: Expression::list(ALICE, COMPROMISED, Polarity::Minus) },
@@ -220,9 +223,10 @@ fn a_rewritten_policy_keeps_its_format() {
         assert_eq!(rewritten.words(), expected);
         assert_eq!(rewritten.format(), Some(format));
         // without compromised keys the output equals the input
-        let unchanged = Policy::in_format(format, &[Definition { name: PUBLIC, polarity: Polarity::Plus, expression: each_x(released_by_both()) }]);
+        let unchanged =
+            Policy::in_format(OUR_KEY, format, &[Definition { name: PUBLIC, polarity: Polarity::Plus, expression: each_x(released_by_both()) }]);
         assert_eq!(unchanged.rewrite(), Ok(unchanged));
-        assert_eq!(Policy::in_format(format, &[]).rewrite(), Ok(Policy::in_format(format, &[])));
+        assert_eq!(Policy::in_format(OUR_KEY, format, &[]).rewrite(), Ok(Policy::in_format(OUR_KEY, format, &[])));
     }
 }
 
@@ -245,7 +249,7 @@ fn the_words_of_a_part_stand_where_they_stood() {
     let definition = |name, expression: &Expression| Definition { name, polarity: Polarity::Plus, expression: expression.clone() };
     let (first, second) = (each_x(released()), released_by_both());
     for format in FORMATS {
-        let policy = Policy::in_format(format, &[definition(1, &first), definition(2, &second)]);
+        let policy = Policy::in_format(OUR_KEY, format, &[definition(1, &first), definition(2, &second)]);
         assert_eq!(policy.part(&query, Part::Definition(0)), first.words());
         assert_eq!(policy.part(&query, Part::Definition(1)), second.words());
         assert_eq!(policy.part(&query, Part::Definition(2)), []);
@@ -264,7 +268,7 @@ fn other_formats_are_refused() {
     for word in [0, 3, 257, 258, 65_537, 65_538, key(1), key(2), u32::MAX] {
         let mut words = delegation(Format::WiderRows).words().to_vec();
         words[0] = word;
-        for policy in [Policy::from_words(vec![word, 0]), Policy::from_words(words)] {
+        for policy in [Policy::from_words(OUR_KEY, vec![word, 0]), Policy::from_words(OUR_KEY, words)] {
             assert_eq!(policy.format(), None);
             assert_eq!(policy.judge(&query), refused(RefusalKind::BadHeader), "{word}");
             assert_eq!(Engine::new().query(&policy, &query, NOW, &Store::new(), &Links::new()), refused(RefusalKind::BadHeader), "{word}");
@@ -275,13 +279,13 @@ fn other_formats_are_refused() {
         }
     }
     let meaning = "the policy is under 2 or over 8,192 words, has a format other than 1 and 2 or over 16 definitions, or its table is cut short";
-    assert_eq!(Policy::from_words(vec![3, 0]).judge(&query).unwrap_err().to_string(), format!("refusal 1: {meaning}"));
+    assert_eq!(Policy::from_words(OUR_KEY, vec![3, 0]).judge(&query).unwrap_err().to_string(), format!("refusal 1: {meaning}"));
 }
 
 #[test]
 fn format_2_keeps_the_other_rules_of_a_policys_words() {
     let query = Query::new(&Expression::rows(&[]));
-    let judge = |words: &[u32]| Policy::from_words(words.to_vec()).judge(&query);
+    let judge = |words: &[u32]| Policy::from_words(OUR_KEY, words.to_vec()).judge(&query);
     assert_eq!(judge(&[2, 0]), Ok(Verdict::Exact));
     assert_eq!(judge(&[2, 1, 10, 0, 6, 2, 1, 0]), Ok(Verdict::Exact));
     for words in [&[2][..], &[2, 17], &[2, 1, 10, 0, 6], &[2; 8_193]] {
@@ -293,5 +297,5 @@ fn format_2_keeps_the_other_rules_of_a_policys_words() {
     // nor may a list of which certificates say what is not in it be drawn from
     let open = Query::new(&each_x(withdrawn()));
     let refusal = Refusal { kind: RefusalKind::OpenDraw, part: Some(Part::Query) };
-    assert_eq!(Policy::in_format(Format::WiderRows, &[]).judge(&open), Err(refusal));
+    assert_eq!(Policy::in_format(OUR_KEY, Format::WiderRows, &[]).judge(&open), Err(refusal));
 }

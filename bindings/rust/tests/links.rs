@@ -8,6 +8,8 @@ use txindurbe::{
     Slot, Store, Table, Term, Validity,
 };
 
+/// No list that is read here is under it.
+const OUR_KEY: u32 = key(9);
 const K1: u32 = key(1);
 const K2: u32 = key(2);
 const K3: u32 = key(3);
@@ -38,7 +40,7 @@ fn links_of(links: impl IntoIterator<Item = Link>) -> Links {
 
 /// What is asked for at the minute, under a policy without definitions.
 fn ask(expression: &Expression, store: &Store, links: &Links) -> Result<Table, Refusal> {
-    let answer = Engine::new().query(&Policy::new(&[]), &Query::new(expression), NOW, store, links)?;
+    let answer = Engine::new().query(&Policy::new(OUR_KEY, &[]), &Query::new(expression), NOW, store, links)?;
     Ok(answer.table)
 }
 
@@ -104,7 +106,7 @@ fn vetting_asks_for_the_issuer_alone() {
     let store = store_of([(K1, 7), (K2, 8)].map(|(key, atom)| Certificate::listed(key, RELEASED, [atom], TERM)));
     let links = links_of([Link::containing(K1, RELEASED, K2, RELEASED)]);
     let compromised = Definition { name: 0, polarity: Polarity::Minus, expression: Expression::rows(&[&[Term::Atom(K2)]]) };
-    let policy = Policy::new(&[compromised]);
+    let policy = Policy::new(OUR_KEY, &[compromised]);
     let vetted = |key| {
         let query = Query::new(&Expression::vetted_list(key, RELEASED, 0));
         atoms(Engine::new().query(&policy, &query, NOW, &store, &links).unwrap().table.rows())
@@ -202,7 +204,7 @@ fn an_unsound_link_store_is_refused_right_after_an_unsound_store() {
 fn number_with_a_short_area(links: &[u32]) -> u32 {
     let [mut answer, mut definitions, mut scratch] = [ANSWER_WORDS - 1, DEFINITIONS_WORDS, SCRATCH_WORDS].map(|length| vec![9; length]);
     let lent = Lent { answer: &mut answer, definitions: &mut definitions, scratch: &mut scratch };
-    let reply = calls::query(&[1, 0], &[1, 0], 0, Store::new().words(), links, lent);
+    let reply = calls::query(&[1, 0], &[1, 0], OUR_KEY, 0, Store::new().words(), links, lent);
     assert_eq!((reply.part, reply.verdict, reply.draws), (17, 3, 0));
     assert_eq!(answer, [9; ANSWER_WORDS - 1]);
     reply.number

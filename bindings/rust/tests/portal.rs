@@ -1,5 +1,5 @@
-//! Document 01's portal cases through the safe types, at minute 0, their certificates holding from 0 to 1, as document 02's N4 asks. They link the compiled
-//! library: `rt staticlib capi` first.
+//! Document 01's portal cases through the safe types, at minute 0, their certificates holding from 0 to 1, as document 02's N4 asks, and with k2 as our key, as
+//! its N7 asks. They link the compiled library: `rt staticlib capi` first.
 
 use txindurbe::{
     key, Certificate, Definition, Engine, Expression, Filing, Guard, Links, Minute, Part, Polarity, Policy, Query, Refusal, RefusalKind, Row, Rows,
@@ -9,6 +9,7 @@ use txindurbe::{
 const RELEASED: u16 = 1;
 const WITHDRAWN: u16 = 2;
 const OBSERVATORY: u32 = key(1);
+const OUR_KEY: u32 = key(2);
 const X: Term = Term::Variable(0);
 const NOW: Minute = Minute::new(0);
 const TERM: Validity = Validity { first: NOW, end: Minute::new(1) };
@@ -21,7 +22,7 @@ fn withdrawn() -> Expression {
 fn released_and_not_withdrawn() -> Policy {
     let released = Expression::list(OBSERVATORY, RELEASED, Polarity::Plus);
     let expression = Expression::each(&[Guard::Draw(released, vec![Slot::New(0)]), Guard::Absent(vec![X], withdrawn())], &[X]);
-    Policy::new(&[Definition { name: 10, polarity: Polarity::Plus, expression }])
+    Policy::new(OUR_KEY, &[Definition { name: 10, polarity: Polarity::Plus, expression }])
 }
 
 /// The rows certified of a name, if each has the one term.
@@ -72,7 +73,7 @@ fn rows_of_one_observation_are_side_by_side() {
     }
     assert_eq!(certified(&store, RELEASED, Polarity::Plus), ascending);
     let query = Query::new(&Expression::list(OBSERVATORY, RELEASED, Polarity::Plus));
-    let ask = |store: &Store| Engine::new().query(&Policy::new(&[]), &query, NOW, store, &Links::new()).map(|answer| answer.table);
+    let ask = |store: &Store| Engine::new().query(&Policy::new(OUR_KEY, &[]), &query, NOW, store, &Links::new()).map(|answer| answer.table);
     let table = ask(&store).unwrap();
     assert_eq!(table, Table::Lower(Rows::Only(ascending.to_vec())));
     assert!(ascending.iter().all(|row| table.rows().contains(*row)));
@@ -101,7 +102,7 @@ fn verdicts_without_a_store() {
 fn complements_are_exact() {
     let (seven, eight): (&[Term], &[Term]) = (&[Term::Atom(7)], &[Term::Atom(8)]);
     let query = Query::new(&Expression::all_but(&[seven, eight]).union(Expression::rows(&[eight])));
-    let answer = Engine::new().query(&Policy::new(&[]), &query, NOW, &Store::new(), &Links::new()).unwrap();
+    let answer = Engine::new().query(&Policy::new(OUR_KEY, &[]), &query, NOW, &Store::new(), &Links::new()).unwrap();
     assert_eq!(answer.table, Table::Exact(Rows::AllBut(rows([7]))));
     assert!(answer.table.rows().contains([8]) && !answer.table.rows().contains([7]));
 }
@@ -109,7 +110,7 @@ fn complements_are_exact() {
 #[test]
 fn refusals_say_where_and_why() {
     let from_open = Expression::each(&[Guard::Draw(withdrawn(), vec![Slot::New(0)])], &[X]);
-    let policy = Policy::new(&[Definition { name: 1, polarity: Polarity::Minus, expression: from_open.clone() }]);
+    let policy = Policy::new(OUR_KEY, &[Definition { name: 1, polarity: Polarity::Minus, expression: from_open.clone() }]);
     let query = Query::new(&Expression::rows(&[]));
     let refusal = Engine::new().query(&policy, &query, NOW, &Store::new(), &Links::new()).unwrap_err();
     assert_eq!(refusal, Refusal { kind: RefusalKind::OpenDraw, part: Some(Part::Definition(0)) });
@@ -119,7 +120,7 @@ fn refusals_say_where_and_why() {
     assert_eq!(policy.part(&query, Part::Definition(1)), []);
 
     let broken = Store::from_words(vec![3; 5]);
-    let refusal = Engine::new().query(&Policy::new(&[]), &query, NOW, &broken, &Links::new()).unwrap_err();
+    let refusal = Engine::new().query(&Policy::new(OUR_KEY, &[]), &query, NOW, &broken, &Links::new()).unwrap_err();
     assert_eq!(refusal, Refusal { kind: RefusalKind::BadStore, part: None });
     assert_eq!(Store::new().file_words(&[1, 2, 3]), Err(Refusal { kind: RefusalKind::BadCertificate, part: None }));
 }

@@ -7,6 +7,8 @@ use txindurbe::{
     Validity,
 };
 
+/// No list that is read here is under it.
+const OUR_KEY: u32 = key(9);
 const OBSERVATORY: u32 = key(1);
 const RELEASED: u16 = 1;
 
@@ -25,7 +27,8 @@ fn refused<T>(kind: RefusalKind) -> Result<T, Refusal> {
 /// What is released, at least.
 fn at_least(store: &Store, minute: u32) -> Result<Vec<Row>, RefusalKind> {
     let query = Query::new(&Expression::list(OBSERVATORY, RELEASED, Polarity::Plus));
-    let answer = Engine::new().query(&Policy::new(&[]), &query, Minute::new(minute), store, &Links::new()).map_err(|refusal| refusal.kind)?;
+    let answer =
+        Engine::new().query(&Policy::new(OUR_KEY, &[]), &query, Minute::new(minute), store, &Links::new()).map_err(|refusal| refusal.kind)?;
     match answer.table {
         Table::Lower(Rows::Only(rows)) => Ok(rows),
         table => panic!("{table:?}"),

@@ -61,12 +61,12 @@ unfolding rewrittenFor handRewriting
 refusal-handed (rewritten out) r is n part e = impossible cc
 refusal-handed (External.refused m p) r is n part e = cc
 
-module _ (policy area : List ℕ) {r : Rewritten} {left : List ℕ} (h : (r ≡ rewrittenFor (rewriteInto policy area)) × (left ≡ areaAfter (rewriteInto policy area) area)) where
-  pub hands-length : (n : ℕ) → r ≡ rewrittenReply.Length n → RewrittenInto policy area (record { number = noRefusal; part = noPart; size = n }) left
-  hands-length n e = record { reply = length-handed (rewriteInto policy area) r (h .0) n e; words = h .1 }
+module _ (ours : ℕ) (policy area : List ℕ) {r : Rewritten} {left : List ℕ} (h : (r ≡ rewrittenFor (rewriteInto ours policy area)) × (left ≡ areaAfter (rewriteInto ours policy area) area)) where
+  pub hands-length : (n : ℕ) → r ≡ rewrittenReply.Length n → RewrittenInto ours policy area (record { number = noRefusal; part = noPart; size = n }) left
+  hands-length n e = record { reply = length-handed (rewriteInto ours policy area) r (h .0) n e; words = h .1 }
 
-  pub hands-refused-rewriting : (n part : ℕ) → r ≡ rewrittenReply.Refused n part → RewrittenInto policy area (record { number = n; part = part; size = 0 }) left
-  hands-refused-rewriting n part e = record { reply = refusal-handed (rewriteInto policy area) r (h .0) n part e; words = h .1 }
+  pub hands-refused-rewriting : (n part : ℕ) → r ≡ rewrittenReply.Refused n part → RewrittenInto ours policy area (record { number = n; part = part; size = 0 }) left
+  hands-refused-rewriting n part e = record { reply = refusal-handed (rewriteInto ours policy area) r (h .0) n part e; words = h .1 }
 
 -- asking
 answered-outcome : (o : Outcome) (r : Reply) → r ≡ replyFor o → (v k : ℕ) → r ≡ reply.Answered v k →

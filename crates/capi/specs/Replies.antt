@@ -49,10 +49,10 @@ unfoldable pub handRewriting : Rewriting → HandedRewriting
 handRewriting (rewritten out) = record { number = noRefusal; part = noPart; size = length out }
 handRewriting (External.refused n p) = record { number = n; part = p; size = 0 }
 
--- rewriting the policy into the area handed this out, and left these words in the area
-pub record RewrittenInto (policy area : List ℕ) (handed : HandedRewriting) (left : List ℕ) : Type 0 where
-  pub reply : handRewriting (rewriteInto policy area) ≡ handed
-  pub words : left ≡ areaAfter (rewriteInto policy area) area
+-- rewriting the policy into the area, under this key of ours, handed this out, and left these words in the area
+pub record RewrittenInto (ours : ℕ) (policy area : List ℕ) (handed : HandedRewriting) (left : List ℕ) : Type 0 where
+  pub reply : handRewriting (rewriteInto ours policy area) ≡ handed
+  pub words : left ≡ areaAfter (rewriteInto ours policy area) area
 
 -- what a query call hands out beside the set, which is in the answer area
 pub record HandedOutcome : Type 0 where

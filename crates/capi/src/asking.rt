@@ -7,11 +7,12 @@ use engine::Reply;
 use engine::query as ask;
 use refusals::NO_PART;
 
-// Answers a query: the refusal's number, 0 for none.
+// Answers a query under our key: the refusal's number, 0 for none.
 #[no_mangle]
 pub extern "C" fn txb_query<'a>(
     policy: &'a [u32],
     query: &'a [u32],
+    our_key: u32,
     minute: u32,
     store: &[u32],
     links: &[u32],
@@ -23,13 +24,14 @@ pub extern "C" fn txb_query<'a>(
     draws: &mut u32,
 ) -> u32
     ensures { λ r. ⌜ Asked (record { store = now (store .entry); links = now (links .entry) })
-        (lent (now (policy .entry)) (now (query .entry)) minute (now (answer .entry)) (now (definitions .entry)) (now (scratch .entry)))
+        (lent (now (policy .entry)) (now (query .entry)) «our_key» minute (now (answer .entry)) (now (definitions .entry)) (now (scratch .entry)))
         (record { number = r; part = now (part .exit); verdict = now (verdict .exit); draws = now (draws .exit) })
         (now (answer .exit)) (record { store = now (store .exit); links = now (links .exit) }) ⌝ }
 {
     match ask(
         policy,
         query,
+        our_key,
         minute,
         store,
         links,

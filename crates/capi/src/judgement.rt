@@ -11,13 +11,19 @@ use policy_table::parts::PartSpan;
 use policy_table::parts::part_span;
 use refusals::NO_PART;
 
-// Judges a policy and a query: the refusal's number, 0 for none.
+// Judges a policy and a query under our key: the refusal's number, 0 for none.
 #[no_mangle]
-pub extern "C" fn txb_judge(policy: &[u32], query: &[u32], part: &mut u32, verdict: &mut u32) -> u32
-    ensures { λ r. ⌜ handJudgement (judge (now (policy .entry)) (now (query .entry)))
+pub extern "C" fn txb_judge(
+    policy: &[u32],
+    query: &[u32],
+    our_key: u32,
+    part: &mut u32,
+    verdict: &mut u32,
+) -> u32
+    ensures { λ r. ⌜ handJudgement (judge «our_key» (now (policy .entry)) (now (query .entry)))
         ≡ record { number = r; part = now (part .exit); verdict = now (verdict .exit) } ⌝ }
 {
-    match judge(policy, query) {
+    match judge(policy, query, our_key) {
         Judgement::Verdict(word) => {
             *part = NO_PART;
             *verdict = word;

@@ -18,13 +18,13 @@ returns : tie.Need-returns
 returns c =
     let r = c .before .before .before .before .before in
     let a = entry r .args in
-    hands-length (a .policy .now) (a .area .now) (r .rewrite .ensures) _ (c .before .words .given .1)
+    hands-length (a .our-key) (a .policy .now) (a .area .now) (r .rewrite .ensures) _ (c .before .words .given .1)
 
 returns-2 : tie.Need-returns-2
 returns-2 c =
     let r = c .before .before .before .before .before in
     let a = entry r .args in
-    hands-refused-rewriting (a .policy .now) (a .area .now) (r .rewrite .ensures) _ _ (c .before .number .given .1)
+    hands-refused-rewriting (a .our-key) (a .policy .now) (a .area .now) (r .rewrite .ensures) _ _ (c .before .number .given .1)
 
 pub txb-rewrite-spec : {M : Type 1} → statement M
 txb-rewrite-spec =
