@@ -1,17 +1,20 @@
 // Asks the engine what the lines of its input ask, by real calls on areas full of other words, and prints what it replied. Each line of `stdout`
 // was checked by hand against the documents. How words are written is said in the crate `cases`. A line is one of these:
 //
-//     NAME|POLICY|QUERY            asks the query under the policy, over the store and the links as they are, at the minute that was set last
+//     NAME|POLICY|QUERY            asks the query under the policy, over the store and the links as they are, with our key and the minute set last
 //     NAME|POLICY|QUERY|AREAS      the same with an answer, a definition, a scratch area and a link store of so many words, not 642 10272 16384 1281
 //     minute N                     sets the minute, which is 0 at the start
 //
-// `file`, `store`, `link` and `links` lines keep the stores (`cases::storing`); there are no links at the start. Any other line is printed.
+// `file`, `store`, `link` and `links` lines keep the stores (`cases::storing`); there are no links at the start. Any other line says which key is
+// ours, or is a heading (`cases::headings`); where k2 is another's key, k7 is ours, which no case has as an issuer.
 ghost use Prim.Native.Nat.{_≤_};
 ghost use lib.ListN.{length};
+use cases::OUR_KEY;
 use cases::after;
 use cases::at_most;
 use cases::cell_end;
 use cases::first_word;
+use cases::heading;
 use cases::is_bar;
 use cases::next_line;
 use cases::past;
@@ -21,11 +24,17 @@ use cases::say;
 use cases::storing::keep;
 use engine::query;
 
+// What lines set for those that follow.
+struct Setting {
+    our_key: u32,
+    minute: u32,
+}
+
 // Asks, and prints the reply.
 fn ask_with<'a>(
     store: &[u32],
     links: &[u32],
-    minute: u32,
+    setting: Setting,
     policy: &'a [u32],
     words: &'a [u32],
     answer: &mut [u32],
@@ -35,7 +44,8 @@ fn ask_with<'a>(
     let reply = query(
         policy,
         words,
-        minute,
+        setting.our_key,
+        setting.minute,
         store,
         links,
         answer,
@@ -49,7 +59,7 @@ fn ask_with<'a>(
 fn ask<'a>(
     store: &[u32],
     links: &[u32],
-    minute: u32,
+    setting: Setting,
     policy: &'a [u32],
     words: &'a [u32],
     areas: [u32; 4],
@@ -64,7 +74,7 @@ fn ask<'a>(
     ask_with(
         store,
         &links[0..l],
-        minute,
+        setting,
         policy,
         words,
         &mut answer[0..a],
@@ -85,7 +95,7 @@ fn areas_at(text: &[u8], at: usize) -> [u32; 4]
 }
 
 // The policy, the query and the areas after the bar at `at`.
-fn ask_at(text: &[u8], at: usize, store: &[u32], links: &[u32], minute: u32)
+fn ask_at(text: &[u8], at: usize, store: &[u32], links: &[u32], setting: Setting)
     requires { ⌜ at ≤ length (now text) ⌝ }
 {
     let mut policy = [0u32; 8193];
@@ -97,49 +107,64 @@ fn ask_at(text: &[u8], at: usize, store: &[u32], links: &[u32], minute: u32)
     ask(
         store,
         links,
-        minute,
+        setting,
         &policy[0..held],
         &words[0..asked],
         areas_at(text, second.next),
     );
 }
 
-// A line without bars. It returns the minute of the lines that follow.
-fn act(text: &[u8], at: usize, end: usize, store: &mut [u32], links: &mut [u32], minute: u32) -> u32
+// A line without bars. It returns what is set for the lines that follow.
+fn act(
+    text: &[u8],
+    at: usize,
+    end: usize,
+    store: &mut [u32],
+    links: &mut [u32],
+    setting: Setting,
+) -> Setting
     requires { ⌜ (at ≤ end) × (end ≤ length (now text)) ⌝ }
 {
     let set = past(text, at, b"minute ");
     if at < set {
-        return first_word(text, set);
+        return Setting {
+            our_key: setting.our_key,
+            minute: first_word(text, set),
+        };
     }
-    if !keep(text, at, store, links) {
-        say(&text[at..end]);
-        say(b"\n");
+    if keep(text, at, store, links) {
+        return setting;
     }
-    minute
+    Setting {
+        our_key: heading(text, at, end, setting.our_key),
+        minute: setting.minute,
+    }
 }
 
-// One line. It returns the minute of the lines that follow.
-fn line(text: &[u8], at: usize, store: &mut [u32], links: &mut [u32], minute: u32) -> u32
+// One line. It returns what is set for the lines that follow.
+fn line(text: &[u8], at: usize, store: &mut [u32], links: &mut [u32], setting: Setting) -> Setting
     requires { ⌜ at ≤ length (now text) ⌝ }
 {
     let end = cell_end(text, at);
     if is_bar(text, end) {
         say(&text[at..end]);
         say(b": ");
-        ask_at(text, end, store, links, minute);
+        ask_at(text, end, store, links, setting);
         say(b"\n");
-        minute
+        setting
     } else {
-        act(text, at, end, store, links, minute)
+        act(text, at, end, store, links, setting)
     }
 }
 
 fn run(text: &[u8], store: &mut [u32], links: &mut [u32]) {
     let mut at: usize = 0;
-    let mut minute: u32 = 0;
+    let mut setting = Setting {
+        our_key: OUR_KEY,
+        minute: 0,
+    };
     while at < text.len() {
-        minute = line(text, at, store, links, minute);
+        setting = line(text, at, store, links, setting);
         at = next_line(text, at);
     }
 }

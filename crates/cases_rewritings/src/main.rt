@@ -1,16 +1,19 @@
 // Rewrites the external policies of its input into areas full of another word, and prints what it found. Each line of `stdout` was checked by
-// hand against document 02, N2 and N6. How words are written is said in the crate `cases`. A line is one of these:
+// hand against document 02, N2, N6 and N7. How words are written is said in the crate `cases`. A line is one of these:
 //
 //     NAME|POLICY|LENGTH           rewrites the policy into an area of so many words, and prints the output's length, and its words if they are few
 //     NAME|POLICY|LENGTH|WORDS     the same, and prints whether the output is these words
 //
-// A line without bars is a heading.
+// A line without bars says which key is ours, or is a heading (`cases::headings`); where k2 is another's key, k7 is ours, which no case has as an
+// issuer.
 ghost use Prim.Native.Nat.{_≤_};
 ghost use lib.ListN.{length};
+use cases::OUR_KEY;
 use cases::after;
 use cases::at_most;
 use cases::cell_end;
 use cases::first_word;
+use cases::heading;
 use cases::is_bar;
 use cases::next_line;
 use cases::read_words;
@@ -84,16 +87,16 @@ fn say_rewritten(text: &[u8], at: usize, area: &[u32], rewritten: Rewritten)
 }
 
 // Rewrites the policy into so many words of the area; the bar after their number is at `at`, if there is one.
-fn rewrite_into(text: &[u8], at: usize, policy: &[u32], area: &mut [u32], lent: u32)
+fn rewrite_into(text: &[u8], at: usize, policy: &[u32], our_key: u32, area: &mut [u32], lent: u32)
     requires { ⌜ at ≤ length (now text) ⌝ }
 {
     let end = at_most(lent, area.len());
-    let rewritten = rewrite(policy, &mut area[0..end]);
+    let rewritten = rewrite(policy, our_key, &mut area[0..end]);
     say_rewritten(text, at, area, rewritten);
 }
 
 // The policy and the area's length after the bar at `at`.
-fn rewrite_at(text: &[u8], at: usize)
+fn rewrite_at(text: &[u8], at: usize, our_key: u32)
     requires { ⌜ at ≤ length (now text) ⌝ }
 {
     let mut policy = [0u32; 8193];
@@ -105,28 +108,33 @@ fn rewrite_at(text: &[u8], at: usize)
         text,
         cell_end(text, lent),
         &policy[0..count],
+        our_key,
         &mut area,
         first_word(text, lent),
     );
 }
 
-// One line.
-fn line(text: &[u8], at: usize)
+// One line. It returns our key in the lines that follow.
+fn line(text: &[u8], at: usize, our_key: u32) -> u32
     requires { ⌜ at ≤ length (now text) ⌝ }
 {
     let name = cell_end(text, at);
-    say(&text[at..name]);
     if is_bar(text, name) {
+        say(&text[at..name]);
         say(b": ");
-        rewrite_at(text, name);
+        rewrite_at(text, name, our_key);
+        say(b"\n");
+        our_key
+    } else {
+        heading(text, at, name, our_key)
     }
-    say(b"\n");
 }
 
 fn run(text: &[u8]) {
     let mut at: usize = 0;
+    let mut our_key = OUR_KEY;
     while at < text.len() {
-        line(text, at);
+        our_key = line(text, at, our_key);
         at = next_line(text, at);
     }
 }

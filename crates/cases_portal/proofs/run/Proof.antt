@@ -7,10 +7,10 @@ use Rattle.cases_portal.proofs.run.Statement.{statement}
 use Rattle.cases_portal.proofs.run.Tie as tie
 
 abbrev Inv-loop : tie.InvT-loop
-Inv-loop text store₀ links₀ at₀ minute₀ store links at minute = (length store ≡ length store₀) × (length links ≡ length links₀) × (at ≤ length text)
+Inv-loop text store₀ links₀ at₀ setting₀ store links at setting = (length store ≡ length store₀) × (length links ≡ length links₀) × (at ≤ length text)
 
 abbrev μ-loop : tie.MeasureT-loop
-μ-loop text store₀ links₀ at₀ minute₀ store links at minute = length text - at
+μ-loop text store₀ links₀ at₀ setting₀ store links at setting = length text - at
 
 loop-holds : tie.Need-loop-holds Inv-loop μ-loop
 loop-holds c = search needs
