@@ -1,7 +1,7 @@
 //! Puts the same words to two engines and compares replies and areas, word for word.
 
 use crate::engine::{Engine, Kind, Stores};
-use crate::evaluator::{Date, Evaluator, Format, Set};
+use crate::evaluator::{Date, Evaluator, Format, Question, Set};
 use crate::generate::{Case, Filings, Generator, PORTAL};
 use crate::random::Random;
 use std::collections::BTreeMap;
@@ -47,6 +47,8 @@ pub struct Tally {
     pub conversions: BTreeMap<u32, u64>,
     pub refusals: BTreeMap<u32, Count>,
     pub answers: BTreeMap<(u32, &'static str), Count>,
+    /// The answers by verdict in whose policies or queries own names are written.
+    pub own_names: BTreeMap<u32, Count>,
     /// The first few failures, in full.
     pub reports: Vec<String>,
 }
@@ -172,8 +174,8 @@ impl<'a> Comparison<'a> {
             stores.links = generator.links();
         }
         let case = generator.case();
-        let Case { policy, query, minute, areas, .. } = &case;
-        let show = |report| format!("{report}\n  policy {policy:?}\n  query {query:?}\n  minute {minute}\n  areas {areas:?}");
+        let Case { policy, query, our_key, minute, areas, .. } = &case;
+        let show = |report| format!("{report}\n  policy {policy:?}\n  query {query:?}\n  our key {our_key}\n  minute {minute}\n  areas {areas:?}");
         self.case(&case, stores).map_err(show)
     }
 
@@ -197,13 +199,13 @@ impl<'a> Comparison<'a> {
     }
 
     fn case(&mut self, case: &Case, stores: &Stores) -> Result<(), String> {
-        let (Case { policy, query, .. }, store) = (case, &stores.store);
+        let (Case { policy, query, our_key, .. }, store) = (case, &stores.store);
         let reply = self.query(case, stores)?;
         if self.random.chance(100) {
             equal("the same query with other junk", self.query(case, stores)?, reply)?;
         }
-        equal("judgement", self.tested.judge(policy, query), Engine::judge(&self.expected, policy, query))?;
-        self.rewrite(policy, case.rewriting_area)?;
+        equal("judgement", self.tested.judge(policy, query, *our_key), Engine::judge(&self.expected, policy, query, *our_key))?;
+        self.rewrite(policy, *our_key, case.rewriting_area)?;
         let (of_query, words) = Engine::part(&self.expected, policy, query, case.number);
         let (tested_of_query, tested_words) = self.tested.part(policy, query, case.number);
         equal(&format!("whether part {} is the query", case.number), tested_of_query, of_query)?;
@@ -222,28 +224,29 @@ impl<'a> Comparison<'a> {
         equal(&format!("date of {minutes}"), self.tested.date(minutes), of_minutes)
     }
 
-    fn rewrite(&mut self, policy: &[u32], length: usize) -> Result<(), String> {
+    fn rewrite(&mut self, policy: &[u32], our_key: u32, length: usize) -> Result<(), String> {
         let mut expected = self.junk.area(length, &mut self.random);
         let mut tested = expected.clone();
-        let reply = Engine::rewrite(&self.expected, policy, expected.lent());
+        let reply = Engine::rewrite(&self.expected, policy, our_key, expected.lent());
         self.tally.rewritings.entry(reply.number).or_default().add(policy);
-        equal(&format!("rewriting into {length} words"), self.tested.rewrite(policy, tested.lent()), reply)?;
+        equal(&format!("rewriting into {length} words"), self.tested.rewrite(policy, our_key, tested.lent()), reply)?;
         same_words("rewritten policy", tested.lent(), expected.lent())?;
         tested.fences_kept("rewritten policy's")
     }
 
     fn query(&mut self, case: &Case, Stores { store, links }: &Stores) -> Result<Reply, String> {
+        let question = Question { policy: &case.policy, query: &case.query, our_key: case.our_key, minute: case.minute };
         let mut area = |length| self.junk.area(length, &mut self.random);
         let [mut expected, mut definitions, mut scratch] = [case.areas.answer, case.areas.definitions, case.areas.scratch].map(&mut area);
         let mut tested = expected.clone();
         let mut ask = |engine: &dyn Engine, answer: &mut Area| {
             let lent = Lent { answer: answer.lent(), definitions: definitions.lent(), scratch: scratch.lent() };
-            engine.query(&case.policy, &case.query, case.minute, store, links, lent)
+            engine.query(question, store, links, lent)
         };
         let reply = ask(&self.expected, &mut expected);
         let (store_before, links_before) = (store.clone(), links.clone());
         let tested_reply = ask(self.tested, &mut tested);
-        self.tally_reply(&case.policy, reply, expected.lent());
+        self.tally_reply(question, reply, expected.lent());
         equal("reply", tested_reply, reply)?;
         same_words("answer area", tested.lent(), expected.lent())?;
         same_words("store after a query", store, &store_before)?;
@@ -254,10 +257,14 @@ impl<'a> Comparison<'a> {
         Ok(reply)
     }
 
-    fn tally_reply(&mut self, policy: &[u32], reply: Reply, answer: &[u32]) {
+    fn tally_reply(&mut self, Question { policy, query, our_key, .. }: Question, reply: Reply, answer: &[u32]) {
         if reply.number > 0 {
             self.tally.refusals.entry(reply.number).or_default().add(policy);
             return;
+        }
+        let judged = Evaluator::default().judge(policy, query, our_key);
+        if judged.is_ok_and(|judged| judged.own_names() > 0) {
+            self.tally.own_names.entry(reply.verdict).or_default().add(policy);
         }
         let table = match Set::from_words(answer) {
             Some(Set::Finite(rows)) if rows.is_empty() => "no rows",
@@ -293,23 +300,24 @@ mod tests {
             assert!(tally.links.get(&number) > Some(&20), "reply {number} to links: {:?}", tally.links);
         }
         let often = |count: Option<&Count>| count.is_some_and(|count| count.of.iter().all(|&of| of > 10));
-        for number in [0, 1, 2, 3, 4, 5, 6, 7, 11, 15] {
+        for number in [0, 1, 2, 3, 4, 5, 6, 7, 11, 15, 20] {
             assert!(often(tally.rewritings.get(&number)), "rewriting reply {number}: {:?}", tally.rewritings);
         }
         for number in [0, 16] {
             assert!(tally.conversions.get(&number) > Some(&1_000), "conversion reply {number}: {:?}", tally.conversions);
         }
-        for number in [1, 2, 3, 4, 5, 6, 7, 8, 11, 13, 18] {
+        for number in [1, 2, 3, 4, 5, 6, 7, 8, 11, 13, 18, 20] {
             assert!(often(tally.refusals.get(&number)), "refusal {number}: {:?}", tally.refusals);
         }
         assert!(tally.refusals[&1].other > 100, "{:?}", tally.refusals);
-        assert!(tally.refusals.iter().all(|(number, count)| *number == 1 || count.other == 0), "{:?}", tally.refusals);
+        assert!(tally.refusals.iter().all(|(number, count)| [1, 20].contains(number) || count.other == 0), "{:?}", tally.refusals);
         // 14 takes a million draws. 12 is never met: what is not open is always finite.
         assert!(tally.refusals.contains_key(&14) && !tally.refusals.contains_key(&12));
         for verdict in 0..=2 {
             for table in ["some rows", "all but some"] {
                 assert!(often(tally.answers.get(&(verdict, table))), "{:?}", tally.answers);
             }
+            assert!(often(tally.own_names.get(&verdict)), "{:?}", tally.own_names);
         }
     }
 

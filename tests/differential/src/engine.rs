@@ -1,8 +1,8 @@
 //! The C interface as a trait, which the compiled library and the evaluator both have, so that one is asked as the other is.
 
-use crate::evaluator::{Answer, Areas, Date, Evaluator, Filing, Part, Refusal, Verdict};
+use crate::evaluator::{Answer, Areas, Date, Evaluator, Filing, Part, Question, Refusal, Verdict};
 use crate::faults::{self, Fault};
-use crate::numbers::{BAD_HEADER, NO_PART};
+use crate::numbers::{BAD_HEADER, FIRST_KEY, NO_PART};
 use std::ops::Range;
 use txindurbe::calls::{Dated, Judgement, Lent, Minutes, Reply, Rewriting};
 
@@ -11,9 +11,9 @@ pub trait Engine {
     /// 0 Filed, 1 Held, else the refusal's number.
     fn file(&self, store: &mut [u32], certificate: &[u32]) -> u32;
     fn file_link(&self, links: &mut [u32], link: &[u32]) -> u32;
-    fn query(&self, policy: &[u32], query: &[u32], minute: u32, store: &[u32], links: &[u32], lent: Lent) -> Reply;
-    fn judge(&self, policy: &[u32], query: &[u32]) -> Judgement;
-    fn rewrite(&self, policy: &[u32], area: &mut [u32]) -> Rewriting;
+    fn query(&self, question: Question, store: &[u32], links: &[u32], lent: Lent) -> Reply;
+    fn judge(&self, policy: &[u32], query: &[u32], our_key: u32) -> Judgement;
+    fn rewrite(&self, policy: &[u32], our_key: u32, area: &mut [u32]) -> Rewriting;
     /// 1 for words of the query, 0 for words of the policy, and where in it they stand.
     fn part(&self, policy: &[u32], query: &[u32], number: u32) -> (u32, Range<usize>);
     fn certificates_of(&self, store: &[u32], name: [u32; 3]) -> Range<usize>;
@@ -79,9 +79,9 @@ impl Engine for Evaluator {
         filing_number(Evaluator::file_link(self, links, link))
     }
 
-    fn query(&self, policy: &[u32], query: &[u32], minute: u32, store: &[u32], links: &[u32], lent: Lent) -> Reply {
+    fn query(&self, question: Question, store: &[u32], links: &[u32], lent: Lent) -> Reply {
         let areas = Areas { answer: lent.answer.len(), definitions: lent.definitions.len(), scratch: lent.scratch.len() };
-        let answered = Evaluator::query(self, policy, query, minute, store, links, areas);
+        let answered = Evaluator::query(self, question, store, links, areas);
         match &answered {
             Ok(answer) => {
                 let words = faults::wrong_layout(self.fault, &answer.set).unwrap_or_else(|| answer.set.words());
@@ -96,16 +96,18 @@ impl Engine for Evaluator {
         reply(answered)
     }
 
-    fn judge(&self, policy: &[u32], query: &[u32]) -> Judgement {
+    fn judge(&self, policy: &[u32], query: &[u32], our_key: u32) -> Judgement {
         if self.has(Fault::JudgeRefusesFormat2) && policy.first() == Some(&2) {
             return judgement(Err(Refusal { number: BAD_HEADER, part: NO_PART }));
             // planted
         }
-        judgement(Evaluator::judge(self, policy, query).map(|judged| judged.verdict))
+        let our_key = if self.has(Fault::JudgeTakesANumber) { our_key | FIRST_KEY } else { our_key }; // planted
+        let fault = if self.has(Fault::JudgeWithoutOurKey) { Some(Fault::OurKeyIgnored) } else { self.fault }; // planted
+        judgement(Evaluator { fault }.judge(policy, query, our_key).map(|judged| judged.verdict))
     }
 
-    fn rewrite(&self, policy: &[u32], area: &mut [u32]) -> Rewriting {
-        match Evaluator::rewrite(self, policy, area) {
+    fn rewrite(&self, policy: &[u32], our_key: u32, area: &mut [u32]) -> Rewriting {
+        match Evaluator::rewrite(self, policy, our_key, area) {
             Ok(length) => Rewriting { number: 0, part: NO_PART, length },
             Err(Refusal { number, part }) => {
                 let length = if self.has(Fault::RefusedLengthHandedOut) { policy.len() } else { 0 }; // planted

@@ -1,9 +1,9 @@
-//! Document 01, with document 02's N1 to N6, as a plain program, section by section, to be read with the documents beside it.
+//! Document 01, with document 02's N1 to N7, as a plain program, section by section, to be read with the documents beside it.
 //!
 //! It is slow and short on purpose: sets are `BTreeSet`s, words are parsed by recursive descent, and nothing is shared with the engine it is compared with.
 //! Places marked `planted`, and calls of [`faults`], are mistakes that are made only when asked for; without a [`Fault`] they do nothing.
 
-use crate::faults::{self, Fault};
+use crate::faults::{self, Asked, Fault};
 use crate::numbers::*;
 use std::collections::{BTreeMap, BTreeSet};
 use std::ops::{Range, RangeInclusive};
@@ -306,15 +306,19 @@ pub enum Expression {
     Rows(Vec<Vec<Term>>),
     AllBut(Vec<Vec<Term>>),
     Definition(usize),
+    /// `own` is the definition that an own name stands for: a name under our key as a fixed issuer. Of other names, and of those whose issuer is a variable,
+    /// certificates are read.
     List {
         issuer: Term,
         name: u32,
         polarity: u32,
+        own: Option<usize>,
     },
-    /// Code 8: a key's + list, vetted by a definition of compromised keys.
+    /// Code 8: a key's + list, or a + own name, vetted by a definition of compromised keys.
     Vetted {
         issuer: Term,
         name: u32,
+        own: Option<usize>,
         definition: usize,
     },
     Union(Box<Expression>, Box<Expression>),
@@ -336,17 +340,28 @@ pub enum Guard {
 /// A refusal's number before its part is known, or the value.
 pub type Numbered<T> = Result<T, u32>;
 
+/// Where a whole definition or query stands: what it may use.
+#[derive(Clone, Copy)]
+pub struct Place<'a> {
+    /// All definitions of the policy.
+    pub entries: &'a [Entry],
+    /// How many of them are available, by number as by name: those before a definition, and all in a query.
+    pub available: usize,
+    pub our_key: u32,
+}
+
 /// Reads one whole definition or query, word by word; at each word the rules of 3, then 4, then 5.
 struct Parser<'a> {
     words: &'a [u32],
     at: usize,
-    /// Definitions that may be used.
-    available: usize,
+    place: Place<'a>,
     /// Variables in scope.
     variables: usize,
     draws: u32,
     /// Where each code 4 stands with its words.
     lists: Vec<Range<usize>>,
+    /// Planted with `OwnMissingAfterTheRest`.
+    own_missing: bool,
     evaluator: Evaluator,
 }
 
@@ -424,7 +439,7 @@ impl Parser<'_> {
 
     fn definition(&mut self) -> Numbered<usize> {
         let number = self.word()? as usize;
-        if number < self.available {
+        if number < self.place.available {
             Ok(number)
         } else {
             Err(NOT_IN_SCOPE)
@@ -435,9 +450,37 @@ impl Parser<'_> {
         let code = self.at - 1;
         let issuer = self.issuer()?;
         let name = self.within(0..=LAST_NAME)?;
+        self.own_missing_early(issuer, name)?; // planted
         let polarity = self.within(0..=1)?;
+        let own = self.own(4, issuer, name, polarity)?;
         self.lists.push(code..self.at);
-        Ok(Expression::List { issuer, name, polarity })
+        Ok(Expression::List { issuer, name, polarity, own })
+    }
+
+    /// At the polarity word, after its own rule: "Code 4 with that key as a fixed issuer reads the definition of that name and polarity, if it is available at
+    /// that place", "Code 8 with our key does the same", "If none is available there, it is refused with 4".
+    fn own(&mut self, code: u32, issuer: Term, name: u32, polarity: u32) -> Numbered<Option<usize>> {
+        if issuer != Term::Atom(self.place.our_key) {
+            return Ok(None);
+        }
+        let available = &self.place.entries[..self.place.available];
+        let found = available.iter().position(|entry| (entry.name, entry.polarity) == (name, polarity));
+        if self.evaluator.has(Fault::OwnMissingAfterTheRest) {
+            self.own_missing |= found.is_none();
+            return Ok(found); // planted
+        }
+        faults::wrongly_found(self.evaluator.fault, code, self.place, [name, polarity], found).unwrap_or(found.map(Some).ok_or(NOT_IN_SCOPE))
+    }
+
+    /// Planted with `OwnMissingBeforePolarity` and `OwnMissingAtName`.
+    fn own_missing_early(&self, issuer: Term, name: u32) -> Numbered<()> {
+        let next = self.words.get(self.at).copied();
+        let missing = issuer == Term::Atom(self.place.our_key) && faults::missing_early(self.evaluator.fault, self.place, name, next);
+        if missing {
+            Err(NOT_IN_SCOPE)
+        } else {
+            Ok(())
+        }
     }
 
     fn issuer(&mut self) -> Numbered<Term> {
@@ -451,17 +494,22 @@ impl Parser<'_> {
     fn vetted(&mut self) -> Numbered<Expression> {
         let issuer = self.issuer()?;
         let name = self.within(0..=LAST_NAME)?;
+        self.own_missing_early(issuer, name)?; // planted
         let polarity = self.word()?;
         let late = self.evaluator.has(Fault::VettedMinusRefusedLate); // planted
         let passes = self.evaluator.has(Fault::VettedMinusPasses) && polarity == 1; // planted
         if polarity != 0 && !passes && !late {
             return Err(BAD_WORD);
         }
+        if self.evaluator.has(Fault::OwnFoundAfterDefinitionWord) && !self.left_over() {
+            return Err(BAD_WORD); // planted
+        }
+        let own = self.own(8, issuer, name, 0)?;
         let definition = self.definition()?;
         if polarity != 0 && late {
             return Err(BAD_WORD); // planted
         }
-        Ok(Expression::Vetted { issuer, name, definition })
+        Ok(Expression::Vetted { issuer, name, own, definition })
     }
 
     fn comprehension(&mut self, depth: u32) -> Numbered<Expression> {
@@ -563,14 +611,16 @@ pub enum Verdict {
 /// A definition that went through 3 to 7.
 #[derive(Clone, Debug)]
 pub struct Definition {
+    pub name: u32,
     pub polarity: u32,
     pub open: bool,
     pub expression: Expression,
 }
 
-/// A policy and a query that no refusal from 1 to 7 applies to.
+/// A policy and a query that neither 20 nor a refusal from 1 to 7 applies to.
 #[derive(Clone, Debug)]
 pub struct Judged {
+    pub our_key: u32,
     pub format: Format,
     pub definitions: Vec<Definition>,
     pub query: Expression,
@@ -592,20 +642,21 @@ pub fn certified<'a>(records: impl IntoIterator<Item = &'a Record>) -> Certified
 
 /// What the two stores hold.
 #[derive(Clone, Copy)]
-struct Held<'a> {
-    records: &'a [Record],
-    links: &'a [Link],
+pub struct Held<'a> {
+    pub records: &'a [Record],
+    pub links: &'a [Link],
 }
 
 /// Reads in the minimal model of the links and of the certificates that hold at the minute.
-struct Reading<'a> {
-    held: Held<'a>,
-    minute: u32,
-    format: Format,
-    certified: Certified,
-    definitions: Vec<Set>,
-    draws: u32,
-    evaluator: Evaluator,
+pub struct Reading<'a> {
+    pub judged: &'a Judged,
+    pub held: Held<'a>,
+    pub minute: u32,
+    pub format: Format,
+    pub certified: Certified,
+    pub definitions: Vec<Set>,
+    pub draws: u32,
+    pub evaluator: Evaluator,
 }
 
 pub fn limited(set: Set) -> Numbered<Set> {
@@ -631,21 +682,22 @@ pub fn row_of(terms: &[Term], values: &[u32]) -> Row {
     row
 }
 
-impl Reading<'_> {
-    fn new(held: Held<'_>, minute: u32, format: Format, evaluator: Evaluator) -> Reading<'_> {
+impl<'a> Reading<'a> {
+    fn new(judged: &'a Judged, held: Held<'a>, minute: u32, evaluator: Evaluator) -> Reading<'a> {
         let records = held.records;
         let holds = |record: &&Record| faults::wrongly_holds(evaluator.fault, records, record, minute).unwrap_or(record.validity.holds_at(minute));
         let certified = certified(records.iter().filter(holds));
-        Reading { held, minute, format, certified, definitions: Vec::new(), draws: 0, evaluator }
+        Reading { judged, held, minute, format: judged.format, certified, definitions: Vec::new(), draws: 0, evaluator }
     }
 
-    fn read(&mut self, expression: &Expression, values: &mut Vec<u32>) -> Numbered<Set> {
+    pub fn read(&mut self, expression: &Expression, values: &mut Vec<u32>) -> Numbered<Set> {
         match expression {
             Expression::Rows(rows) => Ok(Set::Finite(written(rows, values))),
             Expression::AllBut(rows) => Ok(Set::Complement(written(rows, values))),
             Expression::Definition(number) => Ok(self.definitions[*number].clone()),
-            Expression::List { issuer, name, polarity } => self.list(*issuer, *name, *polarity, values),
-            Expression::Vetted { issuer, name, definition } => self.vetted(*issuer, *name, *definition, values),
+            Expression::List { name, polarity, own: Some(definition), .. } => self.own(*name, *polarity, *definition),
+            Expression::List { issuer, name, polarity, own: None } => self.list(*issuer, *name, *polarity, values),
+            Expression::Vetted { issuer, name, own, definition } => self.vetted(*issuer, *name, *own, *definition, values),
             Expression::Union(left, right) => self.union(left, right, values),
             Expression::Difference(left, right) => self.difference(left, right, values),
             Expression::Comprehension { guards, head } => {
@@ -656,6 +708,12 @@ impl Reading<'_> {
         }
     }
 
+    /// An own name has the set of its definition, which was read before: no draws, no certificates and no links.
+    fn own(&mut self, name: u32, polarity: u32, definition: usize) -> Numbered<Set> {
+        let planted = faults::own_wrongly_read(self, [self.judged.our_key, name, polarity], definition);
+        planted.unwrap_or_else(|| Ok(self.definitions[definition].clone()))
+    }
+
     /// The names whose certified rows are joined for this one: each that links of its polarity reach from it, in any number of steps.
     fn joined(&self, name: Name) -> BTreeSet<Name> {
         let steps = |at| self.held.links.iter().filter(|link| link.first() == at).map(Link::second).collect();
@@ -663,12 +721,16 @@ impl Reading<'_> {
     }
 
     /// A + name has just the rows certified of the names joined for it, a − name all but those. Nothing is certified under a number, and no link is of one.
-    fn list(&self, issuer: Term, name: u32, polarity: u32, values: &[u32]) -> Numbered<Set> {
+    pub fn list(&self, issuer: Term, name: u32, polarity: u32, values: &[u32]) -> Numbered<Set> {
         let (fault, name) = (self.evaluator.fault, [value(issuer, values), name, polarity]);
+        if let Some(planted) = faults::variable_wrongly_read(self, issuer, name) {
+            return Ok(planted);
+        }
         let alone = self.evaluator.has(Fault::VariableIssuerWithoutLinks) && matches!(issuer, Term::Variable(_)); // planted
         let joined = if alone { BTreeSet::from([name]) } else { self.joined(name) };
         let rows = || joined.iter().filter_map(|name| self.certified.get(name)).flatten().copied().collect();
         let rows = faults::wrongly_certified(fault, self.held.records, &self.certified, name, &joined).unwrap_or_else(rows);
+        let rows = faults::ours_wrongly_joined(self, name, &joined).unwrap_or(rows);
         let set = if polarity == 0 { Set::Finite(rows) } else { Set::Complement(rows) };
         if faults::rows_wrongly_counted(fault, self.held.records, &self.certified, &joined, self.minute) > MOST_ROWS {
             return Err(TOO_MANY_ROWS); // planted
@@ -680,17 +742,28 @@ impl Reading<'_> {
         }
     }
 
-    /// The list if the one-atom row of the issuer is absent from the definition, and no rows otherwise: the list is then not read.
-    fn vetted(&mut self, issuer: Term, name: u32, definition: usize, values: &[u32]) -> Numbered<Set> {
+    /// The list, or the own name, if the one-atom row of the issuer is absent from the definition, and no rows otherwise: it is then not read.
+    fn vetted(&mut self, issuer: Term, name: u32, own: Option<usize>, definition: usize, values: &[u32]) -> Numbered<Set> {
         let fault = self.evaluator.fault;
         let definition = if fault == Some(Fault::VettedByDefinition0) { 0 } else { definition }; // planted
-        if fault == Some(Fault::VettedListReadFirst) {
+        if fault == Some(Fault::VettedListReadFirst) && own.is_none() {
             self.list(issuer, name, 0, values)?; // planted
         }
         self.draws += (fault == Some(Fault::LookUpCountedAsDraw)) as u32; // planted
         let (compromised, issuer_row) = (&self.definitions[definition], Row::new(&[value(issuer, values)]));
-        if faults::wrong_look_up(fault, self.format, compromised, &issuer_row).unwrap_or_else(|| compromised.holds(&issuer_row)) {
+        let not_looked_up = fault == Some(Fault::OwnVettedNotLookedUp) && own.is_some(); // planted
+        if !not_looked_up && faults::wrong_look_up(fault, self.format, compromised, &issuer_row).unwrap_or_else(|| compromised.holds(&issuer_row)) {
             return Ok(Set::Finite(BTreeSet::new()));
+        }
+        if let Some(own) = own {
+            if fault == Some(Fault::CertificatesReadForOwnVetted) {
+                return self.list(issuer, name, 0, values); // planted
+            }
+            let own = if fault == Some(Fault::OwnVettedReadAsItsGuard) { definition } else { own }; // planted
+            return self.own(name, 0, own);
+        }
+        if let (Some(Fault::VettedVariableReadsDefinition), Some(set)) = (fault, faults::set_of_own(self, [issuer_row.atoms[0], name, 0])) {
+            return Ok(set); // planted
         }
         if fault == Some(Fault::VettedAtAnyMinute) {
             return self.at_any_minute().list(issuer, name, 0, values); // planted
@@ -754,7 +827,8 @@ impl Reading<'_> {
     fn absent(&mut self, row: &Row, from: &Expression, values: &mut Vec<u32>) -> Numbered<bool> {
         let (draws, format) = (self.draws, self.format);
         self.format = faults::format_under_absent(self.evaluator.fault, format);
-        let set = self.read(from, values)?;
+        let planted = faults::certificates_for_own(self, Fault::OwnAbsentFromCertificates, from);
+        let set = planted.unwrap_or_else(|| self.read(from, values))?;
         self.format = format;
         if self.evaluator.has(Fault::OperandReadOnce) && draws > 0 {
             self.draws = draws; // planted
@@ -779,10 +853,11 @@ impl Reading<'_> {
     ) -> Numbered<()> {
         let (fault, format) = (self.evaluator.fault, self.format);
         self.format = faults::format_under_draw(fault, format);
-        let Set::Finite(rows) = self.read(from, values)? else { return Err(COMPLEMENT_DRAWN) };
+        let planted = faults::certificates_for_own(self, Fault::OwnDrawnFromCertificates, from);
+        let Set::Finite(rows) = planted.unwrap_or_else(|| self.read(from, values))? else { return Err(COMPLEMENT_DRAWN) };
         self.format = format;
         let mut rows = faults::rows_drawn(fault, format, pattern.len(), rows);
-        if let (Some(fault), Expression::List { issuer, name, polarity }) = (self.evaluator.fault, from) {
+        if let (Some(fault), Expression::List { issuer, name, polarity, own: None }) = (self.evaluator.fault, from) {
             let joined = self.joined([value(*issuer, values), *name, *polarity]);
             rows = faults::wrongly_drawn(fault, self.held.records, &self.certified, &joined, self.minute).unwrap_or(rows);
             // planted
@@ -849,6 +924,15 @@ pub struct Answer {
     pub verdict: Verdict,
     pub draws: u32,
     pub set: Set,
+}
+
+/// What a query call is asked, beside the stores.
+#[derive(Clone, Copy, Debug)]
+pub struct Question<'a> {
+    pub policy: &'a [u32],
+    pub query: &'a [u32],
+    pub our_key: u32,
+    pub minute: u32,
 }
 
 /// The lengths of the areas lent to a query.
@@ -1062,65 +1146,92 @@ impl Evaluator {
         entries.get(number as usize).map_or(empty, |entry| Part::Policy(entry.part.clone()))
     }
 
-    /// 1 to 7: each definition, then the query.
-    pub fn judge(&self, policy: &[u32], query: &[u32]) -> Result<Judged, Refusal> {
-        let Table { format, entries } = self.table(policy).or_else(refused)?;
+    /// "20, the number given as our key is not a key, before all others": asked first, unless a fault asks later or not at all.
+    fn key_asked(&self, our_key: u32, when: Asked) -> Result<(), Refusal> {
+        let key = faults::wrongly_a_key(self.fault, our_key).unwrap_or(is_key(our_key));
+        if key || when != faults::key_asked(self.fault) {
+            return Ok(());
+        }
+        let part = if self.has(Fault::NotAKeyHasAPart) { QUERY_PART } else { NO_PART }; // planted
+        Err(Refusal { number: NOT_A_KEY, part })
+    }
+
+    /// 20, 1, 2.
+    fn table_under(&self, policy: &[u32], our_key: u32) -> Result<Table, Refusal> {
+        self.key_asked(our_key, Asked::First)?;
+        let table = self.table(policy);
+        if !matches!(table, Err(BAD_HEADER)) {
+            self.key_asked(our_key, Asked::AfterHeader)?; // planted
+        }
+        let table = table.or_else(refused)?;
+        self.key_asked(our_key, Asked::AfterTable)?; // planted
+        Ok(table)
+    }
+
+    /// 20; 1 to 7: each definition, then the query.
+    pub fn judge(&self, policy: &[u32], query: &[u32], our_key: u32) -> Result<Judged, Refusal> {
+        let Table { format, entries } = self.table_under(policy, our_key)?;
         if self.has(Fault::QueryLengthFirst) && !(1..=MOST_QUERY_WORDS).contains(&query.len()) {
             return Err(Refusal { number: BAD_WORD, part: QUERY_PART }); // planted
         }
-        let definitions = self.definitions(policy, &entries)?;
-        let (query, verdict) = in_part(self.judge_query(query, &definitions), QUERY_PART)?;
-        Ok(Judged { format, definitions, query, verdict })
+        let definitions = self.definitions(policy, &entries, our_key)?;
+        let place = Place { entries: &entries, available: entries.len(), our_key: faults::our_key_in_query(self.fault, our_key) };
+        let (query, verdict) = in_part(self.judge_query(query, place, &definitions), QUERY_PART)?;
+        self.key_asked(our_key, Asked::AfterJudging)?; // planted
+        Ok(Judged { our_key, format, definitions, query, verdict })
     }
 
     /// 3 to 7 of each definition in turn.
-    fn definitions(&self, policy: &[u32], entries: &[Entry]) -> Result<Vec<Definition>, Refusal> {
+    fn definitions(&self, policy: &[u32], entries: &[Entry], our_key: u32) -> Result<Vec<Definition>, Refusal> {
+        let our_key = faults::our_key_in_definitions(self.fault, our_key);
         if self.has(Fault::ParsedBeforeJudged) {
-            self.parse_all(policy, entries)?; // planted
+            self.parse_all(policy, entries, our_key)?; // planted
         }
         let mut definitions: Vec<Definition> = Vec::new();
         for (entry, part) in entries.iter().zip(0..) {
             // A sum that wraps (planted) may give a part that is none.
             let words = policy.get(entry.part.clone()).unwrap_or(&[]);
-            let definition = self.judge_definition(words, entry.polarity, &definitions);
+            let place = Place { entries, available: part as usize, our_key };
+            let definition = self.judge_definition(words, entry, place, &definitions);
             definitions.push(in_part(definition, part)?);
         }
         Ok(definitions)
     }
 
     /// Planted with `ParsedBeforeJudged` and `NotExternalBeforePolarity`.
-    fn parse_all(&self, policy: &[u32], entries: &[Entry]) -> Result<Vec<Expression>, Refusal> {
-        let parsed = |(entry, part): (&Entry, u32)| in_part(self.parser(&policy[entry.part.clone()], part as usize).expression(1), part);
+    fn parse_all(&self, policy: &[u32], entries: &[Entry], our_key: u32) -> Result<Vec<Expression>, Refusal> {
+        let place = |part: u32| Place { entries, available: part as usize, our_key };
+        let parsed = |(entry, part): (&Entry, u32)| in_part(self.parser(&policy[entry.part.clone()], place(part)).expression(1), part);
         entries.iter().zip(0..).map(parsed).collect()
     }
 
-    fn parser<'a>(&self, words: &'a [u32], available: usize) -> Parser<'a> {
-        Parser { words, at: 0, available, variables: 0, draws: 0, lists: Vec::new(), evaluator: *self }
+    fn parser<'a>(&self, words: &'a [u32], place: Place<'a>) -> Parser<'a> {
+        Parser { words, at: 0, place, variables: 0, draws: 0, lists: Vec::new(), own_missing: false, evaluator: *self }
     }
 
-    fn judge_definition(&self, words: &[u32], polarity: u32, earlier: &[Definition]) -> Numbered<Definition> {
-        let (expression, polarities) = self.expression(words, earlier)?;
-        if !polarities.has(polarity) {
+    fn judge_definition(&self, words: &[u32], entry: &Entry, place: Place, earlier: &[Definition]) -> Numbered<Definition> {
+        let (expression, polarities) = self.expression(words, place, earlier)?;
+        if !polarities.has(entry.polarity) {
             return Err(NO_POLARITY);
         }
         self.draws_allowed(&expression, earlier)?;
         let open = self.open(&expression, earlier);
-        Ok(Definition { polarity, open, expression })
+        Ok(Definition { name: entry.name, polarity: entry.polarity, open, expression })
     }
 
-    fn judge_query(&self, words: &[u32], definitions: &[Definition]) -> Numbered<(Expression, Verdict)> {
+    fn judge_query(&self, words: &[u32], place: Place, definitions: &[Definition]) -> Numbered<(Expression, Verdict)> {
         if !(1..=MOST_QUERY_WORDS).contains(&words.len()) {
             return Err(BAD_WORD);
         }
-        let (expression, polarities) = self.expression(words, definitions)?;
+        let (expression, polarities) = self.expression(words, place, definitions)?;
         let verdict = polarities.verdict().ok_or(NO_POLARITY)?;
         self.draws_allowed(&expression, definitions)?;
         Ok((expression, verdict))
     }
 
     /// 3, 4, 5 at the first word in order; left-over words last.
-    fn expression(&self, words: &[u32], definitions: &[Definition]) -> Numbered<(Expression, Polarities)> {
-        let mut parser = self.parser(words, definitions.len());
+    fn expression(&self, words: &[u32], place: Place, definitions: &[Definition]) -> Numbered<(Expression, Polarities)> {
+        let mut parser = self.parser(words, place);
         let expression = parser.expression(1)?;
         let polarities = self.polarities(&expression, definitions);
         if self.has(Fault::LeftOverWordsAfterPolarity) && polarities.verdict().is_none() {
@@ -1128,6 +1239,9 @@ impl Evaluator {
         }
         if parser.left_over() {
             return Err(BAD_WORD);
+        }
+        if parser.own_missing {
+            return Err(NOT_IN_SCOPE); // planted
         }
         Ok((expression, polarities))
     }
@@ -1137,8 +1251,12 @@ impl Evaluator {
         match expression {
             Expression::Rows(_) | Expression::AllBut(_) => Polarities::BOTH,
             Expression::Definition(number) => Polarities::only(definitions[*number].polarity),
+            Expression::List { own: Some(number), .. } if self.has(Fault::OwnPolaritiesOfExpression) && *number < definitions.len() => {
+                of(&definitions[*number].expression)
+            } // planted
             Expression::List { polarity, .. } => Polarities::only(*polarity),
-            Expression::Vetted { .. } if self.has(Fault::VettedAlwaysPlus) => Polarities::only(0), // planted
+            Expression::Vetted { own: Some(_), .. } if self.has(Fault::OwnVettedAlwaysPlus) => Polarities::only(0), // planted
+            Expression::Vetted { .. } if self.has(Fault::VettedAlwaysPlus) => Polarities::only(0),                  // planted
             Expression::Vetted { definition, .. } if self.has(Fault::VettedTurnsRound) => {
                 Polarities::only(definitions[*definition].polarity).opposite()
             } // planted
@@ -1159,7 +1277,11 @@ impl Evaluator {
         let of = |inner: &Expression| self.open(inner, definitions);
         match expression {
             Expression::AllBut(_) => true,
-            Expression::List { polarity, .. } => *polarity == 1,
+            // "its openness is that of the definition", in code 8 too.
+            Expression::List { own: Some(number), .. } | Expression::Vetted { own: Some(number), .. } => {
+                faults::own_wrongly_open(self.fault, expression, definitions).unwrap_or_else(|| definitions[*number].open)
+            }
+            Expression::List { polarity, own: None, .. } => *polarity == 1,
             Expression::Definition(number) => definitions[*number].open,
             Expression::Union(left, right) => of(left) || of(right),
             Expression::Difference(left, right) => of(left) || (self.has(Fault::OpenRightCounts) && of(right)), // the right is planted
@@ -1182,17 +1304,21 @@ impl Evaluator {
         }
     }
 
-    /// 1 to 7 of the policy alone; 15; 11. Writes the output to the front of the area and gives its length.
-    pub fn rewrite(&self, policy: &[u32], area: &mut [u32]) -> Result<usize, Refusal> {
-        let Table { entries, .. } = self.table(policy).or_else(refused)?;
+    /// 20; 1 to 7 of the policy alone; 15; 11. Writes the output to the front of the area and gives its length.
+    pub fn rewrite(&self, policy: &[u32], our_key: u32, area: &mut [u32]) -> Result<usize, Refusal> {
+        let our_key = if self.has(Fault::RewriterTakesANumber) { our_key | FIRST_KEY } else { our_key }; // planted
+        let Table { entries, .. } = self.table_under(policy, our_key)?;
+        let our_key = faults::our_key_in_rewriting(self.fault, our_key);
         if self.has(Fault::RewriterRefusesFormat2) && policy[0] == 2 {
             return refused(BAD_HEADER); // planted
         }
-        if let (true, Ok(parsed)) = (self.has(Fault::NotExternalBeforePolarity), self.parse_all(policy, &entries)) {
+        if let (true, Ok(parsed)) = (self.has(Fault::NotExternalBeforePolarity), self.parse_all(policy, &entries, our_key)) {
             self.external(&entries, &parsed)?; // planted
         }
-        let expressions: Vec<Expression> = self.definitions(policy, &entries)?.into_iter().map(|definition| definition.expression).collect();
-        let output = self.rewritten(policy, &entries);
+        let definitions = self.definitions(policy, &entries, our_key)?;
+        let expressions: Vec<Expression> = definitions.into_iter().map(|definition| definition.expression).collect();
+        self.key_asked(our_key, Asked::AfterJudging)?; // planted
+        let output = self.rewritten(policy, &entries, our_key);
         if self.has(Fault::ShortAreaBeforeNotExternal) && area.len() < output.len() {
             return refused(SHORT_AREA); // planted
         }
@@ -1207,6 +1333,7 @@ impl Evaluator {
         if area.len() < output.len() && !(self.has(Fault::AreaAsLongAsTheInput) && area.len() >= policy.len()) {
             return refused(SHORT_AREA); // the exception is planted
         }
+        self.key_asked(our_key, Asked::Last)?; // planted
         area[..fits].copy_from_slice(&output[..fits]);
         if self.has(Fault::PastOutputCleared) {
             area[fits..].iter_mut().take(1).for_each(|word| *word = 0); // planted
@@ -1239,7 +1366,8 @@ impl Evaluator {
         let inside = |inner: &Expression| self.keeps_rules(inner, polarity);
         match expression {
             Expression::Rows(_) | Expression::AllBut(_) | Expression::Definition(_) => true,
-            Expression::List { polarity: own, .. } => *own == polarity,
+            Expression::List { own: Some(_), .. } if self.has(Fault::OwnNotExternal) => false, // planted
+            Expression::List { polarity: read, .. } => *read == polarity,
             Expression::Vetted { .. } => self.has(Fault::VettedAccepted), // planted
             Expression::Union(left, right) => inside(left) && inside(right),
             Expression::Difference(..) => self.has(Fault::DifferenceAccepted), // planted
@@ -1251,9 +1379,9 @@ impl Evaluator {
         }
     }
 
-    /// The output: each code 4 in a later definition becomes code 8 with the same words and then 0; without a definition of name 0 −, it equals the input. It is
-    /// of the input's format.
-    fn rewritten(&self, policy: &[u32], entries: &[Entry]) -> Vec<u32> {
+    /// The output: each code 4 in a later definition, own names too, becomes code 8 with the same words and then 0; without a definition of name 0 −, it equals
+    /// the input. It is of the input's format.
+    fn rewritten(&self, policy: &[u32], entries: &[Entry], our_key: u32) -> Vec<u32> {
         if !entries.first().is_some_and(|entry| self.lists_compromised(0, entry)) {
             return policy.to_vec();
         }
@@ -1262,7 +1390,8 @@ impl Evaluator {
         for (entry, number) in entries.iter().zip(0..) {
             let words = &policy[entry.part.clone()];
             let later = number > 0 || self.has(Fault::Definition0RewrittenToo); // planted
-            let part = if later { self.with_lists_vetted(words, number) } else { words.to_vec() };
+            let place = Place { entries, available: number, our_key };
+            let part = if later { self.with_lists_vetted(words, place) } else { words.to_vec() };
             let moved = if self.has(Fault::OffsetsNotMoved) { entry.part.start } else { 2 + 4 * entries.len() + parts.len() }; // planted
             let length = if self.has(Fault::LengthsNotChanged) { words.len() } else { part.len() }; // planted
             table.extend([entry.name, entry.polarity, moved as u32, length as u32]);
@@ -1271,13 +1400,13 @@ impl Evaluator {
         [table, parts].concat()
     }
 
-    fn with_lists_vetted(&self, words: &[u32], number: usize) -> Vec<u32> {
-        let mut parser = self.parser(words, number);
+    fn with_lists_vetted(&self, words: &[u32], place: Place) -> Vec<u32> {
+        let mut parser = self.parser(words, place);
         // What is refused is met before.
         let _ = parser.expression(1);
         let mut output = Vec::new();
         let mut done = 0;
-        for list in faults::lists_rewritten(self.fault, words, parser.lists) {
+        for list in faults::lists_rewritten(self.fault, words, place.our_key, parser.lists) {
             output.extend(&words[done..list.start]);
             output.push(8);
             output.extend(&words[list.start + 1..list.end]);
@@ -1322,13 +1451,15 @@ impl Evaluator {
         (FIRST_YEAR..=last).flat_map(|year| (1..=12).map(move |month| (year, month))).map(move |(year, month)| (year, month, days(year, month)))
     }
 
-    /// 1 to 7; 8; 18; 11; then reading.
-    pub fn query(&self, policy: &[u32], query: &[u32], minute: u32, store: &[u32], links: &[u32], areas: Areas) -> Result<Answer, Refusal> {
+    /// 20; 1 to 7; 8; 18; 11; then reading.
+    pub fn query(&self, question: Question, store: &[u32], links: &[u32], areas: Areas) -> Result<Answer, Refusal> {
+        let Question { policy, query, our_key, minute } = question;
+        let our_key = if self.has(Fault::QueryTakesANumber) { our_key | FIRST_KEY } else { our_key }; // planted
         let sound_links = self.links(links);
         if self.has(Fault::BadLinkBeforeJudging) && sound_links.is_none() {
             return refused(BAD_LINK); // planted
         }
-        let judged = self.judge(policy, query)?;
+        let judged = self.judge(policy, query, our_key)?;
         if self.has(Fault::AreasBeforeStore) && areas.under(Areas::LEAST) {
             return refused(SHORT_AREA); // planted
         }
@@ -1346,6 +1477,7 @@ impl Evaluator {
         if areas.under(Areas::LEAST) {
             return refused(SHORT_AREA);
         }
+        self.key_asked(our_key, Asked::Last)?; // planted
         if self.has(Fault::MinuteWithoutDateRefused) {
             self.date(minute).or_else(refused)?; // planted
         }
@@ -1356,7 +1488,7 @@ impl Evaluator {
     fn read(&self, judged: &Judged, held: Held, minute: u32) -> Result<Answer, Refusal> {
         let definitions_minute = if self.has(Fault::DefinitionsAtMinute0) { 0 } else { minute }; // planted
         let definitions_links = if self.has(Fault::DefinitionsWithoutLinks) { &[] } else { held.links }; // planted
-        let mut reading = Reading::new(Held { links: definitions_links, ..held }, definitions_minute, judged.format, *self);
+        let mut reading = Reading::new(judged, Held { links: definitions_links, ..held }, definitions_minute, *self);
         for (definition, part) in judged.definitions.iter().zip(0..) {
             reading.format = faults::format_of_part(self.fault, judged, part);
             let set = if self.has(Fault::UnusedDefinitionNotRead) && !judged.uses(part as usize) {
@@ -1371,7 +1503,7 @@ impl Evaluator {
         }
         if self.has(Fault::DefinitionsAtMinute0) || self.has(Fault::DefinitionsWithoutLinks) {
             let Reading { definitions, draws, .. } = reading;
-            reading = Reading { definitions, draws, ..Reading::new(held, minute, judged.format, *self) };
+            reading = Reading { definitions, draws, ..Reading::new(judged, held, minute, *self) };
             // planted
         }
         reading.format = faults::format_of_part(self.fault, judged, QUERY_PART);
@@ -1391,9 +1523,18 @@ impl Judged {
     }
 
     fn uses(&self, definition: usize) -> bool {
-        self.expressions()
-            .iter()
-            .any(|expression| matches!(expression, Expression::Definition(used) | Expression::Vetted { definition: used, .. } if *used == definition))
+        self.expressions().iter().any(|expression| match expression {
+            Expression::Definition(used) => *used == definition,
+            Expression::List { own, .. } => *own == Some(definition),
+            Expression::Vetted { own, definition: used, .. } => *own == Some(definition) || *used == definition,
+            _ => false,
+        })
+    }
+
+    /// How many own names are written.
+    pub fn own_names(&self) -> usize {
+        let own = |expression: &&&Expression| matches!(expression, Expression::List { own: Some(_), .. } | Expression::Vetted { own: Some(_), .. });
+        self.expressions().iter().filter(own).count()
     }
 }
 

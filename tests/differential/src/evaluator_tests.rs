@@ -2,6 +2,8 @@ use super::*;
 
 const K1: u32 = key(1);
 const K2: u32 = key(2);
+/// Our key, where a case does not say otherwise: nothing is written or filed under it.
+const NOBODY: u32 = key(9);
 
 const NOTHING: &[u32] = &[1, 0];
 const Q: &[u32] = &[3, 0];
@@ -63,7 +65,25 @@ fn ask(policy: &[u32], query: &[u32], store: &[u32]) -> Result<Answer, Refusal> 
 }
 
 fn ask_at(minute: u32, policy: &[u32], query: &[u32], store: &[u32]) -> Result<Answer, Refusal> {
-    Evaluator::default().query(policy, query, minute, store, &no_links(), Areas::LEAST)
+    let question = Question { policy, query, our_key: NOBODY, minute };
+    Evaluator::default().query(question, store, &no_links(), Areas::LEAST)
+}
+
+/// At minute 0, with this key as ours.
+fn ask_as(our_key: u32, policy: &[u32], query: &[u32], store: &[u32]) -> Result<Answer, Refusal> {
+    ask_all(our_key, policy, query, store, &no_links())
+}
+
+fn ask_all(our_key: u32, policy: &[u32], query: &[u32], store: &[u32], links: &[u32]) -> Result<Answer, Refusal> {
+    Evaluator::default().query(Question { policy, query, our_key, minute: 0 }, store, links, Areas::LEAST)
+}
+
+fn judge(policy: &[u32], query: &[u32]) -> Result<Verdict, Refusal> {
+    judge_as(NOBODY, policy, query)
+}
+
+fn judge_as(our_key: u32, policy: &[u32], query: &[u32]) -> Result<Verdict, Refusal> {
+    Evaluator::default().judge(policy, query, our_key).map(|judged| judged.verdict)
 }
 
 fn certificates_of(store: &[u32], name: [u32; 3]) -> Range<usize> {
@@ -108,8 +128,10 @@ fn nested_unions(count: usize) -> Vec<u32> {
 use Set::{Complement, Finite};
 use Verdict::*;
 
+/// Cases a to l are given k2.
 #[test]
 fn portal_cases_a_to_e() {
+    let ask = |policy: &[u32], query: &[u32], store: &[u32]| ask_as(K2, policy, query, store);
     let mut store = empty_store();
     assert_eq!(ask(&p(), Q, &store), answer(Lower, 0, Finite(rows([]))));
     file(&mut store, certificate(K1, 1, 0, &[7]));
@@ -123,8 +145,9 @@ fn portal_cases_a_to_e() {
 
 #[test]
 fn portal_cases_f_to_l() {
-    refuses(&[6, 4, 0, K1, 1, 0, 4, 0, K1, 1, 0], 6);
-    refuses(&[7, 1, 1, 4, 0, K1, 2, 1, 1, 2, 0, 1, 1, 0], 7);
+    let alone = |query: &[u32]| ask_as(K2, NOTHING, query, &empty_store());
+    assert_eq!(alone(&[6, 4, 0, K1, 1, 0, 4, 0, K1, 1, 0]), refusal(6, QUERY_PART));
+    assert_eq!(alone(&[7, 1, 1, 4, 0, K1, 2, 1, 1, 2, 0, 1, 1, 0]), refusal(7, QUERY_PART));
     let h = [6, 2, 1, 1, 0, 7, 2, 2, 1, 0, 7, 1, 0, 8];
     assert_eq!(alone(&h), answer(Exact, 0, Finite(rows([&[8]]))));
     let i = [5, 2, 2, 1, 0, 7, 1, 0, 8, 1, 1, 1, 0, 8];
@@ -439,7 +462,8 @@ fn short_areas_get_11_after_8_and_18() {
     unsound_links[0] = 257;
     let shorter = [Areas { answer: 641, ..Areas::LEAST }, Areas { definitions: 10_271, ..Areas::LEAST }, Areas { scratch: 16_383, ..Areas::LEAST }];
     for areas in shorter {
-        let ask = |store: &[u32], links: &[u32]| Evaluator::default().query(NOTHING, &[1, 0], 0, store, links, areas);
+        let question = Question { policy: NOTHING, query: &[1, 0], our_key: NOBODY, minute: 0 };
+        let ask = |store: &[u32], links: &[u32]| Evaluator::default().query(question, store, links, areas);
         assert_eq!(ask(&empty_store(), &no_links()), refusal(11, NO_PART));
         assert_eq!(ask(&unsound, &no_links()), refusal(8, NO_PART));
         assert_eq!(ask(&empty_store(), &unsound_links), refusal(18, NO_PART));
@@ -514,8 +538,12 @@ fn delegated_to_alice() -> Vec<u32> {
 }
 
 fn rewrite(policy: &[u32]) -> Result<Vec<u32>, Refusal> {
+    rewrite_as(NOBODY, policy)
+}
+
+fn rewrite_as(our_key: u32, policy: &[u32]) -> Result<Vec<u32>, Refusal> {
     let mut area = vec![77; MOST_POLICY_WORDS];
-    let length = Evaluator::default().rewrite(policy, &mut area)?;
+    let length = Evaluator::default().rewrite(policy, our_key, &mut area)?;
     assert!(area[length..].iter().all(|&word| word == 77));
     area.truncate(length);
     Ok(area)
@@ -589,7 +617,7 @@ fn code_8_word_by_word() {
     assert_eq!(ask(&[8, 1, 0, 1, 0, 0]), refusal(4, QUERY_PART));
     // in a definition an earlier one alone
     let own = policy(&[(10, 0, &[8, 0, K1, 1, 0, 0])]);
-    assert_eq!(Evaluator::default().judge(&own, &[1, 0]).map(|judged| judged.verdict), refusal(4, 0));
+    assert_eq!(judge(&own, &[1, 0]), refusal(4, 0));
     // it stands at a depth as any expression does
     let deep = |unions: usize| [vec![5; unions], vec![8, 0, K1, 1, 0, 0], [1, 0].repeat(unions)].concat();
     assert_eq!(ask(&deep(14)), Ok(Lower));
@@ -611,8 +639,7 @@ fn code_8_is_plus_over_a_definition_that_is_minus_and_never_open() {
     assert_eq!(verdict(&from(&by_plus)), refusal(6, QUERY_PART));
     for (polarity, definition, refused) in [(0, 0, None), (1, 0, Some(6)), (0, 1, Some(6)), (1, 1, Some(6))] {
         let third = policy(&[(10, 1, &[2, 0]), (11, 0, &[1, 0]), (12, polarity, &[8, 0, K1, 1, 0, definition])]);
-        let judged = Evaluator::default().judge(&third, &[1, 0]).map(|judged| judged.verdict);
-        assert_eq!(judged, refused.map_or(Ok(Exact), |number| refusal(number, 2)));
+        assert_eq!(judge(&third, &[1, 0]), refused.map_or(Ok(Exact), |number| refusal(number, 2)));
     }
 }
 
@@ -657,7 +684,7 @@ fn broken_external_rules_get_15() {
     for words in broken {
         assert_eq!(rewrite(&words), refusal(15, NO_PART), "{words:?}");
         // 11 comes after it
-        assert_eq!(Evaluator::default().rewrite(&words, &mut []), refusal(15, NO_PART));
+        assert_eq!(Evaluator::default().rewrite(&words, NOBODY, &mut []), refusal(15, NO_PART));
     }
 }
 
@@ -698,12 +725,12 @@ fn an_output_of_8192_words_passes_and_one_of_8193_does_not() {
     assert_eq!(output.len(), 8_192);
     assert_eq!(output[..14], [1, 8, 0, 1, 34, 31, 1, 0, 65, 1_161, 2, 0, 1_226, 1_161]);
     assert_eq!(output[65..75], [5, 8, 0, K1, 1, 0, 0, 1, 128, 4]);
-    assert!(Evaluator::default().judge(&output, &[3, 7]).is_ok());
+    assert!(judge(&output, &[3, 7]).is_ok());
     assert_eq!(rewrite(&over), refusal(15, NO_PART));
-    assert!(Evaluator::default().judge(&over, &[3, 7]).is_ok());
+    assert!(judge(&over, &[3, 7]).is_ok());
     // the output is too long, and the area too short: 15
-    assert_eq!(Evaluator::default().rewrite(&over, &mut []), refusal(15, NO_PART));
-    assert_eq!(Evaluator::default().rewrite(&just, &mut [0; 8_191]), refusal(11, NO_PART));
+    assert_eq!(Evaluator::default().rewrite(&over, NOBODY, &mut []), refusal(15, NO_PART));
+    assert_eq!(Evaluator::default().rewrite(&just, NOBODY, &mut [0; 8_191]), refusal(11, NO_PART));
 }
 
 #[test]
@@ -711,12 +738,12 @@ fn a_short_area_gets_11_and_stays() {
     let external = delegated_to_alice();
     let mut area = [77; 25];
     for length in [0, 20] {
-        assert_eq!(Evaluator::default().rewrite(&external, &mut area[..length]), refusal(11, NO_PART));
+        assert_eq!(Evaluator::default().rewrite(&external, NOBODY, &mut area[..length]), refusal(11, NO_PART));
     }
     assert_eq!(area, [77; 25]);
-    assert_eq!(Evaluator::default().rewrite(&external, &mut area[..21]), Ok(21));
+    assert_eq!(Evaluator::default().rewrite(&external, NOBODY, &mut area[..21]), Ok(21));
     assert_eq!(area[21..], [77; 4]);
-    assert_eq!(Evaluator::default().rewrite(NOTHING, &mut area[..1]), refusal(11, NO_PART));
+    assert_eq!(Evaluator::default().rewrite(NOTHING, NOBODY, &mut area[..1]), refusal(11, NO_PART));
 }
 
 // ---- document 02, N4 ----
@@ -915,7 +942,7 @@ fn three_rows(polarity: u32) -> Vec<u32> {
 }
 
 fn ask_linked(query: &[u32], store: &[u32], links: &[u32]) -> Result<Answer, Refusal> {
-    Evaluator::default().query(NOTHING, query, 0, store, links, Areas::LEAST)
+    ask_all(NOBODY, NOTHING, query, store, links)
 }
 
 /// The rows listed for name 1 of each of the three keys.
@@ -974,7 +1001,7 @@ fn guards_draws_variables_and_definitions_read_through_links() {
     let store = store_of([certificate(K2, 1, 0, &[7]), certificate(K1, 1, 0, &[7]), certificate(K2, 1, 0, &[8]), certificate(K3, 2, 1, &[8])]);
     let withdrawn = Link { key: K1, name: 2, polarity: 1, other_key: K3, other_name: 2 };
     let links = links_of([link(K1, 0, K2), withdrawn]);
-    let ask = |policy: &[u32], query: &[u32]| Evaluator::default().query(policy, query, 0, &store, &links, Areas::LEAST);
+    let ask = |policy: &[u32], query: &[u32]| ask_all(NOBODY, policy, query, &store, &links);
     // k1's name 1 has 7, once, and 8: two draws; of 8 alone it is said that it is not withdrawn
     assert_eq!(ask(&p(), Q), answer(Lower, 2, Finite(rows([&[8]]))));
     assert_eq!(ask(NOTHING, &[4, 0, K1, 2, 1]), answer(Upper, 0, Complement(rows([&[8]]))));
@@ -988,7 +1015,7 @@ fn code_8_guards_the_issuer_alone() {
     let store = store_of([certificate(K1, 1, 0, &[7]), certificate(K2, 1, 0, &[8])]);
     let links = links_of([link(K1, 0, K2), link(K3, 0, K1)]);
     let compromised = policy(&[(0, 1, &[1, 1, 1, 0, K2])]);
-    let vetted = |key| Evaluator::default().query(&compromised, &[8, 0, key, 1, 0, 0], 0, &store, &links, Areas::LEAST).unwrap().set;
+    let vetted = |key| ask_all(NOBODY, &compromised, &[8, 0, key, 1, 0, 0], &store, &links).unwrap().set;
     assert_eq!(vetted(K1), Finite(rows([&[7], &[8]])));
     assert_eq!(vetted(K2), Finite(rows([])));
     assert_eq!(vetted(K3), Finite(rows([&[7], &[8]])));
@@ -998,7 +1025,8 @@ fn code_8_guards_the_issuer_alone() {
 fn only_certificates_that_hold_are_joined() {
     let store = store_of([seven(0, 10), with_term(certificate(K2, 1, 0, &[8]), 5, 15), with_term(certificate(K2, 1, 0, &[7]), 5, 15)]);
     let links = links_of([link(K1, 0, K2)]);
-    let listed = |minute| Evaluator::default().query(NOTHING, LIST, minute, &store, &links, Areas::LEAST).unwrap().set.listed().len();
+    let question = |minute| Question { policy: NOTHING, query: LIST, our_key: NOBODY, minute };
+    let listed = |minute| Evaluator::default().query(question(minute), &store, &links, Areas::LEAST).unwrap().set.listed().len();
     assert_eq!([0, 5, 10, 14, 15].map(listed), [1, 2, 2, 2, 0]);
 }
 
@@ -1333,7 +1361,7 @@ fn formats_1_and_2_pass_and_no_others() {
         for rest in [&[0][..], &definition[1..], &[17], &[1, 10, 0], &[0, 0], &[1, 10, 0, 7, 1, 1]] {
             let policy = [&[format], rest].concat();
             assert_eq!(ask(&policy, &[9], &[]), refusal(1, NO_PART), "{policy:?}");
-            assert_eq!(Evaluator::default().judge(&policy, &[1, 0]).map(|judged| judged.verdict), refusal(1, NO_PART));
+            assert_eq!(judge(&policy, &[1, 0]), refusal(1, NO_PART));
             assert_eq!(rewrite(&policy), refusal(1, NO_PART));
             for number in [0, 16] {
                 assert_eq!(Evaluator::default().part(&policy, &[1, 0], number), Part::Policy(0..0));
@@ -1353,7 +1381,7 @@ fn the_rewritten_policy_keeps_its_format() {
     }
     // 15 and 11 as before
     assert_eq!(rewrite(&of_format(2, policy(&[(10, 0, &[6, 1, 0, 1, 0])]))), refusal(15, NO_PART));
-    assert_eq!(Evaluator::default().rewrite(&external, &mut [0; 20]), refusal(11, NO_PART));
+    assert_eq!(Evaluator::default().rewrite(&external, NOBODY, &mut [0; 20]), refusal(11, NO_PART));
     // keys that are the first of a compromised row are compromised in format 2, where the policy draws them
     let drawn = [7, 1, 1, 1, 1, 2, 0, K2, 0, 7, 1, 2, 0, 1, 1, 0];
     let external = policy(&[(0, 1, &drawn), (10, 0, &[4, 0, K2, 1, 0])]);
@@ -1363,6 +1391,419 @@ fn the_rewritten_policy_keeps_its_format() {
         ask(&rewritten, &[3, 1], &store).unwrap().set
     });
     assert_eq!(listed, [Finite(rows([&[7]])), Finite(rows([]))]);
+}
+
+// ---- document 02, N7 ----
+
+/// The own name of this name and polarity where k2 is our key.
+fn own(name: u32, polarity: u32) -> [u32; 5] {
+    [4, 0, K2, name, polarity]
+}
+
+/// k2 is our key.
+fn ask_ours(policy: &[u32], query: &[u32], store: &[u32]) -> Result<Answer, Refusal> {
+    ask_as(K2, policy, query, store)
+}
+
+/// Each x of this expression.
+fn drawn_from(expression: &[u32]) -> Vec<u32> {
+    [&[7, 1, 1], expression, &[1, 2, 0, 1, 1, 0]].concat()
+}
+
+const SEVEN: &[u32] = &[1, 1, 1, 0, 7];
+const ALL_BUT_7: &[u32] = &[2, 1, 1, 0, 7];
+
+#[test]
+fn our_released_list_is_read_as_its_definition() {
+    let ours = own(10, 0);
+    let mut store = empty_store();
+    let lower = |draws, rows| answer(Lower, draws, Finite(rows));
+    // cases a to d, under the name of the definition
+    assert_eq!(ask_ours(&p(), &ours, &store), lower(0, rows([])));
+    file(&mut store, certificate(K1, 1, 0, &[7]));
+    assert_eq!(ask_ours(&p(), &ours, &store), lower(1, rows([])));
+    file(&mut store, certificate(K1, 2, 1, &[7]));
+    assert_eq!(ask_ours(&p(), &ours, &store), lower(1, rows([&[7]])));
+    file(&mut store, certificate(K1, 1, 0, &[8]));
+    assert_eq!(ask_ours(&p(), &ours, &store), lower(2, rows([&[7]])));
+    // what is filed under our key is not asked for
+    file(&mut store, certificate(K2, 10, 0, &[9]));
+    assert_eq!(ask_ours(&p(), &ours, &store), lower(2, rows([&[7]])));
+    // the definition's two draws are made once, and one more for the row drawn from it
+    assert_eq!(ask_ours(&p(), &[&[5], &ours[..], &ours].concat(), &store), lower(2, rows([&[7]])));
+    assert_eq!(ask_ours(&p(), &drawn_from(&ours), &store), lower(3, rows([&[7]])));
+}
+
+#[test]
+fn a_name_is_our_own_by_the_word_given_as_our_key() {
+    let defined = policy(&[(10, 0, SEVEN)]);
+    let store = store_of([certificate(K1, 10, 0, &[8]), certificate(K2, 10, 0, &[9])]);
+    let listed = |our_key, key| ask_as(our_key, &defined, &[4, 0, key, 10, 0], &store);
+    let lower = |rows| answer(Lower, 0, Finite(rows));
+    assert_eq!([listed(K1, K1), listed(K1, K2)], [lower(rows([&[7]])), lower(rows([&[9]]))]);
+    assert_eq!([listed(K2, K1), listed(K2, K2)], [lower(rows([&[8]])), lower(rows([&[7]]))]);
+    assert_eq!([listed(K3, K1), listed(K3, K2)], [lower(rows([&[8]])), lower(rows([&[9]]))]);
+}
+
+#[test]
+fn the_same_name_with_the_other_polarity_gets_4() {
+    for polarity in [0, 1] {
+        let defined = policy(&[(10, polarity, SEVEN)]);
+        assert_eq!(ask_ours(&defined, &own(10, 1 - polarity), &empty_store()), refusal(4, QUERY_PART));
+        assert_eq!(ask_ours(&defined, &own(11, polarity), &empty_store()), refusal(4, QUERY_PART));
+        assert!(ask_ours(&defined, &own(10, polarity), &empty_store()).is_ok());
+    }
+    let both = policy(&[(10, 1, ALL_BUT_7), (10, 0, &[1, 1, 1, 0, 8])]);
+    assert_eq!(ask_ours(&both, &own(10, 0), &empty_store()), answer(Lower, 0, Finite(rows([&[8]]))));
+    assert_eq!(ask_ours(&both, &own(10, 1), &empty_store()), answer(Upper, 0, Complement(rows([&[7]]))));
+}
+
+/// Those before it are available to a definition, by name as by number.
+#[test]
+fn a_later_definition_and_the_definition_itself_get_4() {
+    let earlier = policy(&[(11, 0, SEVEN), (10, 0, &own(11, 0))]);
+    assert_eq!(ask_ours(&earlier, &[3, 1], &empty_store()), answer(Lower, 0, Finite(rows([&[7]]))));
+    let later = policy(&[(10, 0, &own(11, 0)), (11, 0, SEVEN)]);
+    assert_eq!(judge_as(K2, &later, &[1, 0]), refusal(4, 0));
+    let itself = policy(&[(11, 0, SEVEN), (10, 0, &own(10, 0))]);
+    assert_eq!(judge_as(K2, &itself, &[1, 0]), refusal(4, 1));
+    // nor is what has the other polarity itself
+    let other = policy(&[(10, 1, SEVEN), (10, 0, &own(10, 0))]);
+    assert_eq!(judge_as(K2, &other, &[1, 0]), refusal(4, 1));
+    // to another key's name nothing of this applies
+    for policy in [later, itself, other] {
+        assert_eq!(judge_as(K1, &policy, &[1, 0]), Ok(Exact));
+    }
+}
+
+#[test]
+fn in_a_query_every_definition_is_available() {
+    let parts: Vec<[u32; 5]> = (0..16).map(|n| [1, 1, 1, 0, n]).collect();
+    let definitions: Vec<(u32, u32, &[u32])> = (0..).zip(&parts).map(|(n, part)| (20 + n, n % 2, &part[..])).collect();
+    let sixteen = policy(&definitions);
+    for n in 0..16 {
+        let verdict = if n % 2 == 0 { Lower } else { Upper };
+        assert_eq!(ask_ours(&sixteen, &own(20 + n, n % 2), &empty_store()), answer(verdict, 0, Finite(rows([&[n]]))));
+    }
+    assert_eq!(ask_ours(&sixteen, &own(36, 0), &empty_store()), refusal(4, QUERY_PART));
+    assert_eq!(ask_ours(NOTHING, &own(10, 0), &empty_store()), refusal(4, QUERY_PART));
+}
+
+#[test]
+fn an_own_name_has_its_polarity_alone() {
+    // both have expressions of both polarities
+    let words = policy(&[(10, 0, SEVEN), (11, 1, ALL_BUT_7)]);
+    let verdict = |parts: &[&[u32]]| judge_as(K2, &words, &parts.concat());
+    let (plus, minus) = (own(10, 0), own(11, 1));
+    assert_eq!(verdict(&[&plus]), Ok(Lower));
+    assert_eq!(verdict(&[&minus]), Ok(Upper));
+    assert_eq!(verdict(&[&[5], &plus, &minus]), refusal(6, QUERY_PART));
+    assert_eq!(verdict(&[&[6], &plus, &minus]), Ok(Lower));
+    assert_eq!(verdict(&[&[6], &minus, &plus]), Ok(Upper));
+    assert_eq!(verdict(&[&[6], &plus, &plus]), refusal(6, QUERY_PART));
+    assert_eq!(verdict(&[&[7, 1, 4, 1, 0, 7], &plus, &[1, 0, 5]]), Ok(Upper));
+    assert_eq!(verdict(&[&[7, 1, 4, 1, 0, 7], &minus, &[1, 0, 5]]), Ok(Lower));
+    // 7 is missing from all but 7, so that it is absent; 8 is not
+    let absent = |row| [&[7, 1, 4, 1, 0, row], &minus[..], &[1, 0, 5]].concat();
+    assert_eq!(ask_ours(&words, &absent(7), &empty_store()), answer(Lower, 0, Finite(rows([&[5]]))));
+    assert_eq!(ask_ours(&words, &absent(8), &empty_store()), answer(Lower, 0, Finite(rows([]))));
+    assert_eq!(judge_as(K2, &policy(&[(10, 0, SEVEN), (11, 1, &plus)]), &[1, 0]), refusal(6, 1));
+}
+
+#[test]
+fn a_minus_own_name_over_a_closed_definition_may_be_drawn_from() {
+    let closed = policy(&[(10, 1, &[1, 2, 1, 0, 7, 1, 0, 8])]);
+    assert_eq!(ask_ours(&closed, &drawn_from(&own(10, 1)), &empty_store()), answer(Upper, 2, Finite(rows([&[7], &[8]]))));
+    // of another key it is open
+    assert_eq!(ask_as(K1, &closed, &drawn_from(&own(10, 1)), &empty_store()), refusal(7, QUERY_PART));
+}
+
+#[test]
+fn an_own_name_over_an_open_definition_gets_7() {
+    let (plus_open, minus_open) = (policy(&[(10, 0, ALL_BUT_7)]), policy(&[(10, 1, &[4, 0, K1, 2, 1])]));
+    assert_eq!(ask_ours(&plus_open, &own(10, 0), &empty_store()), answer(Lower, 0, Complement(rows([&[7]]))));
+    assert_eq!(ask_ours(&plus_open, &drawn_from(&own(10, 0)), &empty_store()), refusal(7, QUERY_PART));
+    assert_eq!(ask_ours(&minus_open, &own(10, 1), &empty_store()), answer(Upper, 0, Complement(rows([]))));
+    assert_eq!(ask_ours(&minus_open, &drawn_from(&own(10, 1)), &empty_store()), refusal(7, QUERY_PART));
+    // another key's + name is never open
+    assert_eq!(ask_as(K1, &plus_open, &drawn_from(&own(10, 0)), &empty_store()), answer(Lower, 0, Finite(rows([]))));
+}
+
+#[test]
+fn the_openness_of_an_own_name_is_passed_on() {
+    let (minus, again) = (own(10, 1), own(11, 1));
+    let words = policy(&[(10, 1, ALL_BUT_7), (11, 1, &minus), (12, 1, SEVEN)]);
+    let verdict = |expression: &[u32]| judge_as(K2, &words, &drawn_from(expression));
+    assert_eq!(verdict(&[3, 1]), refusal(7, QUERY_PART));
+    assert_eq!(verdict(&again), refusal(7, QUERY_PART));
+    assert_eq!(verdict(&own(12, 1)), Ok(Upper));
+    assert_eq!(verdict(&[&[5, 1, 0], &again[..]].concat()), refusal(7, QUERY_PART));
+    assert_eq!(verdict(&[&[6], &again[..], &[1, 0]].concat()), refusal(7, QUERY_PART));
+    // the right of a difference does not count
+    assert_eq!(verdict(&[&[6, 1, 0], &again[..]].concat()), Ok(Lower));
+    assert_eq!(verdict(&drawn_from(&own(12, 1))), Ok(Upper));
+    // in a definition too
+    let drawn = drawn_from(&minus);
+    assert_eq!(judge_as(K2, &policy(&[(10, 1, ALL_BUT_7), (11, 1, &drawn)]), &[1, 0]), refusal(7, 1));
+    assert_eq!(judge_as(K2, &policy(&[(10, 1, SEVEN), (11, 1, &drawn)]), &[1, 0]), Ok(Exact));
+}
+
+#[test]
+fn own_names_of_code_4_word_by_word() {
+    let words = policy(&[(10, 0, SEVEN)]);
+    let refused = |parts: &[&[u32]], number| assert_eq!(judge_as(K2, &words, &parts.concat()), refusal(number, QUERY_PART), "{parts:?}");
+    let missing = own(12, 0);
+    refused(&[&missing], 4);
+    // at the polarity word 3 comes first
+    refused(&[&own(12, 2)], 3);
+    refused(&[&own(10, 2)], 3);
+    // and it is not before that word
+    refused(&[&[4, 0, K2, 12]], 3);
+    refused(&[&[4, 0, K2, 65_536, 0]], 3);
+    // what comes later is met later, left-over words last
+    refused(&[&missing, &[0]], 4);
+    refused(&[&[5], &missing, &[9]], 4);
+    refused(&[&[5, 9], &missing], 3);
+    refused(&[&[5], &missing, &[5; 16]], 4);
+    refused(&[&[5, 1, 0], &missing], 4);
+    refused(&[&[5, 1, 129], &missing], 3);
+    // at its code word 5, at depth 16; a ninth draw where its guard begins
+    refused(&[&[5; 14], &missing], 4);
+    refused(&[&[5; 15], &missing], 5);
+    let eight_draws = [1, 1, 0, 1, 0, 7].repeat(8);
+    refused(&[&[5, 7, 8], &eight_draws, &[1, 0, 7, 7, 1, 1], &missing], 5);
+    refused(&[&[5, 7, 7], &eight_draws[6..], &[1, 0, 7, 7, 1, 1], &missing], 4);
+    // 6 and 7 come after it
+    refused(&[&[6], &own(10, 0), &missing], 4);
+    refused(&[&[5, 7, 1, 1, 2, 0, 1, 2, 0, 1, 1, 0], &missing], 4);
+}
+
+#[test]
+fn own_names_of_code_8_word_by_word() {
+    let words = policy(&[(10, 0, SEVEN), (11, 1, SEVEN)]);
+    let judge = |query: &[u32]| judge_as(K2, &words, query);
+    assert_eq!(judge(&[8, 0, K2, 10, 0, 1]), Ok(Lower));
+    let cases: [(&[u32], u32); 13] = [
+        // no definition of the name, whatever the word behind
+        (&[8, 0, K2, 12, 0, 1], 4),
+        (&[8, 0, K2, 12, 0, 9], 4),
+        (&[8, 0, K2, 12, 0], 4),
+        // it is of the other polarity
+        (&[8, 0, K2, 11, 0, 1], 4),
+        // the name has one: then the word behind
+        (&[8, 0, K2, 10, 0, 2], 4),
+        (&[8, 0, K2, 10, 0], 3),
+        (&[8, 0, K2, 10, 0, 1, 0], 3),
+        // − and no polarity at all, before 4 and whatever is defined
+        (&[8, 0, K2, 12, 1, 1], 3),
+        (&[8, 0, K2, 11, 1, 1], 3),
+        (&[8, 0, K2, 12, 2, 9], 3),
+        (&[8, 0, K2, 10, 2, 1], 3),
+        // before the polarity word
+        (&[8, 0, K2, 12], 3),
+        (&[8, 0, K2, 65_536, 0, 1], 3),
+    ];
+    for (query, number) in cases {
+        assert_eq!(judge(query), refusal(number, QUERY_PART), "{query:?}");
+    }
+    // in a definition those before it
+    for (third, refused) in [([8, 0, K2, 10, 0, 1], None), ([8, 0, K2, 12, 0, 1], Some(4)), ([8, 0, K2, 10, 0, 2], Some(4))] {
+        let words = policy(&[(10, 0, SEVEN), (11, 1, SEVEN), (12, 0, &third)]);
+        assert_eq!(judge_as(K2, &words, &[1, 0]), refused.map_or(Ok(Exact), |number| refusal(number, 2)));
+    }
+}
+
+/// k1 says which keys are compromised. Our list 10 is what k1 released.
+#[test]
+fn code_8_guards_an_own_name() {
+    let words = policy(&[(0, 1, &[4, 0, K1, 0, 1]), (10, 0, &[4, 0, K1, 1, 0])]);
+    let vetted = [8, 0, K2, 10, 0, 0];
+    let mut store = store_of([certificate(K1, 1, 0, &[7]), certificate(K2, 10, 0, &[9])]);
+    // our key may be compromised
+    assert_eq!(ask_ours(&words, &vetted, &store), answer(Lower, 0, Finite(rows([]))));
+    file(&mut store, certificate(K1, 0, 1, &[K1]));
+    assert_eq!(ask_ours(&words, &vetted, &store), answer(Lower, 0, Finite(rows([]))));
+    file(&mut store, certificate(K1, 0, 1, &[K2]));
+    assert_eq!(ask_ours(&words, &vetted, &store), answer(Lower, 0, Finite(rows([&[7]]))));
+    // of another key certificates are read
+    assert_eq!(ask_as(K3, &words, &vetted, &store), answer(Lower, 0, Finite(rows([&[9]]))));
+    // + only if the definition is − that the key is looked up in
+    assert_eq!(ask_ours(&words, &[8, 0, K2, 10, 0, 1], &store), refusal(6, QUERY_PART));
+}
+
+#[test]
+fn code_8_is_open_as_the_own_name_is_that_it_guards() {
+    let compromised = |keys: &'static [u32]| policy(&[(0, 1, keys), (10, 0, ALL_BUT_7), (11, 0, SEVEN)]);
+    let (trusted, untrusted, unknown) = (compromised(&[1, 0]), compromised(&[1, 1, 1, 0, K2]), compromised(&[2, 0]));
+    let (open, closed) = ([8, 0, K2, 10, 0, 0], [8, 0, K2, 11, 0, 0]);
+    for words in [&trusted, &untrusted, &unknown] {
+        // whatever our key is looked up in
+        assert_eq!(judge_as(K2, words, &drawn_from(&open)), refusal(7, QUERY_PART));
+        assert_eq!(judge_as(K2, words, &drawn_from(&closed)), Ok(Lower));
+        assert_eq!(judge_as(K1, words, &drawn_from(&open)), Ok(Lower));
+    }
+    let nothing = || answer(Lower, 0, Finite(rows([])));
+    assert_eq!(ask_ours(&trusted, &open, &empty_store()), answer(Lower, 0, Complement(rows([&[7]]))));
+    assert_eq!([&untrusted, &unknown].map(|words| ask_ours(words, &open, &empty_store())), [nothing(), nothing()]);
+    assert_eq!(ask_ours(&trusted, &drawn_from(&closed), &empty_store()), answer(Lower, 1, Finite(rows([&[7]]))));
+    assert_eq!(ask_ours(&untrusted, &drawn_from(&closed), &empty_store()), nothing());
+}
+
+#[test]
+fn a_variable_that_holds_our_key_reads_certificates() {
+    let words = policy(&[(0, 1, &[1, 0]), (1, 0, SEVEN), (1, 1, ALL_BUT_7)]);
+    let store = store_of([certificate(K2, 1, 0, &[8]), certificate(K2, 1, 0, &[9]), certificate(K2, 1, 1, &[5])]);
+    // k2 is drawn, then what its name 1 has: one draw and two
+    let through =
+        |code: &[u32], name| [&[7, 2, 1, 1, 1, 1, 0, K2, 1, 2, 0, 1], &[code[0], 1, 0, name, 0][..], &code[1..], &[1, 2, 1, 1, 1, 1]].concat();
+    let certified = answer(Lower, 3, Finite(rows([&[8], &[9]])));
+    assert_eq!(ask_ours(&words, &through(&[4], 1), &store), certified);
+    assert_eq!(ask_ours(&words, &through(&[8, 0], 1), &store), certified);
+    assert_eq!(ask_ours(&words, &own(1, 0), &store), answer(Lower, 0, Finite(rows([&[7]]))));
+    // a name that has no definition is no refusal there, and an open one is drawn from
+    assert_eq!(ask_ours(&words, &through(&[4], 2), &store), answer(Lower, 1, Finite(rows([]))));
+    let open = policy(&[(1, 0, ALL_BUT_7)]);
+    assert_eq!(ask_ours(&open, &through(&[4], 1), &store), certified);
+    // absent from k2's name 1 −: all rows but 5, where our definition has all but 7
+    let absent = |row| [7, 2, 1, 1, 1, 1, 0, K2, 1, 2, 0, 4, 1, 0, row, 4, 1, 0, 1, 1, 1, 0, 6];
+    assert_eq!(ask_ours(&words, &absent(5), &store), answer(Lower, 1, Finite(rows([&[6]]))));
+    assert_eq!(ask_ours(&words, &absent(7), &store), answer(Lower, 1, Finite(rows([]))));
+}
+
+#[test]
+fn links_reach_certificates_under_our_key_and_no_own_name() {
+    for polarity in [0, 1] {
+        let defined = policy(&[(1, polarity, if polarity == 0 { SEVEN } else { ALL_BUT_7 })]);
+        let store = store_of([(K1, 8), (K2, 9), (K3, 10)].map(|(key, atom)| certificate(key, 1, polarity, &[atom])));
+        let to = |key, other| link(key, polarity, other);
+        let listed = |links: &[Link], key| {
+            let set = ask_all(K2, &defined, &[4, 0, key, 1, polarity], &store, &links_of(links.iter().copied())).unwrap().set;
+            set.listed().iter().map(|row| row.atoms[0]).collect::<Vec<u32>>()
+        };
+        // from our list: our own name stays
+        assert_eq!(listed(&[to(K2, K1), to(K2, K3)], K2), [7]);
+        assert_eq!(listed(&[to(K2, K2)], K2), [7]);
+        // to our list: what is certified under our key, and not our definition
+        assert_eq!(listed(&[to(K3, K2)], K3), [9, 10]);
+        // and by our list on to another
+        assert_eq!(listed(&[to(K3, K2), to(K2, K1)], K3), [8, 9, 10]);
+        assert_eq!(listed(&[to(K3, K2), to(K2, K3)], K2), [7]);
+    }
+    // a variable that holds our key reads through them
+    let through = [7, 2, 1, 1, 1, 1, 0, K2, 1, 2, 0, 1, 4, 1, 0, 1, 0, 1, 2, 1, 1, 1, 1];
+    let store = store_of([certificate(K1, 1, 0, &[8]), certificate(K2, 1, 0, &[9])]);
+    let answered = ask_all(K2, &policy(&[(1, 0, SEVEN)]), &through, &store, &links_of([link(K2, 0, K1)]));
+    assert_eq!(answered, answer(Lower, 3, Finite(rows([&[8], &[9]]))));
+}
+
+/// k3 releases under our name 1; what we show is our name 10, and k1 says which keys are compromised.
+#[test]
+fn the_rewriter_guards_own_names() {
+    let external = policy(&[(0, 1, &[4, 0, K1, 0, 1]), (1, 0, &[4, 0, K3, 1, 0]), (10, 0, &own(1, 0))]);
+    let rewritten = rewrite_as(K2, &external).unwrap();
+    let table = [1, 3, 0, 1, 14, 5, 1, 0, 19, 6, 10, 0, 25, 6];
+    assert_eq!(rewritten, [&table, &[4, 0, K1, 0, 1, 8, 0, K3, 1, 0, 0, 8, 0, K2, 1, 0, 0][..]].concat());
+    // as lists of any key
+    assert_eq!(rewrite(&external).as_ref(), Ok(&rewritten));
+    let mut store = store_of([certificate(K3, 1, 0, &[7]), certificate(K2, 1, 0, &[9]), certificate(K1, 0, 1, &[K3])]);
+    let lower = |rows| answer(Lower, 0, Finite(rows));
+    // k3 is not compromised; our key may be, and then our own name has no rows
+    assert_eq!(ask_ours(&rewritten, &[3, 1], &store), lower(rows([&[7]])));
+    assert_eq!(ask_ours(&rewritten, &[3, 2], &store), lower(rows([])));
+    file(&mut store, certificate(K1, 0, 1, &[K2]));
+    assert_eq!(ask_ours(&rewritten, &[3, 2], &store), lower(rows([&[7]])));
+    // the query is not rewritten
+    assert_eq!(ask_ours(&rewritten, &own(10, 0), &store), lower(rows([&[7]])));
+    // certificates under k2 if it is not ours
+    assert_eq!(ask_as(K1, &policy(&[(0, 1, &[1, 0]), (10, 0, &[8, 0, K2, 1, 0, 0])]), &[3, 1], &store), lower(rows([&[9]])));
+}
+
+#[test]
+fn a_compromised_key_of_ours_empties_rewritten_own_names_alone() {
+    let united = [&[5], &own(1, 0)[..], &[4, 0, K3, 2, 0]].concat();
+    let store = store_of([certificate(K3, 2, 0, &[8])]);
+    // our key is compromised, k3 is, neither is
+    for (compromised, shown) in [(vec![1, 1, 1, 0, K2], rows([&[8]])), (vec![1, 1, 1, 0, K3], rows([&[7]])), (vec![1, 0], rows([&[7], &[8]]))] {
+        let rewritten = rewrite_as(K2, &policy(&[(0, 1, &compromised), (1, 0, SEVEN), (10, 0, &united)])).unwrap();
+        assert_eq!(ask_ours(&rewritten, &[3, 1], &store), answer(Lower, 0, Finite(rows([&[7]]))));
+        assert_eq!(ask_ours(&rewritten, &[3, 2], &store), answer(Lower, 0, Finite(shown)));
+    }
+}
+
+#[test]
+fn rewriting_refuses_own_names_as_judging_does() {
+    let compromised: (u32, u32, &[u32]) = (0, 1, &[4, 0, K1, 0, 1]);
+    // a later one, itself, none, and one of the other polarity
+    for name in [11, 10, 12, 0] {
+        let external = policy(&[compromised, (10, 0, &own(name, 0)), (11, 0, SEVEN)]);
+        assert_eq!(rewrite_as(K2, &external), refusal(4, 1), "{name}");
+        assert!(rewrite(&external).is_ok());
+    }
+    assert_eq!(rewrite_as(K2, &policy(&[(0, 1, &own(0, 1)), (10, 0, SEVEN)])), refusal(4, 0));
+    // − in a later definition has no +
+    assert_eq!(rewrite_as(K2, &policy(&[compromised, (10, 0, &own(0, 1))])), refusal(6, 1));
+    // before 15 and 11
+    let broken = policy(&[(10, 0, &[6, 1, 0, 1, 0]), (11, 0, &own(12, 0))]);
+    assert_eq!(Evaluator::default().rewrite(&broken, K2, &mut []), refusal(4, 1));
+    // what may not be drawn from in the output may not be in the input
+    let drawn = drawn_from(&own(10, 0));
+    assert_eq!(rewrite_as(K2, &policy(&[compromised, (10, 0, ALL_BUT_7), (11, 0, &drawn)])), refusal(7, 2));
+    let closed = rewrite_as(K2, &policy(&[compromised, (10, 0, SEVEN), (11, 0, &drawn)])).unwrap();
+    assert_eq!(judge_as(K2, &closed, &[3, 2]), Ok(Lower));
+    // without compromised keys own names stay as they are
+    let plain = policy(&[(10, 0, SEVEN), (11, 0, &own(10, 0))]);
+    assert_eq!(rewrite_as(K2, &plain), Ok(plain));
+}
+
+#[test]
+fn a_number_as_our_key_gets_20_before_all_others() {
+    let sound = policy(&[(10, 0, SEVEN)]);
+    let no_areas = Areas { answer: 0, definitions: 0, scratch: 0 };
+    for our_key in [0, 1, 5, FIRST_KEY - 1] {
+        // whatever else is wrong: 1, 2, 3, 8, 18, 11 and 15; and where nothing is, and no name is read
+        for words in [&[][..], &[3, 0], &[1, 0, 0], &policy(&[(10, 0, &[9])]), &policy(&[(10, 0, &[6, 1, 0, 1, 0])]), NOTHING, &sound] {
+            for query in [&[][..], &[9], &[3, 0], &[4, 0, our_key, 10, 0], &[1, 0]] {
+                let question = Question { policy: words, query, our_key, minute: 0 };
+                assert_eq!(Evaluator::default().query(question, &empty_store(), &no_links(), Areas::LEAST), refusal(20, NO_PART));
+                assert_eq!(Evaluator::default().query(question, &[], &[], no_areas), refusal(20, NO_PART));
+                assert_eq!(judge_as(our_key, words, query), refusal(20, NO_PART));
+            }
+            assert_eq!(rewrite_as(our_key, words), refusal(20, NO_PART));
+            assert_eq!(Evaluator::default().rewrite(words, our_key, &mut []), refusal(20, NO_PART));
+        }
+    }
+    // every key is one, also one that nobody uses
+    for our_key in [FIRST_KEY, K1, NOBODY, u32::MAX] {
+        assert_eq!(ask_as(our_key, &sound, &[3, 0], &empty_store()), answer(Lower, 0, Finite(rows([&[7]]))));
+        assert_eq!(ask_as(our_key, &sound, &[4, 0, our_key, 10, 0], &empty_store()), answer(Lower, 0, Finite(rows([&[7]]))));
+        assert_eq!(rewrite_as(our_key, &sound).as_ref(), Ok(&sound));
+    }
+}
+
+#[test]
+fn an_own_name_of_128_rows_is_read_anew_without_a_limit() {
+    let words = policy(&[(10, 0, &numbers(128))]);
+    let ours = own(10, 0);
+    let listed = |query: &[u32]| ask_ours(&words, query, &empty_store()).map(|answer| (answer.draws, answer.set.listed().len()));
+    assert_eq!(listed(&ours), Ok((0, 128)));
+    assert_eq!(listed(&[&[5], &ours[..], &ours].concat()), Ok((0, 128)));
+    assert_eq!(listed(&drawn_from(&ours)), Ok((128, 128)));
+    // what is filed under our key counts nowhere
+    let store = store_of((0..129).map(|n| certificate(K2, 10, 0, &[n])));
+    assert_eq!(ask_ours(&words, &ours, &store).map(|answer| answer.set.listed().len()), Ok(128));
+    assert_eq!(ask_as(K1, &words, &ours, &store), refusal(13, QUERY_PART));
+    // the definition's own limits are met in its part
+    let many = policy(&[(10, 0, &[4, 0, K2, 1, 0])]);
+    let store = store_of((0..129).map(|n| certificate(K2, 1, 0, &[n])));
+    assert_eq!(ask_as(K1, &many, &[4, 0, K1, 10, 0], &store), refusal(13, 0));
+}
+
+#[test]
+fn own_names_are_drawn_from_by_their_policy_s_format() {
+    let wide = policy(&[(10, 0, &[1, 2, 1, 0, 7, 2, 0, 8, 0, 9])]);
+    let drawn = drawn_from(&own(10, 0));
+    assert_eq!(ask_ours(&wide, &drawn, &empty_store()), answer(Lower, 2, Finite(rows([&[7]]))));
+    assert_eq!(ask_ours(&of_format(2, wide), &drawn, &empty_store()), answer(Lower, 2, Finite(rows([&[7], &[8]]))));
 }
 
 #[test]

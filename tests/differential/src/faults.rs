@@ -1,10 +1,12 @@
 //! Mistakes that can be planted in the evaluator, to see that the comparison notices each of them.
 
 use crate::evaluator::{
-    certified, equals, is_key, limited, matches, reached, value, Certified, Date, Expression, Format, Judged, Link, Name, Numbered, Record, Row, Set,
-    Slot, Term, Validity,
+    certified, equals, is_key, limited, matches, reached, value, Certified, Date, Definition, Entry, Expression, Format, Judged, Link, Name,
+    Numbered, Place, Reading, Record, Row, Set, Slot, Term, Validity,
 };
-use crate::numbers::{LAST_NAME, LINKS_WORDS, LINK_WORDS, MOST_CERTIFICATES, MOST_LINKS, MOST_ROWS, QUERY_PART, RECORD_WORDS, TOO_MANY_ROWS};
+use crate::numbers::{
+    FIRST_KEY, LAST_NAME, LINKS_WORDS, LINK_WORDS, MOST_CERTIFICATES, MOST_LINKS, MOST_ROWS, NOT_IN_SCOPE, QUERY_PART, RECORD_WORDS, TOO_MANY_ROWS,
+};
 use std::cmp::{Ordering, Reverse};
 use std::collections::BTreeSet;
 use std::ops::Range;
@@ -251,11 +253,66 @@ pub enum Fault {
     RewriterRefusesFormat2,
     RewriterWritesFormat1,
     RewriterWritesFormat2,
+    OurKeyIgnored,
+    DefinitionsWithoutOwnNames,
+    QueryWithoutOwnNames,
+    VettedWithoutOwnNames,
+    CertificatesReadForOwnName,
+    CertificatesReadForOwnVetted,
+    OwnDrawnFromCertificates,
+    OwnAbsentFromCertificates,
+    OwnMissingReadsCertificates,
+    OwnJoinedWithCertificates,
+    OwnJoinedWithLinks,
+    OwnReadAgain,
+    OwnReadAsFirst,
+    OwnReadAsLast,
+    LaterDefinitionAvailable,
+    DefinitionItselfAvailable,
+    Definition0Missing,
+    OwnMissingInQuery,
+    LastMissingInQuery,
+    OwnMissingInVetted,
+    OwnFoundByNameAlone,
+    OtherPolarityTaken,
+    OwnMissingBeforePolarity,
+    OwnMissingAtName,
+    OwnMissingAfterTheRest,
+    OwnFoundAfterDefinitionWord,
+    OwnOpenByPolarity,
+    OwnNeverOpen,
+    OwnVettedNeverOpen,
+    OwnVettedOpenAsItsGuard,
+    OwnVettedAlwaysPlus,
+    OwnPolaritiesOfExpression,
+    OwnVettedNotLookedUp,
+    OwnVettedReadAsItsGuard,
+    VariableReadsDefinition,
+    VettedVariableReadsDefinition,
+    VariableOfOurKeyUnknown,
+    LinkReachesDefinition,
+    LinkToOurKeyNotFollowed,
+    OwnNotRewritten,
+    OwnNotExternal,
+    RewriterWithoutOurKey,
+    JudgeWithoutOurKey,
+    NotAKeyAfterHeader,
+    NotAKeyAfterTable,
+    NotAKeyAfterJudging,
+    NotAKeyLast,
+    NotAKeyWhereWritten,
+    JudgeTakesANumber,
+    QueryTakesANumber,
+    RewriterTakesANumber,
+    NotAKeyHasAPart,
+    K0TakenForANumber,
+    LastNumberTakenForAKey,
+    ZeroTakenForNone,
 }
 
 impl Fault {
     /// Every fault; `--plant K` plants the one at K, counted from 1.
-    pub const ALL: [Fault; 239] = [
+    pub const ALL: [Fault; 294] = [
         Fault::UnknownListTakenAsEmpty,
         Fault::ComparedTermsCounted,
         Fault::AbsentNotTurnedRound,
@@ -495,6 +552,61 @@ impl Fault {
         Fault::RewriterRefusesFormat2,
         Fault::RewriterWritesFormat1,
         Fault::RewriterWritesFormat2,
+        Fault::OurKeyIgnored,
+        Fault::DefinitionsWithoutOwnNames,
+        Fault::QueryWithoutOwnNames,
+        Fault::VettedWithoutOwnNames,
+        Fault::CertificatesReadForOwnName,
+        Fault::CertificatesReadForOwnVetted,
+        Fault::OwnDrawnFromCertificates,
+        Fault::OwnAbsentFromCertificates,
+        Fault::OwnMissingReadsCertificates,
+        Fault::OwnJoinedWithCertificates,
+        Fault::OwnJoinedWithLinks,
+        Fault::OwnReadAgain,
+        Fault::OwnReadAsFirst,
+        Fault::OwnReadAsLast,
+        Fault::LaterDefinitionAvailable,
+        Fault::DefinitionItselfAvailable,
+        Fault::Definition0Missing,
+        Fault::OwnMissingInQuery,
+        Fault::LastMissingInQuery,
+        Fault::OwnMissingInVetted,
+        Fault::OwnFoundByNameAlone,
+        Fault::OtherPolarityTaken,
+        Fault::OwnMissingBeforePolarity,
+        Fault::OwnMissingAtName,
+        Fault::OwnMissingAfterTheRest,
+        Fault::OwnFoundAfterDefinitionWord,
+        Fault::OwnOpenByPolarity,
+        Fault::OwnNeverOpen,
+        Fault::OwnVettedNeverOpen,
+        Fault::OwnVettedOpenAsItsGuard,
+        Fault::OwnVettedAlwaysPlus,
+        Fault::OwnPolaritiesOfExpression,
+        Fault::OwnVettedNotLookedUp,
+        Fault::OwnVettedReadAsItsGuard,
+        Fault::VariableReadsDefinition,
+        Fault::VettedVariableReadsDefinition,
+        Fault::VariableOfOurKeyUnknown,
+        Fault::LinkReachesDefinition,
+        Fault::LinkToOurKeyNotFollowed,
+        Fault::OwnNotRewritten,
+        Fault::OwnNotExternal,
+        Fault::RewriterWithoutOurKey,
+        Fault::JudgeWithoutOurKey,
+        Fault::NotAKeyAfterHeader,
+        Fault::NotAKeyAfterTable,
+        Fault::NotAKeyAfterJudging,
+        Fault::NotAKeyLast,
+        Fault::NotAKeyWhereWritten,
+        Fault::JudgeTakesANumber,
+        Fault::QueryTakesANumber,
+        Fault::RewriterTakesANumber,
+        Fault::NotAKeyHasAPart,
+        Fault::K0TakenForANumber,
+        Fault::LastNumberTakenForAKey,
+        Fault::ZeroTakenForNone,
     ];
 
     pub fn meaning(self) -> &'static str {
@@ -742,9 +854,244 @@ impl Fault {
             Fault::RewriterRefusesFormat2 => "rewriting refuses format 2",
             Fault::RewriterWritesFormat1 => "a rewritten policy is of format 1 whatever the input's",
             Fault::RewriterWritesFormat2 => "a rewritten policy is of format 2 whatever the input's",
+            Fault::OurKeyIgnored => "our key is taken as any other: certificates are read of own names",
+            Fault::DefinitionsWithoutOwnNames => "own names are known in the query alone: in definitions certificates are read of them",
+            Fault::QueryWithoutOwnNames => "own names are known in definitions alone: in the query certificates are read of them",
+            Fault::VettedWithoutOwnNames => "own names are known in code 4 alone: in code 8 certificates are read of them",
+            Fault::CertificatesReadForOwnName => "certificates are read of an own name, though its definition is asked for",
+            Fault::CertificatesReadForOwnVetted => "certificates are read of an own name in code 8, though its definition is asked for",
+            Fault::OwnDrawnFromCertificates => "a draw from an own name is from its certificates",
+            Fault::OwnAbsentFromCertificates => "an absent guard asks an own name's certificates",
+            Fault::OwnMissingReadsCertificates => "certificates are read of an own name that has no definition available",
+            Fault::OwnJoinedWithCertificates => "the certificates of an own name are joined with its definition",
+            Fault::OwnJoinedWithLinks => "what links reach from an own name is joined with its definition",
+            Fault::OwnReadAgain => "the definition of an own name is read once more where the name stands, and its draws counted",
+            Fault::OwnReadAsFirst => "an own name is read as definition 0",
+            Fault::OwnReadAsLast => "an own name is read as the last definition available",
+            Fault::LaterDefinitionAvailable => "a later definition is available to an own name",
+            Fault::DefinitionItselfAvailable => "a definition is available to an own name in itself",
+            Fault::Definition0Missing => "definition 0 is available to no own name",
+            Fault::OwnMissingInQuery => "no definition is available to an own name in the query",
+            Fault::LastMissingInQuery => "the last definition is not available to an own name in the query",
+            Fault::OwnMissingInVetted => "no definition is available to an own name in code 8",
+            Fault::OwnFoundByNameAlone => "an own name stands for the first definition of its name, whatever the polarity",
+            Fault::OtherPolarityTaken => "an own name stands for the definition of the other polarity where its own has none",
+            Fault::OwnMissingBeforePolarity => "at an own name's polarity word 4 comes before 3",
+            Fault::OwnMissingAtName => "an own name whose name no definition has is refused with 4 at its name",
+            Fault::OwnMissingAfterTheRest => "an own name without a definition is refused with 4 after 3, 4 and 5 of the words behind it",
+            Fault::OwnFoundAfterDefinitionWord => "an own name's definition is sought after the last word of code 8",
+            Fault::OwnOpenByPolarity => "an own name is open if it is −",
+            Fault::OwnNeverOpen => "an own name is never open",
+            Fault::OwnVettedNeverOpen => "code 8 of an own name is never open",
+            Fault::OwnVettedOpenAsItsGuard => "code 8 of an own name is open if the definition is that it looks our key up in",
+            Fault::OwnVettedAlwaysPlus => "code 8 of an own name has + whatever the definition declares that it looks our key up in",
+            Fault::OwnPolaritiesOfExpression => "an own name has the polarities of its definition's expression, and not the declared one alone",
+            Fault::OwnVettedNotLookedUp => "code 8 does not look our key up",
+            Fault::OwnVettedReadAsItsGuard => "code 8 of an own name is read as the definition that it looks our key up in",
+            Fault::VariableReadsDefinition => "a variable that holds our key reads the definition",
+            Fault::VettedVariableReadsDefinition => "a variable that holds our key reads the definition in code 8",
+            Fault::VariableOfOurKeyUnknown => "a list whose issuer is a variable that holds our key is read as if nothing were held of it",
+            Fault::LinkReachesDefinition => "a link to a name under our key reaches the definition",
+            Fault::LinkToOurKeyNotFollowed => "a link to a name under our key is not followed",
+            Fault::OwnNotRewritten => "own names are not rewritten",
+            Fault::OwnNotExternal => "an external policy has no own names",
+            Fault::RewriterWithoutOurKey => "rewriting takes our key as any other",
+            Fault::JudgeWithoutOurKey => "judging takes our key as any other",
+            Fault::NotAKeyAfterHeader => "20 comes after 1",
+            Fault::NotAKeyAfterTable => "20 comes after 2",
+            Fault::NotAKeyAfterJudging => "20 comes after 3 to 7",
+            Fault::NotAKeyLast => "20 comes after 8, 18, 15 and 11",
+            Fault::NotAKeyWhereWritten => "20 is asked only where our key is written as an issuer, and there a number is refused with 3",
+            Fault::JudgeTakesANumber => "judging takes a number as our key",
+            Fault::QueryTakesANumber => "a query takes a number as our key",
+            Fault::RewriterTakesANumber => "rewriting takes a number as our key",
+            Fault::NotAKeyHasAPart => "20 comes with the query as its part",
+            Fault::K0TakenForANumber => "k0 as our key is taken for a number",
+            Fault::LastNumberTakenForAKey => "2,147,483,647 as our key is taken for a key",
+            Fault::ZeroTakenForNone => "0 as our key is taken for none, and passes",
         }
     }
 }
+
+// ---- our key ----
+
+/// When 20 is asked.
+#[derive(Clone, Copy, PartialEq, Eq, Debug)]
+pub enum Asked {
+    First,
+    AfterHeader,
+    AfterTable,
+    AfterJudging,
+    Last,
+    Never,
+}
+
+/// First, unless a fault asks later or not at all.
+pub fn key_asked(fault: Option<Fault>) -> Asked {
+    match fault {
+        Some(Fault::NotAKeyAfterHeader) => Asked::AfterHeader,
+        Some(Fault::NotAKeyAfterTable) => Asked::AfterTable,
+        Some(Fault::NotAKeyAfterJudging) => Asked::AfterJudging,
+        Some(Fault::NotAKeyLast) => Asked::Last,
+        Some(Fault::NotAKeyWhereWritten) => Asked::Never,
+        _ => Asked::First,
+    }
+}
+
+/// Whether a word is wrongly taken for a key, or for a number.
+pub fn wrongly_a_key(fault: Option<Fault>, our_key: u32) -> Option<bool> {
+    match fault? {
+        Fault::K0TakenForANumber if our_key == FIRST_KEY => Some(false),
+        Fault::LastNumberTakenForAKey if our_key == FIRST_KEY - 1 => Some(true),
+        Fault::ZeroTakenForNone if our_key == 0 => Some(true),
+        _ => None,
+    }
+}
+
+/// A number, which is no fixed issuer: there are then no own names.
+const NO_KEY: u32 = 0;
+
+/// Our key, as the query's own names are known by it, unless a fault knows none there.
+pub fn our_key_in_query(fault: Option<Fault>, our_key: u32) -> u32 {
+    let unknown = matches!(fault, Some(Fault::OurKeyIgnored | Fault::QueryWithoutOwnNames));
+    if unknown {
+        NO_KEY
+    } else {
+        our_key
+    }
+}
+
+/// The same in definitions.
+pub fn our_key_in_definitions(fault: Option<Fault>, our_key: u32) -> u32 {
+    let unknown = matches!(fault, Some(Fault::OurKeyIgnored | Fault::DefinitionsWithoutOwnNames));
+    if unknown {
+        NO_KEY
+    } else {
+        our_key
+    }
+}
+
+/// The same in rewriting.
+pub fn our_key_in_rewriting(fault: Option<Fault>, our_key: u32) -> u32 {
+    if fault == Some(Fault::RewriterWithoutOurKey) {
+        NO_KEY
+    } else {
+        our_key
+    }
+}
+
+/// The definition that an own name of code 4 or 8 wrongly stands for, or that it wrongly stands for none, or its refusal. `found` is the right one.
+pub fn wrongly_found(fault: Option<Fault>, code: u32, place: Place, name: [u32; 2], found: Option<usize>) -> Option<Numbered<Option<usize>>> {
+    let Place { entries, available, .. } = place;
+    let in_query = available == entries.len();
+    let by = |which: &dyn Fn(&Entry) -> bool, among: Range<usize>| {
+        let place = among.clone().find(|&place| entries.get(place).is_some_and(which));
+        Some(place.map(Some).ok_or(NOT_IN_SCOPE))
+    };
+    let named = |entry: &Entry| [entry.name, entry.polarity] == name;
+    let by_name_alone = |entry: &Entry| entry.name == name[0];
+    match fault? {
+        Fault::VettedWithoutOwnNames if code == 8 => Some(Ok(None)),
+        Fault::OwnMissingReadsCertificates if found.is_none() => Some(Ok(None)),
+        Fault::LaterDefinitionAvailable => by(&named, 0..entries.len()),
+        Fault::DefinitionItselfAvailable => by(&named, 0..available + 1),
+        Fault::Definition0Missing => by(&named, 1..available),
+        Fault::OwnMissingInQuery if in_query => Some(Err(NOT_IN_SCOPE)),
+        Fault::LastMissingInQuery if in_query => by(&named, 0..available.saturating_sub(1)),
+        Fault::OwnMissingInVetted if code == 8 => Some(Err(NOT_IN_SCOPE)),
+        Fault::OwnFoundByNameAlone => by(&by_name_alone, 0..available),
+        Fault::OtherPolarityTaken if found.is_none() => by(&by_name_alone, 0..available),
+        _ => None,
+    }
+}
+
+/// Whether an own name is wrongly refused with 4 before its polarity word, the next one, was tested.
+pub fn missing_early(fault: Option<Fault>, place: Place, name: u32, next: Option<u32>) -> bool {
+    let available = &place.entries[..place.available];
+    match fault {
+        Some(Fault::OwnMissingBeforePolarity) => {
+            next.is_some_and(|polarity| !available.iter().any(|entry| (entry.name, entry.polarity) == (name, polarity)))
+        }
+        Some(Fault::OwnMissingAtName) => !available.iter().any(|entry| entry.name == name),
+        _ => false,
+    }
+}
+
+/// Whether code 4 or 8 of an own name is wrongly open, or not open.
+pub fn own_wrongly_open(fault: Option<Fault>, expression: &Expression, definitions: &[Definition]) -> Option<bool> {
+    match (fault?, expression) {
+        (Fault::OwnOpenByPolarity, Expression::List { polarity, .. }) => Some(*polarity == 1),
+        (Fault::OwnNeverOpen, Expression::List { .. }) | (Fault::OwnVettedNeverOpen, Expression::Vetted { .. }) => Some(false),
+        (Fault::OwnVettedOpenAsItsGuard, Expression::Vetted { definition, .. }) => Some(definitions[*definition].open),
+        // It is wrongly available, and not there yet.
+        (_, Expression::List { own: Some(number), .. } | Expression::Vetted { own: Some(number), .. }) if *number >= definitions.len() => Some(false),
+        _ => None,
+    }
+}
+
+/// What an own name is wrongly read as, in place of its definition.
+pub fn own_wrongly_read(reading: &mut Reading, name: Name, definition: usize) -> Option<Numbered<Set>> {
+    let (fault, judged, links) = (reading.evaluator.fault?, reading.judged, reading.held.links);
+    let [key, number, polarity] = name;
+    let linked = || reached(name, |at| links.iter().filter(|link| link.first() == at).map(Link::second).collect());
+    let rows_of = |names: BTreeSet<Name>| rows_of_names(&reading.certified, &names).collect::<BTreeSet<Row>>();
+    let with = |set: Set, rows: BTreeSet<Row>| if polarity == 0 { set.union(&Set::Finite(rows)) } else { set.minus(&Set::Finite(rows)) };
+    match (fault, reading.definitions.get(definition).cloned()) {
+        // It is wrongly available, and not read yet.
+        (_, None) => Some(Ok(Set::Finite(BTreeSet::new()))),
+        (Fault::CertificatesReadForOwnName, _) => Some(reading.list(Term::Atom(key), number, polarity, &[])),
+        (Fault::OwnJoinedWithCertificates, Some(set)) => Some(limited(with(set, rows_of(BTreeSet::from([name]))))),
+        (Fault::OwnJoinedWithLinks, Some(set)) => Some(limited(with(set, rows_of(&linked() - &BTreeSet::from([name]))))),
+        (Fault::OwnReadAgain, _) => Some(reading.read(&judged.definitions[definition].expression, &mut Vec::new())),
+        (Fault::OwnReadAsFirst, _) => reading.definitions.first().cloned().map(Ok),
+        (Fault::OwnReadAsLast, _) => reading.definitions.last().cloned().map(Ok),
+        _ => None,
+    }
+}
+
+/// The set of the definition of a name under our key, if there is one that is read already.
+pub fn set_of_own(reading: &Reading, [key, number, polarity]: Name) -> Option<Set> {
+    let judged = reading.judged;
+    let place = judged.definitions.iter().position(|definition| [judged.our_key, definition.name, definition.polarity] == [key, number, polarity]);
+    place.and_then(|place| reading.definitions.get(place)).cloned()
+}
+
+/// What a list is wrongly read as whose issuer is a variable that holds our key.
+pub fn variable_wrongly_read(reading: &Reading, issuer: Term, name: Name) -> Option<Set> {
+    let ours = matches!(issuer, Term::Variable(_)) && name[0] == reading.judged.our_key;
+    match reading.evaluator.fault? {
+        Fault::VariableReadsDefinition if ours => set_of_own(reading, name),
+        Fault::VariableOfOurKeyUnknown if ours && name[2] == 0 => Some(Set::Finite(BTreeSet::new())),
+        Fault::VariableOfOurKeyUnknown if ours => Some(Set::Complement(BTreeSet::new())),
+        _ => None,
+    }
+}
+
+/// The rows joined for a name, from these names, where those under our key that links reach are wrongly read.
+pub fn ours_wrongly_joined(reading: &Reading, name: Name, joined: &BTreeSet<Name>) -> Option<BTreeSet<Row>> {
+    let certified = |of: &Name| reading.certified.get(of).cloned().unwrap_or_default();
+    let defined = |of: &Name| set_of_own(reading, *of).filter(|set| matches!(set, Set::Finite(_)) == (of[2] == 0)).map(|set| set.listed().clone());
+    let ours = |of: &Name| *of != name && of[0] == reading.judged.our_key;
+    match reading.evaluator.fault? {
+        Fault::LinkReachesDefinition => {
+            Some(joined.iter().flat_map(|of| defined(of).filter(|_| ours(of)).unwrap_or_else(|| certified(of))).collect())
+        }
+        Fault::LinkToOurKeyNotFollowed => Some(joined.iter().filter(|of| !ours(of)).flat_map(certified).collect()),
+        _ => None,
+    }
+}
+
+/// The certificates that are wrongly read of an own name under a guard.
+pub fn certificates_for_own(reading: &Reading, fault: Fault, from: &Expression) -> Option<Numbered<Set>> {
+    match from {
+        Expression::List { issuer, name, polarity, own: Some(_) } if reading.evaluator.has(fault) => {
+            Some(reading.list(*issuer, *name, *polarity, &[]))
+        }
+        _ => None,
+    }
+}
+
+// ---- terms of validity ----
 
 /// Whether a record is wrongly taken as holding at the minute, or as not holding.
 pub fn wrongly_holds(fault: Option<Fault>, records: &[Record], record: &Record, minute: u32) -> Option<bool> {
@@ -1384,8 +1731,9 @@ pub fn wrong_look_up(fault: Option<Fault>, format: Format, compromised: &Set, is
 }
 
 /// The lists, by where their words stand, that become code 8: all, unless a fault leaves some out.
-pub fn lists_rewritten(fault: Option<Fault>, words: &[u32], mut lists: Vec<Range<usize>>) -> Vec<Range<usize>> {
+pub fn lists_rewritten(fault: Option<Fault>, words: &[u32], our_key: u32, mut lists: Vec<Range<usize>>) -> Vec<Range<usize>> {
     match fault {
+        Some(Fault::OwnNotRewritten) => lists.retain(|list| words[list.start + 1..][..2] != [0, our_key]),
         Some(Fault::VariableIssuerNotRewritten) => lists.retain(|list| words[list.start + 1] == 0),
         Some(Fault::OneListRewritten) => lists.truncate(1),
         _ => {}

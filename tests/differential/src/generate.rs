@@ -1,14 +1,15 @@
-//! Random policies, queries, stores and link stores, lists of filings, minutes and dates.
+//! Random policies, queries, stores and link stores, lists of filings, our keys, minutes and dates.
 //!
 //! Expressions are written by the grammar, with a polarity and openness in mind, so that most are answered and many answers are not empty: keys, names and
-//! atoms come from a small universe, and many rows begin as others do. Then single words are changed, words cut off or added, and each limit of document 01 is
-//! approached from both sides. Policies of formats 1 and 2 come half and half.
+//! atoms come from a small universe, and many rows begin as others do. Our key is mostly one of these keys, and definitions have the names that certificates are
+//! filed under, so that own names are written often. Then single words are changed, words cut off or added, and each limit of document 01 is approached from both
+//! sides. Policies of formats 1 and 2 come half and half.
 
 use crate::engine::{Kind, Stores};
 use crate::evaluator::{key, Areas, Date, Evaluator, Format, Link, Name, Record, Refusal, Row, Validity};
 use crate::numbers::{
-    COMPROMISED, FIRST_YEAR, LAST_NAME, LAST_YEAR, LINKS_WORDS, LINK_WORDS, MOST_CERTIFICATES, MOST_LINKS, MOST_POLICY_WORDS, MOST_VARIABLES,
-    RECORD_WORDS, STORE_WORDS,
+    COMPROMISED, FIRST_KEY, FIRST_YEAR, LAST_NAME, LAST_YEAR, LINKS_WORDS, LINK_WORDS, MOST_CERTIFICATES, MOST_LINKS, MOST_POLICY_WORDS,
+    MOST_VARIABLES, RECORD_WORDS, STORE_WORDS,
 };
 use crate::random::Random;
 use std::collections::BTreeSet;
@@ -16,6 +17,8 @@ use std::collections::BTreeSet;
 /// What policies, queries and certificates speak of.
 pub struct Universe {
     pub keys: &'static [u32],
+    /// Those of the keys that are ours, one at a time.
+    pub our_keys: &'static [u32],
     pub names: &'static [u32],
     pub atoms: &'static [u32],
     pub widths: &'static [u32],
@@ -31,6 +34,8 @@ pub struct Universe {
 
 pub const PORTAL: Universe = Universe {
     keys: &[key(1), key(2), key(3)],
+    // The crowded name is mostly the first key's.
+    our_keys: &[key(1), key(2), key(2), key(3), key(3), key(3)],
     names: &[1, 1, 1, 2, 2, 2, 0, CROWD, LAST_NAME],
     atoms: &[5, 6, 7, 8, 9, key(1), key(2), 0, u32::MAX],
     widths: &[1, 1, 1, 1, 1, 1, 2, 2, 2, 3, 4],
@@ -75,6 +80,7 @@ const CROWD: u32 = 3;
 pub struct Case {
     pub policy: Vec<u32>,
     pub query: Vec<u32>,
+    pub our_key: u32,
     pub minute: u32,
     pub areas: Areas,
     /// The length of the area that the policy is rewritten into.
@@ -94,9 +100,10 @@ pub struct Filings {
     pub filed: Vec<(Kind, Vec<u32>)>,
 }
 
-/// A definition's polarity and openness, for those that use it.
+/// A definition's name, polarity and openness, for those that use it.
 #[derive(Clone, Copy)]
 struct Declared {
+    name: u32,
     polarity: u32,
     open: bool,
 }
@@ -132,21 +139,31 @@ impl Want {
     }
 }
 
+/// Where a definition or query is written.
+#[derive(Clone, Copy)]
+struct Place<'a> {
+    /// The definitions that are available there.
+    available: &'a [Declared],
+    /// All definitions of the policy, by name and polarity.
+    entries: &'a [(u32, u32)],
+    our_key: u32,
+    /// Whether the external rules are kept: no difference, no absent guard and no code 8.
+    external: bool,
+}
+
 /// Writes one definition or query.
 struct Writer<'a> {
     random: &'a mut Random,
     universe: &'a Universe,
-    definitions: &'a [Declared],
-    /// Whether the external rules are kept: no difference, no absent guard and no code 8.
-    external: bool,
+    place: Place<'a>,
     words: Vec<u32>,
     variables: u32,
     draws: u32,
 }
 
 impl<'a> Writer<'a> {
-    fn new(random: &'a mut Random, universe: &'a Universe, definitions: &'a [Declared], external: bool) -> Writer<'a> {
-        Writer { random, universe, definitions, external, words: Vec::new(), variables: 0, draws: 0 }
+    fn new(random: &'a mut Random, universe: &'a Universe, place: Place<'a>) -> Writer<'a> {
+        Writer { random, universe, place, words: Vec::new(), variables: 0, draws: 0 }
     }
 
     fn expression(&mut self, want: Want, depth: u32) {
@@ -164,7 +181,7 @@ impl<'a> Writer<'a> {
     }
 
     fn codes(&self, leaf: bool) -> &'static [u32] {
-        match (self.external, leaf) {
+        match (self.place.external, leaf) {
             (false, true) => &[1, 1, 2, 3, 3, 4, 4, 4, 8, 8],
             (false, false) => &[1, 2, 3, 3, 4, 4, 5, 6, 7, 7, 7, 7, 8],
             (true, true) => &[1, 2, 3, 4, 4, 4],
@@ -175,12 +192,18 @@ impl<'a> Writer<'a> {
     fn fits(&self, code: u32, want: Want) -> bool {
         match code {
             2 => !want.closed,
-            3 => self.definitions.iter().any(|&declared| want.fits(declared)),
-            4 => !want.exact() && (want.plus || !want.closed),
+            3 => self.fitting(want).next().is_some(),
+            // A − name is open, unless it is an own name.
+            4 => !want.exact() && (want.plus || !want.closed || self.fitting(want).next().is_some()),
             7 => self.draws < 6,
-            8 => want.plus && !want.minus && self.definitions.iter().any(|declared| declared.polarity == 1),
+            8 => want.plus && !want.minus && self.place.available.iter().any(|declared| declared.polarity == 1),
             _ => true,
         }
+    }
+
+    /// The definitions that have what is wanted, by number.
+    fn fitting(&self, want: Want) -> impl Iterator<Item = (u32, Declared)> + 'a {
+        (0..).zip(self.place.available.iter().copied()).filter(move |(_, declared)| want.fits(*declared))
     }
 
     fn operands(&mut self, code: u32, want: Want, depth: u32) {
@@ -190,7 +213,7 @@ impl<'a> Writer<'a> {
                 self.rows(count, self.universe.widths, 350);
             }
             3 => self.definition(want),
-            4 => self.list(!want.plus as u32),
+            4 => self.list(want),
             5 => {
                 self.expression(want, depth + 1);
                 self.expression(want, depth + 1);
@@ -200,7 +223,7 @@ impl<'a> Writer<'a> {
                 self.expression(want.opposite(), depth + 1);
             }
             7 => self.comprehension(want, depth),
-            _ => self.vetted(),
+            _ => self.vetted(want),
         }
     }
 
@@ -248,9 +271,17 @@ impl<'a> Writer<'a> {
 
     /// A variable in so many of a thousand cases, where there is one.
     fn term(&mut self, variable: u32) {
-        let term =
-            if self.variables > 0 && self.random.chance(variable) { [1, self.some_variable()] } else { [0, self.random.pick(self.universe.atoms)] };
+        let term = if self.variables > 0 && self.random.chance(variable) { [1, self.some_variable()] } else { [0, self.atom()] };
         self.words.extend(term);
+    }
+
+    /// Now and then our key, for variables to hold.
+    fn atom(&mut self) -> u32 {
+        if self.random.chance(60) {
+            self.place.our_key
+        } else {
+            self.random.pick(self.universe.atoms)
+        }
     }
 
     fn some_variable(&mut self) -> u32 {
@@ -258,25 +289,52 @@ impl<'a> Writer<'a> {
     }
 
     fn definition(&mut self, want: Want) {
-        let fitting: Vec<u32> = (0..).zip(self.definitions).filter(|(_, declared)| want.fits(**declared)).map(|(d, _)| d).collect();
+        let fitting: Vec<u32> = self.fitting(want).map(|(d, _)| d).collect();
         let number = self.random.pick(&fitting);
         self.words.push(number);
     }
 
-    fn list(&mut self, polarity: u32) {
-        let issuer =
-            if self.variables > 0 && self.random.chance(400) { [1, self.some_variable()] } else { [0, self.random.pick(self.universe.keys)] };
-        self.words.extend(issuer);
-        let name = self.random.pick(self.universe.names);
-        self.words.extend([name, polarity]);
+    /// Often an own name of a definition that has what is wanted, now and then any own name; else another key's, or a variable's.
+    fn list(&mut self, want: Want) {
+        let polarity = !want.plus as u32;
+        let own: Vec<u32> = self.fitting(want).map(|(_, declared)| declared.name).collect();
+        let own_alone = polarity == 1 && want.closed;
+        let [tag, issuer, name] = if !own.is_empty() && (own_alone || self.random.chance(450)) {
+            [0, self.place.our_key, self.random.pick(&own)]
+        } else if self.random.chance(15) {
+            [0, self.place.our_key, self.any_name()]
+        } else if self.variables > 0 && self.random.chance(400) {
+            [1, self.some_variable(), self.random.pick(self.universe.names)]
+        } else {
+            [0, self.other_key(), self.random.pick(self.universe.names)]
+        };
+        self.words.extend([tag, issuer, name, polarity]);
+    }
+
+    /// Of a definition, available or not, or of certificates.
+    fn any_name(&mut self) -> u32 {
+        match self.place.entries {
+            [_, ..] if self.random.chance(800) => self.random.pick(self.place.entries).0,
+            _ => self.random.pick(self.universe.names),
+        }
+    }
+
+    fn other_key(&mut self) -> u32 {
+        other_key(self.random, self.universe, self.place.our_key)
     }
 
     /// Mostly by a definition that is −, sometimes by one that is not or is not there, and sometimes with −.
-    fn vetted(&mut self) {
+    fn vetted(&mut self, want: Want) {
         let minus = self.random.chance(15);
-        self.list(minus as u32);
-        let fitting: Vec<u32> = (0..).zip(self.definitions).filter(|(_, declared)| declared.polarity == 1).map(|(d, _)| d).collect();
-        let definition = if self.random.chance(25) { self.random.between(0, self.definitions.len() as u32) } else { self.random.pick(&fitting) };
+        self.list(Want { closed: want.closed, ..Want::polarity(minus as u32) });
+        self.guard_of_vetted(25);
+    }
+
+    /// The definition that code 8 looks its issuer up in; it is any, or not there, in so many of a thousand cases.
+    fn guard_of_vetted(&mut self, wrong: u32) {
+        let fitting: Vec<u32> = self.fitting(Want::polarity(1)).map(|(d, _)| d).collect();
+        let any = fitting.is_empty() || self.random.chance(wrong);
+        let definition = if any { self.random.between(0, self.place.available.len() as u32) } else { self.random.pick(&fitting) };
         self.words.push(definition);
     }
 
@@ -292,7 +350,7 @@ impl<'a> Writer<'a> {
     }
 
     fn guard(&mut self, want: Want, depth: u32) {
-        let guard = match (self.draws < 8, self.external) {
+        let guard = match (self.draws < 8, self.place.external) {
             (true, false) => self.random.pick(&[1, 1, 1, 1, 2, 3, 4, 4]),
             (true, true) => self.random.pick(&[1, 1, 1, 1, 2, 3]),
             (false, external) => self.random.between(2, if external { 3 } else { 4 }),
@@ -367,16 +425,17 @@ impl<'a> Writer<'a> {
         self.pattern(one.min(other));
     }
 
-    /// A name of this polarity; or what has both: a literal, or what is drawn from one in turn; or definition 0, which is +.
+    /// A name of this polarity; or what has both: a literal, or what is drawn from one in turn; or definition 0, which is +, perhaps by its name.
     fn one_source(&mut self, polarity: u32) {
-        match self.random.below(10) {
-            0..=3 => {
-                let key = self.random.pick(self.universe.keys);
+        match (self.random.below(10), self.place.available) {
+            (0..=3, _) => {
+                let key = self.other_key();
                 let name = self.random.between(1, 2);
                 self.words.extend([4, 0, key, name, polarity]);
             }
-            4 | 5 if polarity == 0 && !self.definitions.is_empty() => self.words.extend([3, 0]),
-            6 | 7 => {
+            (4, [_, ..]) if polarity == 0 => self.words.extend([3, 0]),
+            (5, [declared, ..]) if polarity == 0 => self.words.extend([4, 0, self.place.our_key, declared.name, 0]),
+            (6 | 7, _) => {
                 let outside = self.variables;
                 self.words.extend([7, 1, 1]);
                 self.any_rows();
@@ -395,6 +454,113 @@ impl<'a> Writer<'a> {
         self.words.push(1);
         self.rows(count, &[1, 2, 3, 4][..self.universe.widest as usize], 600);
     }
+
+    /// A definition of this polarity without own names: a literal, a list, or what is drawn and not open. The last two depend on certificates.
+    fn without_own_names(&mut self, polarity: u32) {
+        let (key, name) = (self.other_key(), self.random.between(1, 2));
+        match self.random.below(7) {
+            0 => self.any_rows(),
+            1 | 2 => {
+                self.any_rows();
+                self.words[0] = 2;
+            }
+            3 | 4 => self.words.extend([4, 0, key, name, polarity]),
+            _ if polarity == 0 => self.words.extend([7, 1, 1, 4, 0, key, name, 0, 1, 2, 0, 1, 1, 0]),
+            _ => {
+                self.words.extend([7, 2, 1]);
+                self.any_rows();
+                self.words.extend([1, 2, 0, 4, 1, 1, 0, 4, 0, key, name, 0, 1, 1, 0]);
+            }
+        }
+    }
+
+    /// An own name in one of the places that names are written at; it is wrong in so many of a thousand cases.
+    fn with_own_name(&mut self, polarity: u32, wrong: u32) {
+        let places: &[u32] = if self.place.external { &[0, 1, 1, 2, 2] } else { &[0, 0, 1, 2, 2, 3, 4, 5, 6, 6] };
+        match self.random.pick(places) {
+            0 => self.own_name(polarity, false, wrong),
+            1 => {
+                self.words.push(5);
+                self.own_name(polarity, false, wrong);
+                // What is malformed, or too deep, comes behind.
+                let malformed: &[&[u32]] = &[&[9], &[3, 16], &[1, 1, 1, 1, 0], &[5; 16]];
+                if self.random.chance(wrong) {
+                    self.words.extend(self.random.pick(malformed));
+                } else {
+                    self.own_name(polarity, false, wrong);
+                }
+            }
+            2 => {
+                let closed = !self.random.chance(2 * wrong);
+                self.words.extend([7, 1, 1]);
+                self.own_name(polarity, closed, wrong);
+                self.any_pattern();
+                self.row_of(1, 900);
+            }
+            3 => {
+                self.words.push(6);
+                self.own_name(polarity, false, wrong);
+                self.any_rows();
+            }
+            4 => {
+                self.words.push(6);
+                self.any_rows();
+                self.own_name(1 - polarity, false, wrong);
+            }
+            5 => {
+                self.words.extend([7, 2, 1]);
+                self.any_rows();
+                self.any_pattern();
+                self.words.push(4);
+                self.row();
+                self.own_name(1 - polarity, false, wrong);
+                self.row_of(1, 900);
+            }
+            _ => self.through_a_variable(polarity),
+        }
+        self.variables = 0;
+    }
+
+    /// Code 4 or 8 with our key. Mostly it has this polarity and a definition available, which is not open if that is asked for.
+    fn own_name(&mut self, polarity: u32, closed: bool, wrong: u32) {
+        let want = Want { closed, ..Want::polarity(polarity) };
+        let fitting: Vec<u32> = self.fitting(want).map(|(_, declared)| declared.name).collect();
+        let any = fitting.is_empty() || self.random.chance(wrong);
+        let name = if any { self.any_name() } else { self.random.pick(&fitting) };
+        let written = if self.random.chance(wrong / 2) { self.random.pick(&[1 - polarity, 1 - polarity, 2, u32::MAX]) } else { polarity };
+        let code = if polarity == 0 && !self.place.external && self.random.chance(400) { 8 } else { 4 };
+        self.words.extend([code, 0, self.place.our_key, name, written]);
+        // Sometimes the last word is cut off.
+        if code == 8 && !self.random.chance(if any { wrong } else { wrong / 4 }) {
+            self.guard_of_vetted(wrong);
+        }
+    }
+
+    /// A variable that holds our key, another one or a number reads a name that definitions may have: under a draw, or under an absent guard.
+    fn through_a_variable(&mut self, polarity: u32) {
+        let (ours, other, name) = (self.place.our_key, self.other_key(), self.any_name());
+        self.words.extend([7, 2, 1, 1, 2, 1, 0, ours, 1, 0, self.random.pick(&[other, 5]), 1, 2, 0]);
+        self.variables = 1;
+        if polarity == 0 && self.random.chance(600) {
+            let code = self.random.pick(&[4, 8]);
+            self.words.extend([1, code, 1, 0, name, 0]);
+            if code == 8 {
+                self.guard_of_vetted(0);
+            }
+            self.any_pattern();
+        } else {
+            self.words.push(4);
+            self.row();
+            self.words.extend([4, 1, 0, name, 1 - polarity]);
+        }
+        self.row_of(1, 900);
+    }
+}
+
+/// One that is not ours: own names are written on purpose.
+fn other_key(random: &mut Random, universe: &Universe, our_key: u32) -> u32 {
+    let others: Vec<u32> = universe.keys.iter().copied().filter(|key| *key != our_key).collect();
+    random.pick(&others)
 }
 
 /// Code 1 or 2 with the numbers from `first` on, as rows of one atom.
@@ -444,9 +610,9 @@ pub fn united(parts: &[Vec<u32>]) -> Vec<u32> {
 }
 
 /// What an external policy is rewritten into.
-pub fn rewritten(policy: &[u32]) -> Result<Vec<u32>, Refusal> {
+pub fn rewritten(policy: &[u32], our_key: u32) -> Result<Vec<u32>, Refusal> {
     let mut area = vec![0; MOST_POLICY_WORDS];
-    let length = Evaluator::default().rewrite(policy, &mut area)?;
+    let length = Evaluator::default().rewrite(policy, our_key, &mut area)?;
     area.truncate(length);
     Ok(area)
 }
@@ -491,14 +657,23 @@ fn link_between([key, name, polarity]: Name, [other_key, other_name, _]: Name) -
     Link { key, name, polarity, other_key, other_name }
 }
 
+/// A policy and a query, and the key that is ours.
+pub struct Pair {
+    pub policy: Vec<u32>,
+    pub query: Vec<u32>,
+    pub our_key: u32,
+}
+
 pub struct Generator {
     pub random: Random,
     universe: &'static Universe,
+    /// Ours, for what is being written.
+    our_key: u32,
 }
 
 impl Generator {
     pub fn new(seed: u64, universe: &'static Universe) -> Generator {
-        Generator { random: Random::new(seed), universe }
+        Generator { random: Random::new(seed), universe, our_key: universe.our_keys[0] }
     }
 
     // ---- certificates, stores, filings ----
@@ -693,6 +868,19 @@ impl Generator {
 
     fn some_key(&mut self) -> u32 {
         self.random.pick(self.universe.keys)
+    }
+
+    fn other_key(&mut self) -> u32 {
+        other_key(&mut self.random, self.universe, self.our_key)
+    }
+
+    /// The first key that is not ours.
+    fn first_key(&self) -> u32 {
+        if self.universe.keys[0] == self.our_key {
+            self.universe.keys[1]
+        } else {
+            self.universe.keys[0]
+        }
     }
 
     /// From the crowded name to the same name of another key, straight or by a third, and perhaps back.
@@ -909,16 +1097,31 @@ impl Generator {
 
     // ---- policies and queries ----
 
+    /// Mostly a key that others use too, sometimes one that nobody uses.
+    fn take_our_key(&mut self) {
+        let unused = self.random.chance(100);
+        self.our_key = if unused { self.random.pick(&[key(0), key(0), key(9), u32::MAX]) } else { self.random.pick(self.universe.our_keys) };
+    }
+
     pub fn case(&mut self) -> Case {
+        self.take_our_key();
         if self.random.chance(2) {
             return if self.random.chance(700) { self.many_draws_made() } else { self.many_draws_of_two_widths() };
         }
-        if self.random.chance(40) {
+        if self.random.chance(60) {
             return self.one_list();
         }
         if self.random.chance(60) {
             let format = self.format();
             let (policy, query) = self.one_draw(format);
+            return self.asked(policy, query);
+        }
+        if self.random.chance(150) {
+            let format = self.format();
+            let (policy, mut query) = self.own_names(format, 200);
+            if self.random.chance(60) {
+                self.mutate(&mut query);
+            }
             return self.asked(policy, query);
         }
         let (policy, declared) = if self.random.chance(250) { self.external_policy() } else { self.policy() };
@@ -927,9 +1130,11 @@ impl Generator {
     }
 
     /// One name, often the crowded one, in each place that lists are read at: by itself, vetted while one key is compromised, under an absent guard, and drawn
-    /// from with a variable issuer.
+    /// from with a variable issuer, which may hold our key.
     fn one_list(&mut self) -> Case {
-        let [key, name, polarity] = if self.random.chance(400) { [self.universe.keys[0], CROWD, self.random.between(0, 1)] } else { self.name() };
+        let polarity = self.random.between(0, 1);
+        let [key, name] = if self.random.chance(400) { [self.first_key(), CROWD] } else { [self.other_key(), self.random.pick(self.universe.names)] };
+        let held = if self.random.chance(300) { self.our_key } else { key };
         let (list, atom) = ([4, 0, key, name, polarity], self.random.pick(self.universe.atoms));
         let listed = if self.random.chance(600) { key } else { self.some_key() };
         let compromised = (COMPROMISED, 1, self.compromised(listed));
@@ -937,10 +1142,60 @@ impl Generator {
             0 => (vec![], list.to_vec()),
             1 => (vec![compromised], vec![8, 0, key, name, 0, 0]),
             2 => (vec![], [&[7, 1, 4, 1, 0, atom], &list[..], &[1, 0, atom]].concat()),
-            _ => (vec![], draws_from(&[vec![1, 1, 1, 0, key], vec![4, 1, 0, name, 0]], &[1, 1, 1])),
+            _ => (vec![], draws_from(&[vec![1, 1, 1, 0, held], vec![4, 1, 0, name, 0]], &[1, 1, 1])),
         };
         let format = self.format();
         self.asked(assemble(format, &definitions), query)
+    }
+
+    /// Definitions and a query with own names; each name is wrong in so many of a thousand cases. Often definition 0 lists compromised keys, and ours among them.
+    fn own_names(&mut self, format: u32, wrong: u32) -> (Vec<u32>, Vec<u32>) {
+        let count = self.random.between(1, 4);
+        let mut entries = self.entries(count);
+        let mut definitions: Vec<Definition> = Vec::new();
+        if self.random.chance(400) {
+            let listed = if self.random.chance(500) { self.our_key } else { self.some_key() };
+            definitions.push((10, 1, self.compromised(listed)));
+            entries[0] = (10, 1);
+        }
+        for (d, &(name, polarity)) in entries.iter().enumerate().skip(definitions.len()) {
+            let available = self.declared(&definitions);
+            let mut writer = self.writer(&available, &entries);
+            if d > 0 && writer.random.chance(500) || writer.random.chance(wrong / 4) {
+                writer.with_own_name(polarity, wrong);
+            } else {
+                writer.without_own_names(polarity);
+            }
+            definitions.push((name, polarity, writer.words));
+        }
+        let available = self.declared(&definitions);
+        let mut writer = self.writer(&available, &entries);
+        let polarity = writer.random.between(0, 1);
+        writer.with_own_name(polarity, wrong);
+        (assemble(format, &definitions), writer.words)
+    }
+
+    fn writer<'a>(&'a mut self, available: &'a [Declared], entries: &'a [(u32, u32)]) -> Writer<'a> {
+        Writer::new(&mut self.random, self.universe, Place { available, entries, our_key: self.our_key, external: false })
+    }
+
+    /// With the openness that they have. Where one is refused, all behind it are too, and it does not matter.
+    fn declared(&self, definitions: &[Definition]) -> Vec<Declared> {
+        let judged = Evaluator::default().judge(&assemble(1, definitions), &[1, 0], self.our_key);
+        let open = |d: usize| judged.as_ref().is_ok_and(|judged| judged.definitions[d].open);
+        definitions.iter().enumerate().map(|(d, &(name, polarity, _))| Declared { name, polarity, open: open(d) }).collect()
+    }
+
+    /// Names and polarities of so many definitions, which differ: mostly names that certificates are filed under.
+    fn entries(&mut self, count: u32) -> Vec<(u32, u32)> {
+        let mut entries: Vec<(u32, u32)> = Vec::new();
+        for d in 0..count {
+            let polarity = self.random.between(0, 1);
+            let name = self.random.pick(self.universe.names);
+            let taken = entries.contains(&(name, polarity)) || self.random.chance(100);
+            entries.push((if taken { 10 + d } else { name }, polarity));
+        }
+        entries
     }
 
     /// The key by itself, or a row that begins with it: that one, all but that one, or what is drawn from it, which is the key by itself in format 2.
@@ -957,15 +1212,17 @@ impl Generator {
     /// One draw in the query, in a definition, or in a query that may draw from such a definition.
     fn one_draw(&mut self, format: u32) -> (Vec<u32>, Vec<u32>) {
         let first = self.drawn(&[]);
-        match self.random.below(4) {
+        let name = self.random.pick(&[1, 2, 10]);
+        match self.random.below(5) {
             0 | 1 => (assemble(format, &[]), first),
-            2 => (assemble(format, &[(10, 0, first)]), vec![3, 0]),
-            _ => (assemble(format, &[(10, 0, first)]), self.drawn(&[Declared { polarity: 0, open: false }])),
+            2 => (assemble(format, &[(name, 0, first)]), vec![3, 0]),
+            3 => (assemble(format, &[(name, 0, first)]), vec![4, 0, self.our_key, name, 0]),
+            _ => (assemble(format, &[(name, 0, first)]), self.drawn(&[Declared { name, polarity: 0, open: false }])),
         }
     }
 
     fn drawn(&mut self, declared: &[Declared]) -> Vec<u32> {
-        let mut writer = Writer::new(&mut self.random, self.universe, declared, false);
+        let mut writer = self.writer(declared, &[]);
         writer.one_draw();
         writer.words
     }
@@ -983,17 +1240,23 @@ impl Generator {
         self.random.pick(&Format::BOTH) as u32
     }
 
+    /// Under the key that policy and query were written for; sometimes under another one, or under a number.
     fn asked(&mut self, policy: Vec<u32>, query: Vec<u32>) -> Case {
+        let our_key = match self.random.below(80) {
+            0 | 1 => self.random.pick(&[0, 0, 1, 5, FIRST_KEY - 1, FIRST_KEY - 1]),
+            2 => self.some_key(),
+            _ => self.our_key,
+        };
         let number = if self.random.chance(900) { self.random.between(0, 18) } else { self.random.word() };
         let name = self.name();
-        let rewriting_area = self.rewriting_area(&policy);
+        let rewriting_area = self.rewriting_area(&policy, our_key);
         let (minute, areas) = (self.minute(), self.areas());
-        Case { policy, query, minute, areas, rewriting_area, number, name, date: self.date(), minutes: self.minutes() }
+        Case { policy, query, our_key, minute, areas, rewriting_area, number, name, date: self.date(), minutes: self.minutes() }
     }
 
     /// Often just the output's length, or one word less; sometimes as long as the input.
-    fn rewriting_area(&mut self, policy: &[u32]) -> usize {
-        let needed = rewritten(policy).map_or(policy.len(), |output| output.len());
+    fn rewriting_area(&mut self, policy: &[u32], our_key: u32) -> usize {
+        let needed = rewritten(policy, our_key).map_or(policy.len(), |output| output.len());
         match self.random.below(10) {
             0..=3 => needed,
             4..=6 => needed + self.random.below(20),
@@ -1004,32 +1267,49 @@ impl Generator {
     }
 
     /// A policy and a query over this universe alone, without damage.
-    pub fn sound_pair(&mut self) -> (Vec<u32>, Vec<u32>) {
+    pub fn sound_pair(&mut self) -> Pair {
+        self.take_our_key();
         let format = self.sound_format();
-        match self.random.below(20) {
+        let (policy, query) = match self.random.below(20) {
             0 => {
-                let ([key, name, _], listed) = (self.name(), self.some_key());
-                return (assemble(format, &[(COMPROMISED, 1, self.compromised(listed))]), vec![8, 0, key, name, 0, 0]);
+                let (key, name, listed) = (self.other_key(), self.random.pick(self.universe.names), self.some_key());
+                (assemble(format, &[(COMPROMISED, 1, self.compromised(listed))]), vec![8, 0, key, name, 0, 0])
             }
-            1..=5 => return self.one_draw(format),
-            _ => {}
-        }
-        let count = self.random.between(0, 2);
-        let (definitions, declared) = self.definitions(count, 0);
-        (assemble(format, &definitions), self.expression(Want::any, &declared, false))
+            1..=5 => self.one_draw(format),
+            6..=10 => self.own_names(format, 20),
+            _ => {
+                let count = self.random.between(0, 2);
+                let (definitions, declared) = self.definitions(count, 0);
+                (assemble(format, &definitions), self.query_over(&declared))
+            }
+        };
+        Pair { policy, query, our_key: self.our_key }
     }
 
-    /// The same with an external policy that lists compromised keys; the query is for the rewritten one.
-    pub fn external_pair(&mut self) -> (Vec<u32>, Vec<u32>) {
-        let entries = [(COMPROMISED, 1), (10, 0), (11, 0)];
-        let count = self.random.between(2, 3) as usize;
+    /// The same with an external policy that lists compromised keys, often ours; the query is for the rewritten one.
+    pub fn external_pair(&mut self) -> Pair {
+        self.take_our_key();
+        let entries = [(COMPROMISED, 1), (1, 0), (2, 0)];
+        let count = self.random.pick(&[2, 3, 3]);
         let (mut definitions, mut declared) = self.external_definitions(&entries[..count], None);
         if self.random.chance(350) {
-            let listed = self.some_key();
+            let listed = if self.random.chance(400) { self.our_key } else { self.some_key() };
             definitions[0].2 = self.compromised(listed);
             declared[0].open = true;
         }
-        (assemble(self.sound_format(), &definitions), self.expression(Want::any, &declared, false))
+        if count == 3 && self.random.chance(500) {
+            let place = Place { available: &declared[..2], entries: &entries, our_key: self.our_key, external: true };
+            let mut writer = Writer::new(&mut self.random, self.universe, place);
+            writer.with_own_name(0, 20);
+            definitions[2].2 = writer.words;
+            declared[2].open = true;
+        }
+        Pair { policy: assemble(self.sound_format(), &definitions), query: self.query_over(&declared), our_key: self.our_key }
+    }
+
+    fn query_over(&mut self, declared: &[Declared]) -> Vec<u32> {
+        let want = Want::any(&mut self.random);
+        self.expression(want, Place { available: declared, entries: &[], our_key: self.our_key, external: false })
     }
 
     fn areas(&mut self) -> Areas {
@@ -1049,9 +1329,8 @@ impl Generator {
         areas
     }
 
-    fn expression(&mut self, want: impl FnOnce(&mut Random) -> Want, declared: &[Declared], external: bool) -> Vec<u32> {
-        let want = want(&mut self.random);
-        let mut writer = Writer::new(&mut self.random, self.universe, declared, external);
+    fn expression(&mut self, want: Want, place: Place) -> Vec<u32> {
+        let mut writer = Writer::new(&mut self.random, self.universe, place);
         writer.expression(want, 1);
         writer.words
     }
@@ -1060,18 +1339,18 @@ impl Generator {
     fn definitions(&mut self, count: u32, damaged: u32) -> (Vec<Definition>, Vec<Declared>) {
         let mut definitions = Vec::new();
         let mut declared = Vec::new();
-        for d in 0..count {
-            let polarity = self.random.between(0, 1);
+        let entries = self.entries(count);
+        for &(name, polarity) in &entries {
             let closed = self.random.chance(500);
             let want = Want { closed, ..Want::polarity(polarity) };
-            let mut words = self.expression(|_| want, &declared, false);
+            let mut words = self.expression(want, Place { available: &declared, entries: &entries, our_key: self.our_key, external: false });
             if self.random.chance(damaged) {
                 words = if self.random.chance(300) { self.near_a_limit() } else { words };
                 self.mutate(&mut words);
             }
             words.resize(words.len().max(1), 0);
-            definitions.push((10 + d, polarity, words));
-            declared.push(Declared { polarity, open: !closed });
+            definitions.push((name, polarity, words));
+            declared.push(Declared { name, polarity, open: !closed });
         }
         (definitions, declared)
     }
@@ -1084,7 +1363,7 @@ impl Generator {
         let (mut definitions, declared) = self.definitions(count, 40);
         if count > 0 && self.random.chance(20) {
             let unlike = self.random.below(count as usize);
-            definitions[unlike].0 = self.random.pick(&[10, 10, LAST_NAME, LAST_NAME + 1]);
+            definitions[unlike].0 = self.random.pick(&[definitions[0].0, definitions[0].0, LAST_NAME, LAST_NAME + 1]);
         }
         let mut words = assemble(self.format(), &definitions);
         // Where the format is none, which of 1 and 2 comes first is to be seen.
@@ -1103,7 +1382,9 @@ impl Generator {
             return (self.long_output(), Vec::new());
         }
         let count = self.random.pick(&[0, 1, 1, 1, 2, 2, 3, 4]);
-        let mut entries: Vec<(u32, u32)> = (0..count).map(|d| (10 + d, 0)).collect();
+        // Names that certificates are filed under come first.
+        let mut entries: Vec<(u32, u32)> = [1, 2, 10, 11][..count].iter().map(|name| (*name, 0)).collect();
+        self.random.shuffle(&mut entries);
         match self.random.below(10) {
             0 => {}
             1 => entries.insert(0, (COMPROMISED, 0)), // an ordinary name
@@ -1119,10 +1400,10 @@ impl Generator {
         let chosen = self.random.below(entries.len().max(1));
         let (mut definitions, declared) = self.external_definitions(&entries, (rule == 4).then_some(chosen));
         if let Some((_, polarity, words)) = definitions.get_mut(chosen) {
-            if *polarity == 0 && self.random.chance(80) {
+            if *polarity == 0 && self.random.chance(120) {
                 *words = self.deep_lists();
             }
-            let vetted = [8, 0, self.universe.keys[0], 1, 0, 0];
+            let vetted = [8, 0, self.first_key(), 1, 0, 0];
             match rule {
                 5 => *words = [&[6], &words[..], &[1, 0]].concat(),
                 6 => *words = [&[5], &words[..], &[7, 1, 4, 1, 0, 7, 1, 0, 1, 0, 7]].concat(), // an absent guard alone
@@ -1135,7 +1416,7 @@ impl Generator {
             }
         }
         let words = assemble(self.format(), &definitions);
-        match rewritten(&words) {
+        match rewritten(&words, self.our_key) {
             Ok(output) if self.random.chance(400) => (output, declared),
             _ => (words, declared),
         }
@@ -1148,8 +1429,9 @@ impl Generator {
         for (d, &(name, polarity)) in entries.iter().enumerate() {
             let closed = self.random.chance(500);
             let want = Want { closed, ..Want::polarity(polarity) };
-            definitions.push((name, polarity, self.expression(|_| want, &declared, by_none != Some(d))));
-            declared.push(Declared { polarity, open: !closed });
+            let place = Place { available: &declared, entries, our_key: self.our_key, external: by_none != Some(d) };
+            definitions.push((name, polarity, self.expression(want, place)));
+            declared.push(Declared { name, polarity, open: !closed });
         }
         (definitions, declared)
     }
@@ -1158,7 +1440,7 @@ impl Generator {
     fn deep_lists(&mut self) -> Vec<u32> {
         let mut words = Vec::new();
         let mut after: Vec<u32> = Vec::new();
-        let list = [4, 0, self.universe.keys[0], 1, 0];
+        let list = [4, 0, self.first_key(), 1, 0];
         for _ in 0..self.random.between(13, 15) {
             match self.random.below(5) {
                 0 => words.extend([&[5], &list[..]].concat()),
@@ -1180,7 +1462,14 @@ impl Generator {
         let lists = 180;
         let mut definitions = Vec::new();
         for name in 1..7 {
-            let parts: Vec<Vec<u32>> = (0..lists).map(|_| vec![4, 0, self.random.pick(self.universe.keys), self.random.between(0, 9), 0]).collect();
+            let mut list = || {
+                if name > 1 && self.random.chance(100) {
+                    vec![4, 0, self.our_key, self.random.between(1, name - 1), 0]
+                } else {
+                    vec![4, 0, self.other_key(), self.random.between(0, 9), 0]
+                }
+            };
+            let parts: Vec<Vec<u32>> = (0..lists).map(|_| list()).collect();
             definitions.push((name, 0, united(&parts)));
         }
         // With its union a list takes six words, and seven when it is vetted.
@@ -1223,30 +1512,39 @@ impl Generator {
     fn query(&mut self, declared: &[Declared]) -> Vec<u32> {
         let mut words = match self.random.below(100) {
             0..=11 => self.near_a_limit(),
-            12..=13 if !declared.is_empty() => vec![3, self.random.below(declared.len()) as u32],
+            12..=13 if !declared.is_empty() => {
+                let number = self.random.below(declared.len());
+                let Declared { name, polarity, .. } = declared[number];
+                if self.random.chance(500) {
+                    vec![3, number as u32]
+                } else {
+                    vec![4, 0, self.our_key, name, polarity]
+                }
+            }
             14 => literal_of(self.random.between(1_022, 1_026) as usize),
             15..=17 => {
                 let polarity = self.random.between(0, 1);
-                vec![4, 0, self.universe.keys[0], CROWD, polarity]
+                vec![4, 0, self.first_key(), CROWD, polarity]
             }
-            18..=20 if declared.first().is_some_and(|first| first.polarity == 1) => vec![8, 0, self.universe.keys[0], CROWD, 0, 0],
+            18..=20 if declared.first().is_some_and(|first| first.polarity == 1) => vec![8, 0, self.first_key(), CROWD, 0, 0],
             // By any definition, or by one that is not there.
             21..=22 => {
                 let [polarity, definition] = [self.random.pick(&[0, 0, 1]), self.random.between(0, declared.len() as u32)];
-                vec![8, 0, self.universe.keys[0], 1, polarity, definition]
+                vec![8, 0, self.first_key(), 1, polarity, definition]
             }
             // It has no polarity, and sometimes words are left over.
             23 => {
-                let list = [4, 0, self.universe.keys[0], 1, 0];
+                let list = [4, 0, self.first_key(), 1, 0];
                 let left_over = self.random.pick(&[&[][..], &[0]]);
                 [&[6], &list[..], &list, left_over].concat()
             }
             // A lower complement.
             24 => {
-                let ([key, name, _], atoms) = (self.name(), [0; 2].map(|_| self.random.pick(self.universe.atoms)));
+                let (key, name) = (self.other_key(), self.random.pick(self.universe.names));
+                let atoms = [0; 2].map(|_| self.random.pick(self.universe.atoms));
                 vec![5, 2, 2, 1, 0, atoms[0], 2, 0, atoms[0], 0, atoms[1], 4, 0, key, name, 0]
             }
-            _ => self.expression(Want::any, declared, false),
+            _ => self.query_over(declared),
         };
         if self.random.chance(150) {
             self.mutate(&mut words);
@@ -1341,7 +1639,8 @@ impl Generator {
         let comprehension = draws_from(&sources, &head);
         let part = if self.random.chance(500) { [vec![5], numbers(1, 1_000, 100), comprehension].concat() } else { comprehension };
         let policy = assemble(self.sound_format(), &[(1, 0, part), (2, 0, numbers(1, 0, 1))]);
-        let query = self.random.pick(&[&[3, 0][..], &[1, 0], &[7, 1, 1, 3, 1, 1, 2, 0, 1, 1, 0]]).to_vec();
+        let own = [4, 0, self.our_key, 1, 0];
+        let query = self.random.pick(&[&[3, 0][..], &own, &[1, 0], &[7, 1, 1, 3, 1, 1, 2, 0, 1, 1, 0]]).to_vec();
         self.asked(policy, query)
     }
 
@@ -1402,6 +1701,7 @@ impl Generator {
 #[cfg(test)]
 mod tests {
     use super::*;
+    use crate::evaluator::Question;
 
     #[test]
     fn literals_have_the_length_asked_for() {
@@ -1431,17 +1731,20 @@ mod tests {
     #[test]
     fn external_pairs_are_mostly_rewritten_and_the_output_passes() {
         let mut generator = Generator::new(1, &PORTAL);
-        let outputs: Vec<Vec<u32>> = (0..1_000).filter_map(|_| rewritten(&generator.external_pair().0).ok()).collect();
-        assert!(outputs.len() > 700, "{}", outputs.len());
-        for output in outputs {
-            assert!(Evaluator::default().judge(&output, &[1, 0]).is_ok(), "{output:?}");
+        let mut outputs = 0;
+        for Pair { policy, our_key, .. } in (0..1_000).map(|_| generator.external_pair()) {
+            let Ok(output) = rewritten(&policy, our_key) else { continue };
+            assert!(Evaluator::default().judge(&output, &[1, 0], our_key).is_ok(), "{output:?}");
+            outputs += 1;
         }
+        assert!(outputs > 700, "{outputs}");
     }
 
     #[test]
     fn long_outputs_have_the_length_asked_for() {
         let mut generator = Generator::new(1, &PORTAL);
-        let outputs: BTreeSet<Option<usize>> = (0..100).map(|_| rewritten(&generator.long_output()).ok().map(|output| output.len())).collect();
+        let mut length = || rewritten(&generator.long_output(), generator.our_key).ok().map(|output| output.len());
+        let outputs: BTreeSet<Option<usize>> = (0..100).map(|_| length()).collect();
         assert_eq!(outputs, BTreeSet::from([None, Some(8_190), Some(8_191), Some(8_192)]));
     }
 
@@ -1449,11 +1752,15 @@ mod tests {
     fn sound_pairs_are_mostly_answered() {
         let mut generator = Generator::new(1, &PORTAL);
         let (store, links) = (generator.sound_store(), generator.sound_links());
-        let answered = |generator: &mut Generator| {
-            let (policy, query) = generator.sound_pair();
-            Evaluator::default().query(&policy, &query, 10, &store, &links, Areas::LEAST).is_ok()
+        let mut own_names = 0;
+        let mut answered = || {
+            let Pair { policy, query, our_key } = generator.sound_pair();
+            let judged = Evaluator::default().judge(&policy, &query, our_key);
+            own_names += judged.is_ok_and(|judged| judged.own_names() > 0) as u32;
+            let question = Question { policy: &policy, query: &query, our_key, minute: 10 };
+            Evaluator::default().query(question, &store, &links, Areas::LEAST).is_ok()
         };
-        let count = (0..1_000).filter(|_| answered(&mut generator)).count();
-        assert!(count > 700, "{count}");
+        let count = (0..1_000).filter(|_| answered()).count();
+        assert!(count > 700 && own_names > 200, "{count} {own_names}");
     }
 }

@@ -1,7 +1,7 @@
 //! The compiled library.
 
 use crate::engine::Engine;
-use crate::evaluator::Date;
+use crate::evaluator::{Date, Question};
 use std::ops::Range;
 use txindurbe::calls::{self, Dated, Judgement, Lent, Minutes, Reply, Rewriting};
 
@@ -16,16 +16,17 @@ impl Engine for Library {
         calls::file_link(links, link)
     }
 
-    fn query(&self, policy: &[u32], query: &[u32], minute: u32, store: &[u32], links: &[u32], lent: Lent) -> Reply {
-        calls::query(policy, query, minute, store, links, lent)
+    fn query(&self, question: Question, store: &[u32], links: &[u32], lent: Lent) -> Reply {
+        let Question { policy, query, our_key, minute } = question;
+        calls::query(policy, query, our_key, minute, store, links, lent)
     }
 
-    fn judge(&self, policy: &[u32], query: &[u32]) -> Judgement {
-        calls::judge(policy, query)
+    fn judge(&self, policy: &[u32], query: &[u32], our_key: u32) -> Judgement {
+        calls::judge(policy, query, our_key)
     }
 
-    fn rewrite(&self, policy: &[u32], area: &mut [u32]) -> Rewriting {
-        calls::rewrite(policy, area)
+    fn rewrite(&self, policy: &[u32], our_key: u32, area: &mut [u32]) -> Rewriting {
+        calls::rewrite(policy, our_key, area)
     }
 
     fn part(&self, policy: &[u32], query: &[u32], number: u32) -> (u32, Range<usize>) {

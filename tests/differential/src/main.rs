@@ -87,12 +87,15 @@ fn print_tally(tally: &Tally, seen: &Seen) {
     for ((verdict, table), count) in &tally.answers {
         println!("answer {}, {table}: {count}", ["exact", "lower", "upper"][*verdict as usize]);
     }
+    for (verdict, count) in &tally.own_names {
+        println!("answer {}, own names written: {count}", ["exact", "lower", "upper"][*verdict as usize]);
+    }
     for (format, [exact, lower, upper]) in (1..).zip(seen.points) {
         println!("held against worlds: {exact} exact, {lower} lower and {upper} upper answers of format {format}");
     }
     println!(
-        "held against worlds: {} policies rewritten, {} links, {} worlds, {} rows that worlds differ on",
-        seen.rewritten, seen.links, seen.worlds, seen.undecided_rows
+        "held against worlds: {} policies rewritten, {} own names, {} links, {} worlds, {} rows that worlds differ on",
+        seen.rewritten, seen.own_names, seen.links, seen.worlds, seen.undecided_rows
     );
     for report in &tally.reports {
         println!("FAILED {report}");

@@ -70,6 +70,7 @@ pub const BAD_DATE: u32 = 16;
 pub const BAD_TERM: u32 = 17;
 pub const BAD_LINK: u32 = 18;
 pub const LINKS_FULL: u32 = 19;
+pub const NOT_A_KEY: u32 = 20;
 
 /// The part that is the query, after 0 to 15, the definitions.
 pub const QUERY_PART: u32 = 16;

@@ -1,7 +1,8 @@
 //! Demand 3 by brute force: answers at a minute are held against belonging in every world of that minute over a small universe of rows.
 //!
 //! A world of a minute is one where the links, and the certificates that hold then, are true. Where a few rows are undecided, all worlds over the universe are
-//! tried and those where a link is not true are passed over; where there are more, some are tried, after what their links ask for was put right.
+//! tried and those where a link is not true are passed over; where there are more, some are tried, after what their links ask for was put right. A world has
+//! lists for our key as for others, which only variables and links reach; certificates and links are filed under it all the same.
 //!
 //! Why a small universe is enough to be worth asking:
 //! - A row that is wrongly left out of a lower answer, or wrongly kept in an upper one, is shown by the minimal model, which is always among the worlds
@@ -13,8 +14,10 @@
 //! - In format 2 a pattern matches every row that begins as it says. Those too are sought among the rows that such an expression may have.
 
 use crate::engine::{Engine, Kind, Stores};
-use crate::evaluator::{key, row_of, value, Areas, Evaluator, Expression, Format, Guard, Judged, Link, Name, Record, Row, Set, Slot, Term, Verdict};
-use crate::generate::{empty_stores, rewritten, term, Generator, Universe, ALWAYS};
+use crate::evaluator::{
+    key, row_of, value, Areas, Evaluator, Expression, Format, Guard, Judged, Link, Name, Question, Record, Row, Set, Slot, Term, Verdict,
+};
+use crate::generate::{empty_stores, rewritten, term, Generator, Pair, Universe, ALWAYS};
 use crate::numbers::{FIRST_KEY, MOST_POLICY_WORDS};
 use crate::random::Random;
 use std::collections::{BTreeMap, BTreeSet};
@@ -22,6 +25,7 @@ use txindurbe::calls::Lent;
 
 pub const SMALL: Universe = Universe {
     keys: &[key(1), key(2)],
+    our_keys: &[key(1), key(1), key(2)],
     names: &[1, 2],
     atoms: &[5, 6, key(1)],
     widths: &[1, 1, 1, 1, 2],
@@ -178,19 +182,24 @@ impl Belonging<'_> {
             Expression::Rows(rows) => written(rows),
             Expression::AllBut(rows) => !written(rows),
             Expression::Definition(number) => self.belongs_to_definition(row, *number),
-            Expression::List { issuer, name, polarity } => match value(*issuer, values) {
+            Expression::List { issuer, name, polarity, own } => match value(*issuer, values) {
                 number if number < FIRST_KEY => *polarity == 1,
                 issuer if self.later && self.belongs_to_definition(&Row::new(&[issuer]), 0) => false,
-                issuer => self.world.gives([issuer, *name, *polarity], row),
+                issuer => self.belongs_to_name(row, [issuer, *name, *polarity], *own),
             },
-            Expression::Vetted { issuer, name, definition } => match value(*issuer, values) {
+            Expression::Vetted { issuer, name, own, definition } => match value(*issuer, values) {
                 number if number < FIRST_KEY => false,
-                issuer => !self.belongs_to_definition(&Row::new(&[issuer]), *definition) && self.world.gives([issuer, *name, 0], row),
+                issuer => !self.belongs_to_definition(&Row::new(&[issuer]), *definition) && self.belongs_to_name(row, [issuer, *name, 0], *own),
             },
             Expression::Union(left, right) => self.belongs(row, left, values) || self.belongs(row, right, values),
             Expression::Difference(left, right) => self.belongs(row, left, values) && !self.belongs(row, right, values),
             Expression::Comprehension { guards, head } => self.some_values(row, guards, head, values),
         }
+    }
+
+    /// An own name stands for its definition; the world gives the lists of all others.
+    fn belongs_to_name(&self, row: &Row, name: Name, own: Option<usize>) -> bool {
+        own.map_or_else(|| self.world.gives(name, row), |definition| self.belongs_to_definition(row, definition))
     }
 
     fn belongs_to_definition(&self, row: &Row, number: usize) -> bool {
@@ -227,8 +236,10 @@ impl Belonging<'_> {
     fn rows_at_most(&self, expression: &Expression, values: &[u32]) -> BTreeSet<Row> {
         match expression {
             Expression::Rows(rows) => rows.iter().map(|terms| row_of(terms, values)).collect(),
-            Expression::List { .. } | Expression::Vetted { .. } => self.world.universe.clone(),
-            Expression::Definition(number) => self.rows_at_most(&self.judged.definitions[*number].expression, &[]),
+            Expression::List { own: None, .. } | Expression::Vetted { own: None, .. } => self.world.universe.clone(),
+            Expression::Definition(number) | Expression::List { own: Some(number), .. } | Expression::Vetted { own: Some(number), .. } => {
+                self.rows_at_most(&self.judged.definitions[*number].expression, &[])
+            }
             Expression::Union(left, right) => &self.rows_at_most(left, values) | &self.rows_at_most(right, values),
             Expression::Difference(left, _) => self.rows_at_most(left, values),
             Expression::Comprehension { head, .. } => self.heads(head, values),
@@ -298,6 +309,8 @@ pub struct Seen {
     pub refused: u64,
     /// Policies that were rewritten.
     pub rewritten: u64,
+    /// Own names written.
+    pub own_names: u64,
     /// By format and verdict.
     pub points: [[u64; 3]; 2],
     pub worlds: u64,
@@ -309,24 +322,25 @@ pub struct Seen {
     pub links: u64,
 }
 
-/// A random policy and query at one minute and several points of a random list of filings. An external policy is rewritten by the engine, and what it answers
-/// under the output is held against the policy as it was written.
+/// A random policy and query at one minute, under one key as ours, and at several points of a random list of filings. An external policy is rewritten by the
+/// engine, and what it answers under the output is held against the policy as it was written.
 pub fn check(engine: &dyn Engine, generator: &mut Generator, seen: &mut Seen) -> Result<(), String> {
     let external = generator.random.chance(300);
-    let (written, query) = if external { generator.external_pair() } else { generator.sound_pair() };
-    let output = if external { rewritten(&written) } else { Ok(written.clone()) };
-    let (Ok(judged), Ok(_)) = (Evaluator::default().judge(&written, &query), output) else {
+    let Pair { policy: written, query, our_key } = if external { generator.external_pair() } else { generator.sound_pair() };
+    let output = if external { rewritten(&written, our_key) } else { Ok(written.clone()) };
+    let (Ok(judged), Ok(_)) = (Evaluator::default().judge(&written, &query, our_key), output) else {
         seen.refused += 1;
         return Ok(());
     };
-    let policy = if external { rewritten_by(engine, &written)? } else { written };
+    let policy = if external { rewritten_by(engine, &written, our_key)? } else { written };
     seen.rewritten += external as u64;
-    let asked = names_asked(&judged);
-    let points = points(engine, generator, &asked, &policy, &query)?;
-    let names = with_linked(asked, &points.last().expect("there is a first point").accepted.links);
+    seen.own_names += judged.own_names() as u64;
+    let question = Question { policy: &policy, query: &query, our_key, minute: generator.minute() };
+    let points = points(engine, generator, &names_written(&judged), question)?;
+    let names = with_linked(names_asked(&judged), &points.last().expect("there is a first point").accepted.links);
     let universe = universe(&points, &mut generator.random);
     let atoms = atoms(&judged, &universe);
-    let show = |report| format!("{report}\n  policy {policy:?}\n  query {query:?}");
+    let show = |report| format!("{report}\n  policy {policy:?}\n  query {query:?}\n  our key {our_key}");
     for point in &points {
         let mut holding = point.holding();
         holding.links.retain(|link| names.contains(&link.first()));
@@ -382,21 +396,21 @@ fn in_step(earlier: &Point, later: &Point) -> Result<(), String> {
     }
 }
 
-/// Files certificates and links through the engine, and asks at the first point, in between and at the last, always at one minute.
-fn points(engine: &dyn Engine, generator: &mut Generator, asked: &BTreeSet<Name>, policy: &[u32], query: &[u32]) -> Result<Vec<Point>, String> {
+/// Files certificates and links through the engine, and asks at the first point, in between and at the last: always at one minute, and with one word given as
+/// our key.
+fn points(engine: &dyn Engine, generator: &mut Generator, written: &BTreeSet<Name>, question: Question) -> Result<Vec<Point>, String> {
     let mut stores = empty_stores(&mut generator.random);
     let mut accepted = Accepted::default();
-    let minute = generator.minute();
-    let mut points = vec![point(engine, policy, query, minute, &stores, &accepted)?];
+    let mut points = vec![point(engine, question, &stores, &accepted)?];
     for _ in 0..3 {
         for _ in 0..generator.random.between(1, 6) {
             let kind = generator.random.pick(&[Kind::Certificate, Kind::Certificate, Kind::Link]);
-            let words = filed(generator, asked, &accepted.records, kind);
+            let words = filed(generator, written, &accepted.records, kind);
             if stores.file(engine, kind, &words) == 0 {
                 accepted.take(kind, &words).ok_or_else(|| format!("{kind:?} {words:?} was accepted"))?;
             }
         }
-        points.push(point(engine, policy, query, minute, &stores, &accepted)?);
+        points.push(point(engine, question, &stores, &accepted)?);
     }
     Ok(points)
 }
@@ -412,23 +426,23 @@ impl Accepted {
     }
 }
 
-fn rewritten_by(engine: &dyn Engine, policy: &[u32]) -> Result<Vec<u32>, String> {
+fn rewritten_by(engine: &dyn Engine, policy: &[u32], our_key: u32) -> Result<Vec<u32>, String> {
     let mut area = vec![9; MOST_POLICY_WORDS];
-    let reply = engine.rewrite(policy, &mut area);
+    let reply = engine.rewrite(policy, our_key, &mut area);
     if reply.number > 0 {
-        return Err(format!("no output where no refusal applies: {reply:?}\n  policy {policy:?}"));
+        return Err(format!("no output where no refusal applies: {reply:?}\n  policy {policy:?}\n  our key {our_key}"));
     }
     area.truncate(reply.length);
     Ok(area)
 }
 
-/// Mostly a certificate of a name that the query asks, or a link from one; often one whose row begins as that of one held; sometimes words that are none.
-fn filed(generator: &mut Generator, asked: &BTreeSet<Name>, held: &BTreeSet<Record>, kind: Kind) -> Vec<u32> {
+/// Mostly a certificate of a name that is written, or a link from one; often one whose row begins as that of one held; sometimes words that are none.
+fn filed(generator: &mut Generator, written: &BTreeSet<Name>, held: &BTreeSet<Record>, kind: Kind) -> Vec<u32> {
     let (mut record, mut link) = (generator.record(), generator.link());
     // Links bring the certificates of other names in.
-    let of_asked = if kind == Kind::Link { 800 } else { 500 };
-    if !asked.is_empty() && generator.random.chance(of_asked) {
-        let name = asked.iter().nth(generator.random.below(asked.len())).expect("it is one of them");
+    let of_written = if kind == Kind::Link { 800 } else { 500 };
+    if !written.is_empty() && generator.random.chance(of_written) {
+        let name = written.iter().nth(generator.random.below(written.len())).expect("it is one of them");
         record.name = *name;
         [link.key, link.name, link.polarity] = *name;
     }
@@ -458,36 +472,44 @@ fn filed(generator: &mut Generator, asked: &BTreeSet<Name>, held: &BTreeSet<Reco
     }
 }
 
-fn point(engine: &dyn Engine, policy: &[u32], query: &[u32], minute: u32, stores: &Stores, accepted: &Accepted) -> Result<Point, String> {
+fn point(engine: &dyn Engine, question: Question, stores: &Stores, accepted: &Accepted) -> Result<Point, String> {
     let Areas { answer, definitions, scratch } = Areas::LEAST;
     let (mut answer, mut definitions, mut scratch) = (vec![9; answer], vec![9; definitions], vec![9; scratch]);
     let lent = Lent { answer: &mut answer, definitions: &mut definitions, scratch: &mut scratch };
-    let reply = engine.query(policy, query, minute, &stores.store, &stores.links, lent);
+    let reply = engine.query(question, &stores.store, &stores.links, lent);
     let verdict = match (reply.number, reply.verdict) {
         (0, 0) => Verdict::Exact,
         (0, 1) => Verdict::Lower,
         (0, 2) => Verdict::Upper,
-        _ => return Err(format!("no answer where no refusal applies: {reply:?}\n  policy {policy:?}\n  query {query:?}\n  minute {minute}")),
+        _ => return Err(format!("no answer where no refusal applies: {reply:?}\n  {question:?}")),
     };
     let answer = Set::from_words(&answer).ok_or("the answer is no sound set")?;
-    Ok(Point { accepted: accepted.clone(), minute, verdict, answer })
+    Ok(Point { accepted: accepted.clone(), minute: question.minute, verdict, answer })
 }
 
-/// The names that the expressions may ask a world for; a variable issuer may be any key.
+/// The names that the expressions may ask a world for: all but own names.
 fn names_asked(judged: &Judged) -> BTreeSet<Name> {
-    let keys = |issuer: Term| match issuer {
-        Term::Atom(atom) => vec![atom],
-        Term::Variable(_) => SMALL.keys.to_vec(),
+    let asked = |expression: &Expression| !matches!(expression, Expression::List { own: Some(_), .. } | Expression::Vetted { own: Some(_), .. });
+    judged.expressions().into_iter().filter(|expression| asked(expression)).flat_map(|expression| names_of(expression, judged.our_key)).collect()
+}
+
+/// These, and own names.
+fn names_written(judged: &Judged) -> BTreeSet<Name> {
+    judged.expressions().into_iter().flat_map(|expression| names_of(expression, judged.our_key)).collect()
+}
+
+/// The names that a list may be of: a variable issuer may be any key.
+fn names_of(expression: &Expression, our_key: u32) -> Vec<Name> {
+    let (issuer, name, polarity) = match expression {
+        Expression::List { issuer, name, polarity, .. } => (*issuer, *name, *polarity),
+        Expression::Vetted { issuer, name, .. } => (*issuer, *name, 0),
+        _ => return Vec::new(),
     };
-    let mut names = BTreeSet::new();
-    for expression in judged.expressions() {
-        match expression {
-            Expression::List { issuer, name, polarity } => names.extend(keys(*issuer).into_iter().map(|key| [key, *name, *polarity])),
-            Expression::Vetted { issuer, name, .. } => names.extend(keys(*issuer).into_iter().map(|key| [key, *name, 0])),
-            _ => {}
-        }
-    }
-    names
+    let keys = match issuer {
+        Term::Atom(atom) => vec![atom],
+        Term::Variable(_) => [SMALL.keys, &[our_key]].concat(),
+    };
+    keys.into_iter().map(|key| [key, name, polarity]).collect()
 }
 
 /// These names, and all that links join with them, whichever way: the lists of others have no say.
@@ -536,6 +558,7 @@ fn rows_asked(universe: &BTreeSet<Row>, atoms: &BTreeSet<u32>, points: &[Point])
 mod tests {
     use super::*;
     use crate::faults::Fault;
+    use crate::generate::assemble;
     use crate::library::Library;
 
     fn run(engine: &dyn Engine, lists: usize) -> (Result<(), String>, Seen) {
@@ -549,11 +572,11 @@ mod tests {
     fn demand_3_holds_of_the_library_and_of_the_evaluator() {
         let engines: [&dyn Engine; 2] = [&Library, &Evaluator::default()];
         for engine in engines {
-            let (result, seen) = run(engine, 400);
+            let (result, seen) = run(engine, 500);
             assert_eq!(result, Ok(()));
             println!("{seen:?}");
             assert!(seen.points.as_flattened().iter().all(|&count| count > 50) && seen.undecided_rows > 1_000, "{seen:?}");
-            assert!(seen.rewritten > 50 && seen.not_holding > 1_000 && seen.links > 1_000, "{seen:?}");
+            assert!(seen.rewritten > 50 && seen.own_names > 100 && seen.not_holding > 1_000 && seen.links > 1_000, "{seen:?}");
         }
     }
 
@@ -579,7 +602,8 @@ mod tests {
             }
             let worlds = worlds_of_minute(&BTreeSet::from(names), &universe, &accepted, &mut random);
             for name in names {
-                let point = point(engine, &[1, 0], &[4, 0, name[0], 1, polarity], 0, &stores, &accepted)?;
+                let question = Question { policy: &[1, 0], query: &[4, 0, name[0], 1, polarity], our_key: key(9), minute: 0 };
+                let point = point(engine, question, &stores, &accepted)?;
                 for row in rows.iter().chain([&Row::new(&[97])]) {
                     bounded(&point, row, &worlds.iter().map(|world| world.gives(name, row)).collect::<Vec<bool>>())?;
                 }
@@ -625,8 +649,9 @@ mod tests {
                 let new: Vec<u32> = pattern[1..].chunks(2).filter(|slot| slot[0] == 2).flat_map(|slot| [1, slot[1]]).collect();
                 let head = if new.is_empty() { vec![1, 0, 5] } else { [&[new.len() as u32 / 2], &new[..]].concat() };
                 let (policy, query) = ([format as u32, 0], [&[7, 1, 1, 4, 0, key(1), 1, 0], &pattern[..], &head].concat());
-                let judged = Evaluator::default().judge(&policy, &query).expect("it passes");
-                let point = point(engine, &policy, &query, 0, &stores, &accepted)?;
+                let question = Question { policy: &policy, query: &query, our_key: key(9), minute: 0 };
+                let judged = Evaluator::default().judge(&policy, &query, key(9)).expect("it passes");
+                let point = point(engine, question, &stores, &accepted)?;
                 let belongs = |row: &Row, world| {
                     let belonging = Belonging { judged: &judged, world, atoms: &atoms, external: false, later: false };
                     belonging.belongs(row, &judged.query, &[])
@@ -668,6 +693,103 @@ mod tests {
         assert_eq!(patterns_over_lists(&Evaluator::default()), Ok(()));
         for fault in MATCHING {
             assert!(patterns_over_lists(&Evaluator { fault: Some(fault) }).is_err(), "{fault:?} is not noticed");
+        }
+    }
+
+    /// k1 is our key. Our name 1 is k2's name 1 and the row 7; our name 2 is our name 1.
+    fn own_names(polarity: u32, compromised: &[u32]) -> Vec<u32> {
+        let first = vec![5, 4, 0, key(2), 1, polarity, 1, 1, 1, 0, 7];
+        let definitions = [(0, 1, compromised.to_vec()), (1, polarity, first), (2, polarity, vec![4, 0, key(1), 1, polarity])];
+        assemble(1, &definitions)
+    }
+
+    /// Those names, the lists of both keys and variables that hold the keys: in each place that names are written at.
+    fn queries_over_own_names(polarity: u32) -> Vec<Vec<u32>> {
+        let lists = [[key(1), 1], [key(1), 2], [key(2), 1]].map(|[key, name]| [4, 0, key, name, polarity]);
+        let numbers = [1, 3, 1, 0, 5, 1, 0, 6, 1, 0, 7];
+        let absent = |from: &[u32]| [&[7, 2, 1], &numbers[..], &[1, 2, 0, 4, 1, 1, 0], from, &[1, 1, 0]].concat();
+        let held = |key: u32| [&[7, 3, 1, 1, 1, 1, 0, key, 1, 2, 0, 1], &numbers[..], &[1, 2, 1, 4, 1, 1, 1, 4, 1, 0, 1, polarity, 1, 1, 1]].concat();
+        let mut queries: Vec<Vec<u32>> = [key(1), key(2)].map(held).to_vec();
+        for list in lists {
+            queries.extend([list.to_vec(), absent(&list), [&[6], &numbers[..], &list].concat()]);
+            if polarity == 0 {
+                let vetted = [&[8], &list[1..], &[0]].concat();
+                queries.extend([list.to_vec(), vetted].map(|from| [&[7, 1, 1], &from[..], &[1, 2, 0, 1, 1, 0]].concat()));
+            }
+        }
+        queries
+    }
+
+    /// Each of these queries, with every set of links between name 1 of both keys and each choice of rows certified of it, against every world over two rows;
+    /// with + also after the policy was rewritten, while k1, k2 or neither is compromised.
+    fn own_names_over_lists(engine: &dyn Engine) -> Result<(), String> {
+        let mut random = Random::new(1);
+        let rows = [5, 6].map(|atom| Row::new(&[atom]));
+        let (universe, atoms) = (BTreeSet::from(rows), BTreeSet::from([5, 6, 7, key(1), key(2)]));
+        for (polarity, chosen) in [0, 1].into_iter().flat_map(|polarity| (0..1 << 8).map(move |chosen| (polarity, chosen))) {
+            let names = [1, 2].map(|n| [key(n), 1, polarity]);
+            let pairs = |first| (0..4).filter(move |place| chosen >> (first + place) & 1 == 1).map(|place| (place / 2, place % 2));
+            let links = pairs(0).map(|(one, other)| (Kind::Link, [&names[one][..], &names[other][..2]].concat()));
+            let records =
+                pairs(4).map(|(one, row)| (Kind::Certificate, Record { name: names[one], row: rows[row], validity: ALWAYS }.words().to_vec()));
+            let (mut stores, mut accepted) = (empty_stores(&mut random), Accepted::default());
+            for (kind, words) in links.chain(records) {
+                assert_eq!(stores.file(engine, kind, &words), 0);
+                accepted.take(kind, &words).expect("no refusal applies");
+            }
+            let worlds = worlds_of_minute(&BTreeSet::from(names), &universe, &accepted, &mut random);
+            let compromised = [vec![1, 0], vec![1, 1, 1, 0, key(1)], vec![1, 1, 1, 0, key(2)]];
+            let externals = if polarity == 0 { &[false, true][..] } else { &[false] };
+            for (compromised, &external) in compromised.iter().flat_map(|compromised| externals.iter().map(move |external| (compromised, external))) {
+                let written = own_names(polarity, compromised);
+                let policy = if external { rewritten_by(engine, &written, key(1))? } else { written.clone() };
+                for query in queries_over_own_names(polarity) {
+                    let judged = Evaluator::default().judge(&written, &query, key(1)).expect("it passes");
+                    let point = point(engine, Question { policy: &policy, query: &query, our_key: key(1), minute: 0 }, &stores, &accepted)?;
+                    let belongs = |row: &Row, world| {
+                        let belonging = Belonging { judged: &judged, world, atoms: &atoms, external, later: false };
+                        belonging.belongs(row, &judged.query, &[])
+                    };
+                    for row in [5, 6, 7, 97].map(|atom| Row::new(&[atom])) {
+                        bounded(&point, &row, &worlds.iter().map(|world| belongs(&row, world)).collect::<Vec<bool>>())?;
+                    }
+                }
+            }
+        }
+        Ok(())
+    }
+
+    /// What own names, and names under our key that are none, are wrongly taken for.
+    const OWN_NAMES: [Fault; 21] = [
+        Fault::OurKeyIgnored,
+        Fault::DefinitionsWithoutOwnNames,
+        Fault::QueryWithoutOwnNames,
+        Fault::VettedWithoutOwnNames,
+        Fault::CertificatesReadForOwnName,
+        Fault::CertificatesReadForOwnVetted,
+        Fault::OwnDrawnFromCertificates,
+        Fault::OwnAbsentFromCertificates,
+        Fault::OwnJoinedWithCertificates,
+        Fault::OwnJoinedWithLinks,
+        Fault::OwnReadAsFirst,
+        Fault::OwnReadAsLast,
+        Fault::OwnMissingInQuery,
+        Fault::OwnMissingInVetted,
+        Fault::OwnVettedNotLookedUp,
+        Fault::OwnVettedReadAsItsGuard,
+        Fault::VariableReadsDefinition,
+        Fault::VariableOfOurKeyUnknown,
+        Fault::LinkReachesDefinition,
+        Fault::LinkToOurKeyNotFollowed,
+        Fault::OwnNotRewritten,
+    ];
+
+    #[test]
+    fn every_own_name_is_read_as_the_worlds_of_its_definition_have_it() {
+        assert_eq!(own_names_over_lists(&Library), Ok(()));
+        assert_eq!(own_names_over_lists(&Evaluator::default()), Ok(()));
+        for fault in OWN_NAMES {
+            assert!(own_names_over_lists(&Evaluator { fault: Some(fault) }).is_err(), "{fault:?} is not noticed");
         }
     }
 
@@ -742,8 +864,10 @@ mod tests {
             Fault::SubtractedByFirstAtoms,
             Fault::RewriterWritesFormat1,
             Fault::RewriterWritesFormat2,
+            Fault::OwnFoundByNameAlone,
+            Fault::VettedVariableReadsDefinition,
         ];
-        for fault in meanings.into_iter().chain(MATCHING) {
+        for fault in meanings.into_iter().chain(MATCHING).chain(OWN_NAMES) {
             let (result, _) = run(&Evaluator { fault: Some(fault) }, 8_000);
             assert!(result.is_err(), "{fault:?} is not noticed");
         }
