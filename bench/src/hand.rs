@@ -3,7 +3,9 @@
 //! Behind a test of both stores they make each draw, as document 01 asks of the engine. The free ones are the quickest way to the same rows: the stores are
 //! trusted, and no draw is made that is not needed. Where both are the same program, it stands here once.
 
-use crate::tasks::{Asked, LinkWords, Record, ARCHIVE, COMPROMISED, LEFT, OBSERVATORIES, OBSERVATORY, RELEASED, RIGHT, SMALL, TRUSTED, WITHDRAWN};
+use crate::tasks::{
+    Asked, LinkWords, Record, ARCHIVE, COMPROMISED, EMBARGO, LEFT, OBSERVATORIES, OBSERVATORY, RELEASED, RIGHT, SMALL, TRUSTED, WITHDRAWN,
+};
 use differential::evaluator::Date;
 use std::cmp::Ordering;
 use std::hint::black_box;
@@ -208,12 +210,23 @@ pub fn public(asked: &Asked, answer: &mut [u32]) -> Option<u32> {
     Some(draws)
 }
 
-/// The policy's one definition is a literal.
-pub fn embargo(asked: &Asked, answer: &mut [u32]) -> Option<u32> {
+/// Those released that are not in the definition, a literal.
+fn released_without(asked: &Asked, definition: &[u32], answer: &mut [u32]) -> Option<u32> {
     let released = rows_of_name(asked, OBSERVATORY, RELEASED, 0)?;
-    let embargoed = literal(&asked.policy[6..]);
-    lay_out(compared(&released, embargoed.into_iter(), false).map(row_of_atom), answer);
+    lay_out(compared(&released, literal(definition).into_iter(), false).map(row_of_atom), answer);
     Some(released.count() as u32)
+}
+
+/// The policy has one definition.
+pub fn embargo(asked: &Asked, answer: &mut [u32]) -> Option<u32> {
+    released_without(asked, &asked.policy[6..], answer)
+}
+
+/// The policy's table says where the definition of an own name is; once is enough.
+pub fn embargo_by_name(asked: &Asked, answer: &mut [u32]) -> Option<u32> {
+    let entries = asked.policy[2..].as_chunks::<4>().0;
+    let [_, _, offset, _] = entries[..asked.policy[1] as usize].iter().find(|entry| entry[..2] == [EMBARGO, 1])?;
+    released_without(asked, &asked.policy[*offset as usize..], answer)
 }
 
 fn sorted<const WIDTH: usize>(mut rows: Vec<[u32; WIDTH]>, answer: &mut [u32]) {

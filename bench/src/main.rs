@@ -1,4 +1,4 @@
-//! The library beside a straightforward evaluator, hand-tuned programs and SQLite, on twenty tasks.
+//! The library beside a straightforward evaluator, hand-tuned programs and SQLite, on twenty-one tasks.
 //!
 //!     cargo run --release --offline [-- ROUNDS]
 //!     cargo run --release --offline -- --check
@@ -14,7 +14,7 @@ mod sqlite;
 mod tasks;
 
 use differential::engine::Engine;
-use differential::evaluator::{Date, Evaluator};
+use differential::evaluator::{Date, Evaluator, Question};
 use hand::Program;
 use measure::{measure, Measured};
 #[cfg(sqlite)]
@@ -125,7 +125,8 @@ impl Lendable {
 
     fn ask(&mut self, engine: &dyn Engine, asked: &Asked) -> Option<Outcome> {
         let lent = Lent { answer: &mut self.answer, definitions: &mut self.definitions, scratch: &mut self.scratch };
-        let reply = engine.query(&asked.policy, &asked.query, asked.minute, &asked.store, &asked.links, lent);
+        let question = Question { policy: &asked.policy, query: &asked.query, our_key: asked.our_key, minute: asked.minute };
+        let reply = engine.query(question, &asked.store, &asked.links, lent);
         (reply.number == 0).then(|| Outcome::of(&self.answer, reply.draws))
     }
 }
@@ -196,8 +197,10 @@ fn rewriting(policy: &[u32], mut rewrite: impl FnMut(&[u32], &mut [u32]) -> Opti
 fn rewriting_task(policy: &[u32]) -> Task {
     let mut contestants = Vec::new();
     for (name, engine) in engines() {
-        let rewrite =
-            move |policy: &[u32], area: &mut [u32]| Some(engine.rewrite(policy, area)).filter(|reply| reply.number == 0).map(|reply| reply.length);
+        let rewrite = move |policy: &[u32], area: &mut [u32]| {
+            let reply = engine.rewrite(policy, tasks::OUR_KEY, area);
+            (reply.number == 0).then_some(reply.length)
+        };
         contestants.push(contestant(name, rewriting(policy, rewrite)));
     }
     contestants.push(contestant(HAND, rewriting(policy, hand::rewrite)));
@@ -237,7 +240,7 @@ fn converting_task(dates: &[Date]) -> Task {
 /// Without links.
 fn of_store(certificates: &Certificates, policy: &[u32], query: Vec<u32>) -> Asked {
     let (store, links) = (tasks::store_of(certificates), tasks::link_store_of(&Links::new()));
-    Asked { policy: policy.to_vec(), query, minute: tasks::NOW, store, links }
+    Asked { policy: policy.to_vec(), query, our_key: tasks::OUR_KEY, minute: tasks::NOW, store, links }
 }
 
 /// A list that links join with 256 others, or 255.
@@ -347,6 +350,13 @@ fn tasks() -> Vec<Task> {
             hand::join_wider,
             hand::join_wider_free,
         ),
+        query_task(
+            "u: absent from an own name of 128 rows, the last of 16 definitions",
+            asked(&tasks::definitions_policy(), tasks::own_name_query()),
+            128,
+            hand::embargo_by_name,
+            hand::embargo_by_name,
+        ),
     ];
     let stores = [&certificates, &delegations, &observations, &vetted_delegations, &unions, &half_expired, &with_epochs];
     let linked = [(&joined, &chain), (&joined, &circle), (&joined, &star), (&joined_withdrawn, &withdrawn)];
@@ -363,7 +373,7 @@ fn sqlite_runs(
     linked: [(&Certificates, &Links); 4],
     filed: Vec<Record>,
     links_filed: Vec<LinkWords>,
-) -> [Option<Run>; 20] {
+) -> [Option<Run>; 21] {
     let kept = |database: Database| -> &'static Database { Box::leak(Box::new(database)) };
     let stores = stores.map(|certificates| kept(Database::holding(tasks::words_of(certificates))));
     let [held, delegations, observations, vetted_delegations, unions, half_expired, with_epochs] = stores;
@@ -371,6 +381,7 @@ fn sqlite_runs(
     let [chain, circle, star, withdrawn] = linked;
     let (empty, literals) = (kept(Database::linked([], [])), kept(Database::of_literals()));
     held.hold("embargoed", tasks::embargoed());
+    held.define(tasks::definitions());
     let answered =
         |mut statement: Statement<'static>, columns| -> Option<Run> { Some(Box::new(move || Some(statement.run(&[tasks::NOW], columns)))) };
     let drawn = |mut statement: Statement<'static>| -> Option<Run> { Some(Box::new(move || Some(statement.run(&[], 1)))) };
@@ -397,6 +408,7 @@ fn sqlite_runs(
         answered(withdrawn.public_joined(), 1),
         Some(Box::new(move || Some(empty.file_all(&mut insert_link, &mut link_transaction, &links_filed)))),
         answered(with_epochs.join_wider(), 2),
+        answered(held.embargo_by_name(), 1),
     ]
 }
 
@@ -559,6 +571,31 @@ mod tests {
         for (name, engine) in engines() {
             let found = Lendable::new().ask(engine.as_ref(), &asked).map(|outcome| (outcome.rows, outcome.draws));
             assert_eq!(found, Some((11, Some(100 + 34 * 100))), "{name}");
+        }
+    }
+
+    /// Every other one of the 128 rows released is held back.
+    #[test]
+    fn an_own_name_has_the_rows_of_its_definition() {
+        let sum = (0..64).map(|n| (n + 1) * 7 * (2 * n + 1)).sum();
+        let without: Vec<Task> = tasks().into_iter().filter(|task| task.name.contains("absent from")).collect();
+        assert_eq!(without.len(), 2);
+        for mut task in without {
+            for Contestant { name, run } in &mut task.contestants {
+                let found = run().map(|Outcome { rows, sum, .. }| (rows, sum));
+                assert_eq!(found, Some((64, sum)), "{}: {name}", task.name);
+            }
+        }
+    }
+
+    /// With another key as ours it is that key's − list, of which nothing is certified: no row is known to be absent.
+    #[test]
+    fn an_own_name_is_so_by_our_key_alone() {
+        let asked = of_store(&tasks::certificates(), &tasks::definitions_policy(), tasks::own_name_query());
+        let asked = Asked { our_key: tasks::ARCHIVE, ..asked };
+        for (name, engine) in engines() {
+            let found = Lendable::new().ask(engine.as_ref(), &asked).map(|outcome| (outcome.rows, outcome.draws));
+            assert_eq!(found, Some((0, Some(128))), "{name}");
         }
     }
 

@@ -1,6 +1,8 @@
 //! As much of SQLite's C interface as the tasks need, and the tasks as SQL: in memory, indexed by the primary key, prepared once.
 
-use crate::tasks::{LinkWords, Record, ARCHIVE, COMPROMISED, LEFT, OBSERVATORIES, OBSERVATORY, RELEASED, RIGHT, SIZES, SMALL, TRUSTED, WITHDRAWN};
+use crate::tasks::{
+    LinkWords, Record, ARCHIVE, COMPROMISED, EMBARGO, LEFT, OBSERVATORIES, OBSERVATORY, RELEASED, RIGHT, SIZES, SMALL, TRUSTED, WITHDRAWN,
+};
 use crate::Outcome;
 use std::ffi::{c_char, c_int, c_void, CStr, CString};
 use std::fmt::Display;
@@ -142,6 +144,17 @@ impl Database {
         }
     }
 
+    /// Definitions, each a literal with its name and polarity, as one table.
+    pub fn define(&self, definitions: impl IntoIterator<Item = (u32, u32, Vec<u32>)>) {
+        self.run("CREATE TABLE definition (name INTEGER, polarity INTEGER, n INTEGER, PRIMARY KEY (name, polarity, n)) WITHOUT ROWID");
+        let mut insert = self.prepare("INSERT INTO definition VALUES (?1, ?2, ?3)");
+        for (name, polarity, numbers) in definitions {
+            for n in numbers {
+                insert.run(&[name, polarity, n], 0);
+            }
+        }
+    }
+
     pub fn insert(&self) -> Statement<'_> {
         self.prepare("INSERT OR IGNORE INTO certificate VALUES (?1, ?2, ?3, ?4, ?5, ?6, ?7, ?8, ?9, ?10)")
     }
@@ -192,10 +205,17 @@ impl Database {
 
     /// The definition is a table, `embargoed`.
     pub fn embargo(&self) -> Statement<'_> {
+        self.released_without("embargoed WHERE embargoed.n = r.a")
+    }
+
+    /// The definition is found by its name and polarity.
+    pub fn embargo_by_name(&self) -> Statement<'_> {
+        self.released_without(&format!("definition d WHERE d.name = {EMBARGO} AND d.polarity = 1 AND d.n = r.a"))
+    }
+
+    fn released_without(&self, absent: &str) -> Statement<'_> {
         let released = of_width("r", OBSERVATORY, RELEASED, 0, 1);
-        self.prepare(&format!(
-            "SELECT DISTINCT r.a FROM certificate r WHERE {released} AND NOT EXISTS (SELECT 1 FROM embargoed WHERE embargoed.n = r.a) ORDER BY r.a"
-        ))
+        self.prepare(&format!("SELECT DISTINCT r.a FROM certificate r WHERE {released} AND NOT EXISTS (SELECT 1 FROM {absent}) ORDER BY r.a"))
     }
 
     /// The lists have rows of one atom alone.

@@ -20,6 +20,10 @@ pub const SMALL: u32 = 5;
 pub const TRUSTED: u32 = 6;
 /// The archive's list, −, of compromised keys; also the name that an external policy has for them.
 pub const COMPROMISED: u32 = 0;
+/// What a curator holds back.
+pub const EMBARGO: u32 = 11;
+/// Given as our key to every call. It is nobody else's, and only task u has an own name.
+pub const OUR_KEY: u32 = key(1_000);
 /// The observatories whose released lists are united.
 pub const OBSERVATORIES: [u32; 4] = [OBSERVATORY, key(2), key(3), key(4)];
 
@@ -45,6 +49,7 @@ pub type Links = BTreeSet<evaluator::Link>;
 pub struct Asked {
     pub policy: Vec<u32>,
     pub query: Vec<u32>,
+    pub our_key: u32,
     pub minute: u32,
     pub store: Vec<u32>,
     pub links: Vec<u32>,
@@ -110,12 +115,33 @@ pub fn embargoed() -> impl ExactSizeIterator<Item = u32> {
 /// The embargo is declared −, so that absence from it is +.
 pub fn embargo_policy() -> Vec<u32> {
     let definition = literal(embargoed());
-    [vec![EQUAL_WIDTHS, 1, 11, 1, 6, definition.len() as u32], definition].concat()
+    [vec![EQUAL_WIDTHS, 1, EMBARGO, 1, 6, definition.len() as u32], definition].concat()
 }
 
-/// Released, and absent from the embargo.
+/// Released, and absent from an expression.
+fn released_without(absent: &[u32]) -> Vec<u32> {
+    [&[7, 2, 1, 4, 0, OBSERVATORY, RELEASED, 0, 1, 2, 0, 4, 1, 1, 0], absent, &[1, 1, 0]].concat()
+}
+
+/// Absent from the embargo, by its number.
 pub fn embargo_query() -> Vec<u32> {
-    vec![7, 2, 1, 4, 0, OBSERVATORY, RELEASED, 0, 1, 2, 0, 4, 1, 1, 0, 3, 0, 1, 1, 0]
+    released_without(&[3, 0])
+}
+
+/// Name, polarity and numbers of 16 definitions: 15 small ones, + names from the embargo's number on, then the embargo.
+pub fn definitions() -> Vec<(u32, u32, Vec<u32>)> {
+    let small = (0..15).map(|n| (EMBARGO + n, 0, vec![n]));
+    small.chain([(EMBARGO, 1, embargoed().collect())]).collect()
+}
+
+pub fn definitions_policy() -> Vec<u32> {
+    let written: Vec<_> = definitions().into_iter().map(|(name, polarity, numbers)| (name, polarity, literal(numbers.into_iter()))).collect();
+    assemble(EQUAL_WIDTHS, &written)
+}
+
+/// Absent from the embargo, by its own name.
+pub fn own_name_query() -> Vec<u32> {
+    released_without(&[4, 0, OUR_KEY, EMBARGO, 1])
 }
 
 /// Released by an observatory that this key trusts.
@@ -129,7 +155,7 @@ fn delegation(key: u32) -> Vec<u32> {
 pub fn vetted_policy() -> Vec<u32> {
     let compromised = vec![4, 0, ARCHIVE, COMPROMISED, 1];
     let external = assemble(EQUAL_WIDTHS, &[(COMPROMISED, 1, compromised), (10, 0, delegation(ARCHIVE))]);
-    rewritten(&external).expect("it is external")
+    rewritten(&external, OUR_KEY).expect("it is external")
 }
 
 pub const VETTED_QUERY: &[u32] = &[3, 1];
@@ -338,6 +364,15 @@ mod tests {
         let count = |name, width| all.iter().filter(|record| record.name == [OBSERVATORY, name, 0] && record.row.width == width).count();
         assert_eq!(all.len(), 1_600);
         assert_eq!([LEFT, RIGHT].map(|name| widths.map(|width| count(name, width))), [[0, 34, 66, 0], [0, 33, 67, 0]]);
+    }
+
+    #[test]
+    fn the_embargo_is_the_last_of_16_definitions() {
+        let policy = definitions_policy();
+        // 66 words of table; 15 literals of five words, then one of 2 + 3 * 128
+        assert_eq!(policy[..6], [EQUAL_WIDTHS, 16, EMBARGO, 0, 66, 5]);
+        assert_eq!(policy[62..66], [EMBARGO, 1, 66 + 15 * 5, 386]);
+        assert_eq!(policy[66 + 15 * 5..], embargo_policy()[6..]);
     }
 
     #[test]
