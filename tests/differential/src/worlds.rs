@@ -867,9 +867,17 @@ mod tests {
             Fault::OwnFoundByNameAlone,
             Fault::VettedVariableReadsDefinition,
         ];
-        for fault in meanings.into_iter().chain(MATCHING).chain(OWN_NAMES) {
-            let (result, _) = run(&Evaluator { fault: Some(fault) }, 8_000);
-            assert!(result.is_err(), "{fault:?} is not noticed");
-        }
+        let faults: Vec<Fault> = meanings.into_iter().chain(MATCHING).chain(OWN_NAMES).collect();
+        // half of them at a time, side by side
+        std::thread::scope(|scope| {
+            for half in faults.chunks(faults.len().div_ceil(2)) {
+                scope.spawn(move || {
+                    for &fault in half {
+                        let (result, _) = run(&Evaluator { fault: Some(fault) }, 8_000);
+                        assert!(result.is_err(), "{fault:?} is not noticed");
+                    }
+                });
+            }
+        });
     }
 }
