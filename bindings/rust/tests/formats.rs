@@ -1,6 +1,9 @@
 //! Document 02's N6 through the safe types: policies of formats 1 and 2. What is expected was worked out by hand. They link the compiled library: `rt
 //! staticlib capi` first.
 
+mod filed;
+
+use filed::store_of;
 use txindurbe::{
     key, Certificate, Definition, Engine, Expression, Filing, Format, Guard, Link, Links, Minute, Part, Polarity, Policy, Query, Refusal,
     RefusalKind, Row, Rows, Slot, Store, Table, Term, Validity, Verdict,
@@ -47,14 +50,6 @@ fn is_released(row: impl Into<Row>) -> Certificate {
 
 fn is_not_withdrawn(row: impl Into<Row>) -> Certificate {
     Certificate::not_listed(OBSERVATORY, WITHDRAWN, row, TERM)
-}
-
-fn store_of(certificates: impl IntoIterator<Item = Certificate>) -> Store {
-    let mut store = Store::new();
-    for certificate in certificates {
-        assert_eq!(store.file(&certificate), Ok(Filing::Filed));
-    }
-    store
 }
 
 /// Six rows, of one to four atoms.

@@ -1,6 +1,9 @@
 //! Document 02's N5 through the safe types: lists that include lists. What is expected was worked out by hand. They link the compiled library: `rt staticlib
 //! capi` first.
 
+mod filed;
+
+use filed::{links_of, store_of};
 use txindurbe::calls::{self, Lent};
 use txindurbe::sizes::{ANSWER_WORDS, DEFINITIONS_WORDS, LINKS_WORDS, SCRATCH_WORDS};
 use txindurbe::{
@@ -20,22 +23,6 @@ const TERM: Validity = Validity { first: NOW, end: Minute::new(1) };
 
 fn refused<T>(kind: RefusalKind) -> Result<T, Refusal> {
     Err(Refusal { kind, part: None })
-}
-
-fn store_of(certificates: impl IntoIterator<Item = Certificate>) -> Store {
-    let mut store = Store::new();
-    for certificate in certificates {
-        assert_eq!(store.file(&certificate), Ok(Filing::Filed));
-    }
-    store
-}
-
-fn links_of(links: impl IntoIterator<Item = Link>) -> Links {
-    let mut store = Links::new();
-    for link in links {
-        assert_eq!(store.file(&link), Ok(Filing::Filed));
-    }
-    store
 }
 
 /// What is asked for at the minute, under a policy without definitions.

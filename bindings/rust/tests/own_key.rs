@@ -1,6 +1,9 @@
 //! Document 02's N7 through the safe types: names under our own key. What is expected was worked out by hand. They link the compiled library: `rt staticlib
 //! capi` first.
 
+mod filed;
+
+use filed::{links_of, store_of};
 use txindurbe::calls::{self, Judgement, Lent, Reply, Rewriting};
 use txindurbe::sizes::{ANSWER_WORDS, DEFINITIONS_WORDS, SCRATCH_WORDS};
 use txindurbe::{
@@ -79,22 +82,6 @@ fn is_released(key: u32, atom: u32) -> Certificate {
 
 fn is_not_compromised(key: u32) -> Certificate {
     Certificate::not_listed(ALICE, COMPROMISED, [key], TERM)
-}
-
-fn store_of(certificates: impl IntoIterator<Item = Certificate>) -> Store {
-    let mut store = Store::new();
-    for certificate in certificates {
-        assert_eq!(store.file(&certificate), Ok(Filing::Filed));
-    }
-    store
-}
-
-fn links_of(links: impl IntoIterator<Item = Link>) -> Links {
-    let mut store = Links::new();
-    for link in links {
-        assert_eq!(store.file(&link), Ok(Filing::Filed));
-    }
-    store
 }
 
 /// The table and the draws.

@@ -1,6 +1,9 @@
 //! Document 02's N4 through the safe types: terms of validity, queries at a minute, dates. What is expected was worked out by hand. They link the compiled
 //! library: `rt staticlib capi` first.
 
+mod filed;
+
+use filed::store_of;
 use txindurbe::calls::{self, Dated, Minutes};
 use txindurbe::{
     key, Certificate, Date, Engine, Expression, Filing, Links, Minute, Polarity, Policy, Query, Refusal, RefusalKind, Row, Rows, Store, Table,
@@ -33,14 +36,6 @@ fn at_least(store: &Store, minute: u32) -> Result<Vec<Row>, RefusalKind> {
         Table::Lower(Rows::Only(rows)) => Ok(rows),
         table => panic!("{table:?}"),
     }
-}
-
-fn store_of(certificates: impl IntoIterator<Item = Certificate>) -> Store {
-    let mut store = Store::new();
-    for certificate in certificates {
-        assert_eq!(store.file(&certificate), Ok(Filing::Filed));
-    }
-    store
 }
 
 #[test]
