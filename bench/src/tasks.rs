@@ -5,7 +5,12 @@ use differential::generate::{assemble, rewritten, united};
 use differential::random::Random;
 use std::collections::BTreeSet;
 use txindurbe::sizes::{CERTIFICATE_WORDS, LINKS_WORDS, LINK_WORDS, MOST_CERTIFICATES, MOST_LINKS, STORE_WORDS};
-use txindurbe::{key, Format};
+use txindurbe::{Format, Key};
+
+/// The word of the key kN.
+const fn key(n: u32) -> u32 {
+    Key::new(n).word()
+}
 
 pub const ARCHIVE: u32 = key(0);
 pub const OBSERVATORY: u32 = key(1);

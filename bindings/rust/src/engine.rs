@@ -1,64 +1,109 @@
 use crate::calls::{self, Lent};
 use crate::sizes::{ANSWER_WORDS, DEFINITIONS_WORDS, SCRATCH_WORDS};
-use crate::{Links, Minute, Part, Policy, Query, Refusal, Rows, Store};
+use crate::{Links, Membership, Minute, Policy, Query, Refusal, Row, Store, Table, Verdict};
 
-/// How a table is to be read: see [`Table`]. Policy and query alone decide it.
-#[derive(Clone, Copy, PartialEq, Eq, Hash, Debug)]
-pub enum Verdict {
-    Exact,
-    Lower,
-    Upper,
-}
-
-impl Verdict {
-    /// Of the numbers that the library handed out. The first one decides, so that a refusal never reads as a verdict.
-    pub(crate) fn from_numbers(number: u32, part: u32, verdict: u32) -> Result<Verdict, Refusal> {
-        match (number, verdict) {
-            (0, 0) => Ok(Verdict::Exact),
-            (0, 1) => Ok(Verdict::Lower),
-            (0, 2) => Ok(Verdict::Upper),
-            (0, _) => panic!("the library linked has a verdict {verdict}"),
-            _ => Err(Refusal::from_number(number, Part::from_number(part))),
-        }
-    }
-}
-
-/// An answer's set of rows with its verdict.
+/// What a query comes to: a [`Table`], and the draws that it took. Whether a row belongs, it says itself; the rows are in the table, and to take them out is to
+/// say what they promise.
 ///
-/// The archive rarely holds every certificate there is: a + list has the rows certified and perhaps others, a − list lacks the rows certified and perhaps
-/// others. Rows are certified of a list also where [`Link`](crate::Link)s bring them from others. Whether a row belongs to a query can hang on the rows that are
-/// not certified, and the verdict says what the table promises about them. The promises are proved, and are kept as long as the links, and the certificates that
-/// hold at the minute asked for, are true. They compare answers, and at one minute: with more certificates and links a query may also come to be refused, as with
-/// too many rows, and at another minute other certificates hold, so that a table may gain rows and lose others. Two policies are
-/// the same if both their words and our key are.
-#[derive(Clone, PartialEq, Eq, Debug)]
-pub enum Table {
-    /// Exactly the rows that belong to the query whatever the lists have beside what is certified. Other rows may belong too. When more certificates and
-    /// links are filed, the same query under the same policy and at the same minute gains rows or keeps them.
-    Lower(Rows),
-    /// The rows that are missing here are exactly those that do not belong to the query whatever the lists have beside what is certified. Those here need
-    /// not all belong. When more certificates and links are filed, the same query under the same policy and at the same minute loses rows or keeps them.
-    Upper(Rows),
-    /// The rows that belong to the query, and no others, whatever the lists have. The same query under the same policy always gives the same ones.
-    Exact(Rows),
-}
-
-impl Table {
-    pub fn rows(&self) -> &Rows {
-        match self {
-            Table::Lower(rows) | Table::Upper(rows) | Table::Exact(rows) => rows,
-        }
-    }
-}
-
+/// ```
+/// use txindurbe::{Engine, Expression, Key, Links, Membership, Minute, Policy, Polarity, Row, Rows, Store, Table};
+///
+/// let policy = Policy::new(Key::new(9), &[])?;
+/// let released = policy.query(&Expression::list(Key::new(1), 1, Polarity::Plus))?;
+/// let answer = Engine::new().query(&policy, &released, Minute::new(0), &Store::new(), &Links::new())?;
+///
+/// // Nothing is held, so that nothing is known to be released, and nothing known not to be.
+/// assert_eq!(answer.contains(&Row::from([7])), Membership::Unknown);
+/// assert_eq!(answer.table(), &Table::Lower(Rows::Only(vec![])));
+/// # Ok::<(), Box<dyn std::error::Error>>(())
+/// ```
 #[derive(Clone, PartialEq, Eq, Debug)]
 pub struct Answer {
-    pub table: Table,
+    table: Table,
+    draws: u32,
+}
+
+impl Answer {
+    /// The rows, with what they promise.
+    ///
+    /// ```
+    /// # use txindurbe::{Engine, Expression, Key, Links, Membership, Minute, Policy, Polarity, Row, Rows, Store, Table, Verdict};
+    /// # let policy = Policy::new(Key::new(9), &[])?;
+    /// # let query = policy.query(&Expression::rows([vec![7.into()]]))?;
+    /// # let answer = Engine::new().query(&policy, &query, Minute::new(0), &Store::new(), &Links::new())?;
+    /// // Of the query {(7)}, which reads no list:
+    /// match answer.table() {
+    ///     Table::Exact(rows) => assert_eq!(rows, &Rows::Only(vec![Row::from([7])])),
+    ///     Table::Lower(_) | Table::Upper(_) => unreachable!("it has both polarities"),
+    /// }
+    /// # Ok::<(), Box<dyn std::error::Error>>(())
+    /// ```
+    pub fn table(&self) -> &Table {
+        &self.table
+    }
+
+    /// What its rows promise.
+    ///
+    /// ```
+    /// # use txindurbe::{Engine, Expression, Key, Links, Membership, Minute, Policy, Polarity, Row, Rows, Store, Table, Verdict};
+    /// # let policy = Policy::new(Key::new(9), &[])?;
+    /// # let query = policy.query(&Expression::rows([vec![7.into()]]))?;
+    /// # let answer = Engine::new().query(&policy, &query, Minute::new(0), &Store::new(), &Links::new())?;
+    /// // Of the query {(7)}, which reads no list:
+    /// assert_eq!(answer.verdict(), Verdict::Exact);
+    /// # Ok::<(), Box<dyn std::error::Error>>(())
+    /// ```
+    pub fn verdict(&self) -> Verdict {
+        self.table.verdict()
+    }
+
     /// Rows drawn to find it, at most 1,000,000.
-    pub draws: u32,
+    ///
+    /// ```
+    /// # use txindurbe::{Engine, Expression, Key, Links, Membership, Minute, Policy, Polarity, Row, Rows, Store, Table, Verdict};
+    /// # let policy = Policy::new(Key::new(9), &[])?;
+    /// # let query = policy.query(&Expression::rows([vec![7.into()]]))?;
+    /// # let answer = Engine::new().query(&policy, &query, Minute::new(0), &Store::new(), &Links::new())?;
+    /// // Of the query {(7)}, which has no draw:
+    /// assert_eq!(answer.draws(), 0);
+    /// # Ok::<(), Box<dyn std::error::Error>>(())
+    /// ```
+    pub fn draws(&self) -> u32 {
+        self.draws
+    }
+
+    /// Whether this row belongs to the query.
+    ///
+    /// ```
+    /// # use txindurbe::{Engine, Expression, Key, Links, Membership, Minute, Policy, Polarity, Row, Rows, Store, Table, Verdict};
+    /// # let policy = Policy::new(Key::new(9), &[])?;
+    /// # let query = policy.query(&Expression::rows([vec![7.into()]]))?;
+    /// # let answer = Engine::new().query(&policy, &query, Minute::new(0), &Store::new(), &Links::new())?;
+    /// // Of the query {(7)}, which reads no list:
+    /// assert_eq!(answer.contains(&Row::from([7])), Membership::Yes);
+    /// assert_eq!(answer.contains(&Row::from([8])), Membership::No);
+    /// # Ok::<(), Box<dyn std::error::Error>>(())
+    /// ```
+    pub fn contains(&self, row: &Row) -> Membership {
+        self.table.contains(row)
+    }
 }
 
 /// The areas that a query needs, used again by each. One for each thread that asks.
+///
+/// ```
+/// use txindurbe::{Engine, Expression, Key, Links, Minute, Policy, Store};
+///
+/// let policy = Policy::new(Key::new(9), &[])?;
+/// let (store, links) = (Store::new(), Links::new());
+/// let mut engine = Engine::new();
+/// for number in [7, 8] {
+///     let query = policy.query(&Expression::rows([vec![number.into()]]))?;
+///     let answer = engine.query(&policy, &query, Minute::new(0), &store, &links)?;
+///     assert_eq!(answer.table().to_string(), format!("exactly ({number})"));
+/// }
+/// # Ok::<(), Box<dyn std::error::Error>>(())
+/// ```
 pub struct Engine {
     answer: Vec<u32>,
     definitions: Vec<u32>,
@@ -66,44 +111,44 @@ pub struct Engine {
 }
 
 impl Engine {
+    /// With areas of its own.
+    ///
+    /// ```
+    /// let engine = txindurbe::Engine::new();
+    /// ```
     pub fn new() -> Engine {
         Engine { answer: vec![0; ANSWER_WORDS], definitions: vec![0; DEFINITIONS_WORDS], scratch: vec![0; SCRATCH_WORDS] }
     }
 
     /// From the certificates that hold at the minute, and from the links; own names from the definitions, by the policy's [`our_key`](Policy::our_key). A row
     /// counts once, however many of its certificates hold then.
+    ///
+    /// ```
+    /// use txindurbe::{Certificate, Engine, Expression, Key, Links, Minute, Policy, Polarity, Store, Validity};
+    ///
+    /// let (observatory, released) = (Key::new(1), 1);
+    /// let mut store = Store::new();
+    /// store.file(&Certificate::listed(observatory, released, [7], Validity { first: Minute::new(10), end: Minute::new(20) }))?;
+    ///
+    /// let policy = Policy::new(Key::new(9), &[])?;
+    /// let query = policy.query(&Expression::list(observatory, released, Polarity::Plus))?;
+    /// let mut engine = Engine::new();
+    /// let mut at = |minute| engine.query(&policy, &query, Minute::new(minute), &store, &Links::new());
+    /// assert_eq!(at(10)?.table().to_string(), "at least (7)");
+    /// assert_eq!(at(20)?.table().to_string(), "at least no rows");
+    /// # Ok::<(), Box<dyn std::error::Error>>(())
+    /// ```
     pub fn query(&mut self, policy: &Policy, query: &Query, minute: Minute, store: &Store, links: &Links) -> Result<Answer, Refusal> {
         let Engine { answer, definitions, scratch } = self;
         let lent = Lent { answer, definitions, scratch };
-        let reply = calls::query(policy.words(), query.words(), policy.our_key(), minute.number(), store.words(), links.words(), lent);
+        let reply = calls::query(policy.words(), query.words(), policy.our_key().word(), minute.number(), store.words(), links.words(), lent);
         let verdict = Verdict::from_numbers(reply.number, reply.part, reply.verdict)?;
-        let rows = Rows::from_words(answer);
-        let table = match verdict {
-            Verdict::Exact => Table::Exact(rows),
-            Verdict::Lower => Table::Lower(rows),
-            Verdict::Upper => Table::Upper(rows),
-        };
-        Ok(Answer { table, draws: reply.draws })
+        Ok(Answer { table: Table::from_words(verdict, answer), draws: reply.draws })
     }
 }
 
 impl Default for Engine {
     fn default() -> Engine {
         Engine::new()
-    }
-}
-
-#[cfg(test)]
-mod tests {
-    use super::*;
-    use crate::RefusalKind;
-
-    #[test]
-    fn a_refusal_never_reads_as_a_verdict() {
-        assert_eq!(Verdict::from_numbers(0, 17, 1), Ok(Verdict::Lower));
-        for verdict in 0..=3 {
-            let refusal = Refusal { kind: RefusalKind::OpenDraw, part: Some(Part::Query) };
-            assert_eq!(Verdict::from_numbers(7, 16, verdict), Err(refusal));
-        }
     }
 }

@@ -1,28 +1,18 @@
 //! Txindurbe for Rust: file certificates and links, ask queries at a minute, get tables marked lower, upper or exact.
 //!
-//! The engine behind it is proved to do what its documents say, on every input. This crate gives it types and owns its areas. A policy that is to rely on no
-//! compromised key is written by the external rules and rewritten ([`Policy::rewrite`]). Before you show a table, read
-//! - [`Table`]: what lower, upper and exact promise about lists that the archive holds in part;
-//! - [`Polarity`]: the + list and the − list of one number are two lists;
-//! - [`Rows`]: no set lists over 128 rows, and what would is refused;
-//! - [`Validity`]: a certificate is read only while its term lasts;
-//! - [`Link`]: what is certified of one list may count for others;
-//! - [`Format`]: whether a policy matches rows that are wider than its patterns;
-//! - [`Policy`]: names under our own key stand for the policy's definitions.
-//!
 //! ```
 //! use txindurbe::{
-//!     key, Certificate, Date, Definition, Engine, Expression, Guard, Link, Links, Minute, Policy, Polarity, Query, Row, Slot, Store, Table, Term,
+//!     variable, Certificate, Date, Definition, Engine, Expression, Guard, Key, Link, Links, Membership, Minute, Policy, Polarity, Row, Store, Table,
 //!     Validity,
 //! };
 //!
-//! const OUR_KEY: u32 = key(9);
+//! const OUR_KEY: Key = Key::new(9);
 //! const RELEASED: u16 = 1;
 //! const WITHDRAWN: u16 = 2;
 //! const PUBLIC: u16 = 10;
 //!
-//! fn main() -> Result<(), txindurbe::Refusal> {
-//!     let (observatory, partner) = (key(1), key(2));
+//! fn main() -> Result<(), Box<dyn std::error::Error>> {
+//!     let (observatory, partner) = (Key::new(1), Key::new(2));
 //!     let observation = Row::from([7]);
 //!
 //!     // Certificates arrive, for the first semester of 2027; their signatures have been checked elsewhere.
@@ -35,31 +25,48 @@
 //!     let mut links = Links::new();
 //!     links.file(&Link::containing(observatory, RELEASED, partner, RELEASED))?;
 //!
-//!     // A curator's policy: released and not withdrawn.
-//!     let x = Term::Variable(0);
+//!     // A curator's policy: each x that is released and not withdrawn.
 //!     let public = Expression::each(
-//!         &[
-//!             Guard::Draw(Expression::list(observatory, RELEASED, Polarity::Plus), vec![Slot::New(0)]),
-//!             Guard::Absent(vec![x], Expression::list(observatory, WITHDRAWN, Polarity::Minus)),
+//!         [
+//!             Guard::Draw(vec![variable("x")], Expression::list(observatory, RELEASED, Polarity::Plus)),
+//!             Guard::Absent(vec![variable("x")], Expression::list(observatory, WITHDRAWN, Polarity::Minus)),
 //!         ],
-//!         &[x],
+//!         [variable("x")],
 //!     );
-//!     let policy = Policy::new(OUR_KEY, &[Definition { name: PUBLIC, polarity: Polarity::Plus, expression: public }]);
+//!     let policy = Policy::new(OUR_KEY, &[Definition::new("public", PUBLIC, Polarity::Plus, public)])?;
 //!
-//!     // An astronomer's search for what is public, an own name, in March.
+//!     // An astronomer's search for what is public, in March.
 //!     let now = Minute::from_date(Date::day(2027, 3, 20))?;
-//!     let mut engine = Engine::new();
-//!     let answer = engine.query(&policy, &Query::new(&Expression::list(OUR_KEY, PUBLIC, Polarity::Plus)), now, &store, &links)?;
-//!     assert!(answer.table.rows().contains(observation));
-//!     match answer.table {
-//!         Table::Lower(rows) => println!("these rows, whatever is in the lists that we do not hold: {rows:?}"),
-//!         Table::Upper(rows) => println!("no rows but these: {rows:?}"),
-//!         Table::Exact(rows) => println!("just these rows: {rows:?}"),
+//!     let query = policy.query(&Expression::defined("public"))?;
+//!     let answer = Engine::new().query(&policy, &query, now, &store, &links)?;
+//!
+//!     // Whether an observation is public, the answer says. That 8 is not listed does not mean that it is not public.
+//!     assert_eq!(answer.contains(&observation), Membership::Yes);
+//!     assert_eq!(answer.contains(&Row::from([8])), Membership::Unknown);
+//!     match answer.table() {
+//!         Table::Lower(rows) => println!("these rows, whatever is in the lists that we do not hold: {rows}"),
+//!         Table::Upper(rows) => println!("no rows but these: {rows}"),
+//!         Table::Exact(rows) => println!("just these rows: {rows}"),
 //!     }
+//!     assert_eq!(answer.table().to_string(), "at least (7)");
 //!     Ok(())
 //! }
 //! ```
+//!
+//! The engine behind it is proved to do what its documents say, on every input. This crate gives it types and owns its areas. A policy that is to rely on no
+//! compromised key is written by the external rules and rewritten ([`Policy::rewrite`]). Before you show a table, read
+//! - [`Table`]: what lower, upper and exact promise about lists that the archive holds in part;
+//! - [`Polarity`]: the + list and the − list of one number are two lists;
+//! - [`Rows`]: no set lists over 128 rows, and what would is refused;
+//! - [`Validity`]: a certificate is read only while its term lasts;
+//! - [`Link`]: what is certified of one list may count for others;
+//! - [`Format`]: whether a policy matches rows that are wider than its patterns;
+//! - [`Policy`]: names under our own key stand for the policy's definitions.
+//!
+//! What the engine refuses comes back as a [`Refusal`], with the rule in words. Programs are linked with the engine's archive, `libcapi.a`: `bash run` at the
+//! top of the project makes it, and `TXINDURBE_LIB` names its folder if it is elsewhere.
 
+#![deny(missing_docs)]
 #![deny(unsafe_code)]
 
 #[allow(unsafe_code)]
@@ -67,20 +74,29 @@ pub mod calls;
 mod engine;
 mod expression;
 mod filing;
+mod key;
 mod links;
 mod minute;
+mod name;
 mod policy;
 mod refusal;
 mod row;
+mod saved;
 pub mod sizes;
 mod store;
+mod table;
+mod words;
 
-pub use engine::{Answer, Engine, Table, Verdict};
-pub use expression::{Expression, Guard, Polarity, Slot, Term};
+pub use engine::{Answer, Engine};
+pub use expression::{variable, Expression, Guard, Term, Unresolved};
 pub use filing::Filing;
+pub use key::{Atom, Key};
 pub use links::{Link, Links};
 pub use minute::{Date, Minute, Validity};
+pub use name::{Name, Polarity};
 pub use policy::{Definition, Format, Policy, Query};
-pub use refusal::{Part, Refusal, RefusalKind};
-pub use row::{key, Row, Rows};
+pub use refusal::{Part, Refusal};
+pub use row::{Row, WrongWidth};
+pub use saved::LoadError;
 pub use store::{Certificate, Store};
+pub use table::{Membership, Rows, Table, Verdict};

@@ -1,12 +1,40 @@
 use crate::sizes::POLICY_WORDS;
-use crate::{calls, Expression, Part, Polarity, Refusal, Verdict};
+use crate::words::words;
+use crate::{calls, Expression, Key, Part, Polarity, Refusal, Unresolved, Verdict};
 
-/// A name, the polarity that it is declared with, and what it stands for.
+/// A name, the polarity that it is declared with, what it stands for, and the label that expressions have for it.
+///
+/// ```
+/// use txindurbe::{Definition, Expression, Key, Policy, Polarity};
+///
+/// let released = Definition::new("released", 1, Polarity::Plus, Expression::list(Key::new(1), 1, Polarity::Plus));
+/// let public = Definition::new("public", 10, Polarity::Plus, Expression::defined("released"));
+/// assert!(Policy::new(Key::new(9), &[released, public]).is_ok());
+/// ```
 #[derive(Clone, PartialEq, Eq, Debug)]
 pub struct Definition {
+    /// What [`Expression::defined`] finds it by. The engine does not get to see it.
+    pub label: String,
+    /// Its number, which an own name has under our key.
     pub name: u16,
+    /// The polarity that it is declared with. The engine refuses it if it does not have that one.
     pub polarity: Polarity,
+    /// What it stands for.
     pub expression: Expression,
+}
+
+impl Definition {
+    /// With a label, a name, a polarity and what it stands for.
+    ///
+    /// ```
+    /// use txindurbe::{Definition, Expression, Polarity};
+    ///
+    /// let public = Definition::new("public", 10, Polarity::Plus, Expression::rows([vec![7.into()]]));
+    /// assert_eq!((public.label.as_str(), public.name), ("public", 10));
+    /// ```
+    pub fn new(label: impl Into<String>, name: u16, polarity: Polarity, expression: Expression) -> Definition {
+        Definition { label: label.into(), name, polarity, expression }
+    }
 }
 
 /// Which rows the pattern of a [`Draw`](crate::Guard::Draw) matches: in a policy's definitions, and in every query that is asked under it.
@@ -16,21 +44,22 @@ pub struct Definition {
 /// [`vetted_list`](Expression::vetted_list) is vetted, are whole rows in both.
 ///
 /// ```
-/// use txindurbe::{key, Engine, Expression, Format, Guard, Links, Minute, Policy, Query, Row, Rows, Slot, Store, Table, Term};
+/// use txindurbe::{variable, Engine, Expression, Format, Guard, Key, Links, Minute, Policy, Store};
 ///
-/// fn main() -> Result<(), txindurbe::Refusal> {
-///     // Each x of these observations, one of which has an epoch.
-///     let observations = Expression::rows(&[&[Term::Atom(7)], &[Term::Atom(8), Term::Atom(2027)]]);
-///     let query = Query::new(&Expression::each(&[Guard::Draw(observations, vec![Slot::New(0)])], &[Term::Variable(0)]));
+/// // Each x of these observations, one of which has an epoch.
+/// let observations = Expression::rows([vec![7.into()], vec![8.into(), 2027.into()]]);
+/// let each_x = Expression::each([Guard::Draw(vec![variable("x")], observations)], [variable("x")]);
 ///
-///     let ask = |policy| Engine::new().query(&policy, &query, Minute::new(0), &Store::new(), &Links::new());
-///     let equal = ask(Policy::in_format(key(9), Format::EqualWidths, &[]))?;
-///     let wider = ask(Policy::in_format(key(9), Format::WiderRows, &[]))?;
-///     assert_eq!(equal.table, Table::Exact(Rows::Only(vec![Row::from([7])])));
-///     assert_eq!(wider.table, Table::Exact(Rows::Only(vec![Row::from([7]), Row::from([8])])));
-///     assert_eq!((equal.draws, wider.draws), (2, 2));
-///     Ok(())
-/// }
+/// let [equal, wider] = [Format::EqualWidths, Format::WiderRows].map(|format| {
+///     let policy = Policy::in_format(Key::new(9), format, &[]).expect("it has no names");
+///     let query = policy.query(&each_x).expect("x is drawn");
+///     Engine::new().query(&policy, &query, Minute::new(0), &Store::new(), &Links::new())
+/// });
+/// let (equal, wider) = (equal?, wider?);
+/// assert_eq!(equal.table().to_string(), "exactly (7)");
+/// assert_eq!(wider.table().to_string(), "exactly (7), (8)");
+/// assert_eq!((equal.draws(), wider.draws()), (2, 2));
+/// # Ok::<(), txindurbe::Refusal>(())
 /// ```
 #[derive(Clone, Copy, PartialEq, Eq, Hash, Debug)]
 pub enum Format {
@@ -55,89 +84,167 @@ impl Format {
 ///
 /// Our key is the archive's own. Curators write it before their own names: a [`list`](Expression::list) under our key, an own name, stands for the definition
 /// of that name and polarity. The definition must be available there, which those before it are, and in a query any; else the refusal is
-/// [`NotInScope`](crate::RefusalKind::NotInScope). An own name has the definition's rows, whatever is certified or linked under our key, and may be drawn from
+/// [`NotInScope`](crate::Refusal::NotInScope). An own name has the definition's rows, whatever is certified or linked under our key, and may be drawn from
 /// where the definition may: also under −, if that is not open. The key that a [`list_of`](Expression::list_of) finds in a variable is never read as ours.
 ///
-/// Judging, rewriting and asking take our key from the policy, so that no two are mixed. A number is refused as [`NotAKey`](crate::RefusalKind::NotAKey),
-/// before all else.
+/// Judging, rewriting and asking take our key from the policy, so that no two are mixed.
 ///
 /// ```
-/// use txindurbe::{key, Definition, Engine, Expression, Links, Minute, Polarity, Policy, Query, Row, Rows, Store, Table, Term};
+/// use txindurbe::{Definition, Engine, Expression, Key, Links, Minute, Part, Polarity, Policy, Refusal, Store};
 ///
-/// const OUR_KEY: u32 = key(9);
+/// const OUR_KEY: Key = Key::new(9);
 /// const PUBLIC: u16 = 10;
 ///
-/// fn main() -> Result<(), txindurbe::Refusal> {
-///     let observation = Expression::rows(&[&[Term::Atom(7)]]);
-///     let policy = Policy::new(OUR_KEY, &[Definition { name: PUBLIC, polarity: Polarity::Plus, expression: observation }]);
-///     let public = |key, polarity| Query::new(&Expression::list(key, PUBLIC, polarity));
+/// fn main() -> Result<(), Box<dyn std::error::Error>> {
+///     let observation = Expression::rows([vec![7.into()]]);
+///     let policy = Policy::new(OUR_KEY, &[Definition::new("public", PUBLIC, Polarity::Plus, observation)])?;
+///     let public = |key, polarity| policy.query(&Expression::list(key, PUBLIC, polarity));
 ///
 ///     // Ours is the definition; another key's is what that key certified, here nothing.
 ///     let ask = |query| Engine::new().query(&policy, &query, Minute::new(0), &Store::new(), &Links::new());
-///     assert_eq!(ask(public(OUR_KEY, Polarity::Plus))?.table, Table::Lower(Rows::Only(vec![Row::from([7])])));
-///     assert_eq!(ask(public(key(1), Polarity::Plus))?.table, Table::Lower(Rows::Only(vec![])));
+///     assert_eq!(ask(public(OUR_KEY, Polarity::Plus)?)?.table().to_string(), "at least (7)");
+///     assert_eq!(ask(public(Key::new(1), Polarity::Plus)?)?.table().to_string(), "at least no rows");
 ///
 ///     // With − the name is another one, which is not defined.
-///     assert_eq!(policy.judge(&public(OUR_KEY, Polarity::Minus)).unwrap_err().number(), 4);
+///     assert_eq!(policy.judge(&public(OUR_KEY, Polarity::Minus)?), Err(Refusal::NotInScope(Part::Query)));
 ///     Ok(())
 /// }
 /// ```
-#[derive(Clone, PartialEq, Eq, Debug)]
+#[derive(Clone, Debug)]
 pub struct Policy {
-    our_key: u32,
+    our_key: Key,
     words: Vec<u32>,
+    /// Of the definitions, where they are known.
+    labels: Vec<String>,
 }
+
+/// Labels make no difference: two policies are the same if both their words and our key are.
+impl PartialEq for Policy {
+    fn eq(&self, other: &Policy) -> bool {
+        (self.our_key, &self.words) == (other.our_key, &other.words)
+    }
+}
+
+impl Eq for Policy {}
 
 impl Policy {
     /// In format 1, [`Format::EqualWidths`].
-    pub fn new(our_key: u32, definitions: &[Definition]) -> Policy {
+    ///
+    /// ```
+    /// use txindurbe::{Definition, Expression, Key, Policy, Polarity};
+    ///
+    /// let public = Definition::new("public", 10, Polarity::Plus, Expression::rows([vec![7.into()]]));
+    /// let policy = Policy::new(Key::new(9), &[public])?;
+    /// assert_eq!(policy.words(), [1, 1, 10, 0, 6, 5, 1, 1, 1, 0, 7]);
+    /// # Ok::<(), txindurbe::Unresolved>(())
+    /// ```
+    pub fn new(our_key: Key, definitions: &[Definition]) -> Result<Policy, Unresolved> {
         Policy::in_format(our_key, Format::EqualWidths, definitions)
     }
 
     /// In either format. The same definitions may have other rows in the other one: where rows are wider than the patterns that draw them.
-    pub fn in_format(our_key: u32, format: Format, definitions: &[Definition]) -> Policy {
-        let mut words = vec![format as u32, definitions.len() as u32];
-        let mut offset = 2 + 4 * definitions.len() as u32;
-        for Definition { name, polarity, expression } in definitions {
-            let length = expression.words().len() as u32;
-            words.extend([u32::from(*name), *polarity as u32, offset, length]);
-            offset += length;
+    ///
+    /// ```
+    /// use txindurbe::{Format, Key, Policy};
+    ///
+    /// assert_eq!(Policy::in_format(Key::new(9), Format::WiderRows, &[])?.words(), [2, 0]);
+    /// # Ok::<(), txindurbe::Unresolved>(())
+    /// ```
+    pub fn in_format(our_key: Key, format: Format, definitions: &[Definition]) -> Result<Policy, Unresolved> {
+        let labels: Vec<String> = definitions.iter().map(|definition| definition.label.clone()).collect();
+        let mut table = vec![format as u32, definitions.len() as u32];
+        let mut parts = Vec::new();
+        for Definition { name, polarity, expression, .. } in definitions {
+            let part = words(expression, &labels)?;
+            let offset = 2 + 4 * definitions.len() + parts.len();
+            table.extend([u32::from(*name), *polarity as u32, offset as u32, part.len() as u32]);
+            parts.extend(part);
         }
-        words.extend(definitions.iter().flat_map(|definition| definition.expression.words()));
-        Policy { our_key, words }
+        Ok(Policy { our_key, words: [table, parts].concat(), labels })
     }
 
-    /// Any words at all; the engine refuses what is malformed.
-    pub fn from_words(our_key: u32, words: Vec<u32>) -> Policy {
-        Policy { our_key, words }
+    /// Any words at all; the engine refuses what is malformed. Definitions have no labels in words: a query asks for them by own names, or is in words too.
+    ///
+    /// ```
+    /// use txindurbe::{Key, Policy, Query, Refusal, Verdict};
+    ///
+    /// let policy = Policy::from_words(Key::new(9), vec![1, 1, 10, 0, 6, 5, 1, 1, 1, 0, 7]);
+    /// assert_eq!(policy.judge(&Query::from_words(vec![3, 0])), Ok(Verdict::Lower));
+    /// assert_eq!(Policy::from_words(Key::new(9), vec![]).rewrite(), Err(Refusal::BadHeader));
+    /// ```
+    pub fn from_words(our_key: Key, words: Vec<u32>) -> Policy {
+        Policy { our_key, words, labels: Vec::new() }
     }
 
-    pub fn our_key(&self) -> u32 {
+    /// The words of an expression, which may use every definition by its label.
+    ///
+    /// ```
+    /// use txindurbe::{Definition, Expression, Key, Policy, Polarity, Verdict};
+    ///
+    /// let public = Definition::new("public", 10, Polarity::Plus, Expression::rows([vec![7.into()]]));
+    /// let policy = Policy::new(Key::new(9), &[public])?;
+    /// let query = policy.query(&Expression::defined("public"))?;
+    /// assert_eq!(policy.judge(&query), Ok(Verdict::Lower));
+    /// # Ok::<(), txindurbe::Unresolved>(())
+    /// ```
+    pub fn query(&self, expression: &Expression) -> Result<Query, Unresolved> {
+        Ok(Query { words: words(expression, &self.labels)? })
+    }
+
+    /// The archive's own.
+    ///
+    /// ```
+    /// use txindurbe::{Key, Policy};
+    ///
+    /// assert_eq!(Policy::from_words(Key::new(9), vec![1, 0]).our_key(), Key::new(9));
+    /// ```
+    pub fn our_key(&self) -> Key {
         self.our_key
     }
 
     /// Without our key, which is kept apart.
+    ///
+    /// ```
+    /// use txindurbe::{Key, Policy};
+    ///
+    /// assert_eq!(Policy::new(Key::new(9), &[])?.words(), [1, 0]);
+    /// # Ok::<(), txindurbe::Unresolved>(())
+    /// ```
     pub fn words(&self) -> &[u32] {
         &self.words
     }
 
     /// What word 0 says; none if there is no such word or no such format, and the policy is then refused as
-    /// [`BadHeader`](crate::RefusalKind::BadHeader).
+    /// [`BadHeader`](crate::Refusal::BadHeader).
     ///
     /// ```
-    /// use txindurbe::{key, Format, Policy};
+    /// use txindurbe::{Format, Key, Policy};
     ///
-    /// assert_eq!(Policy::new(key(9), &[]).format(), Some(Format::EqualWidths));
-    /// assert_eq!(Policy::from_words(key(9), vec![2, 0]).format(), Some(Format::WiderRows));
-    /// assert_eq!(Policy::from_words(key(9), vec![3, 0]).format(), None);
+    /// let format = |words| Policy::from_words(Key::new(9), words).format();
+    /// assert_eq!(format(vec![1, 0]), Some(Format::EqualWidths));
+    /// assert_eq!(format(vec![2, 0]), Some(Format::WiderRows));
+    /// assert_eq!(format(vec![3, 0]), None);
     /// ```
     pub fn format(&self) -> Option<Format> {
         self.words.first().copied().and_then(Format::from_number)
     }
 
     /// The verdict that an answer to this query has, whatever the store; or the refusal that it would get with any.
+    ///
+    /// ```
+    /// use txindurbe::{Expression, Key, Part, Policy, Polarity, Refusal, Verdict};
+    ///
+    /// let policy = Policy::new(Key::new(9), &[])?;
+    /// let released = Expression::list(Key::new(1), 1, Polarity::Plus);
+    /// assert_eq!(policy.judge(&policy.query(&released)?), Ok(Verdict::Lower));
+    ///
+    /// // What is released and not released: nothing is known of that by certificates of what is released.
+    /// let nonsense = released.clone().minus(released);
+    /// assert_eq!(policy.judge(&policy.query(&nonsense)?), Err(Refusal::NoPolarity(Part::Query)));
+    /// # Ok::<(), txindurbe::Unresolved>(())
+    /// ```
     pub fn judge(&self, query: &Query) -> Result<Verdict, Refusal> {
-        let judgement = calls::judge(&self.words, query.words(), self.our_key);
+        let judgement = calls::judge(&self.words, query.words(), self.our_key.word());
         Verdict::from_numbers(judgement.number, judgement.part, judgement.verdict)
     }
 
@@ -146,18 +253,41 @@ impl Policy {
     /// In an external policy definition 0 may be the name 0, −, which lists the compromised keys. Every other definition is +, and none has a difference, an
     /// absent guard or a [`vetted_list`](Expression::vetted_list). Each [`list`](Expression::list) in a later definition becomes vetted by definition 0, own
     /// names too: they have no rows if our key is compromised. Without a definition of name 0, −, the output equals this policy; either way it has the same
-    /// [`Format`] and our key. A query is not rewritten: it asks for the definitions, or for lists as it names them.
+    /// [`Format`], our key and labels. A query is not rewritten: it asks for the definitions, or for lists as it names them.
+    ///
+    /// ```
+    /// use txindurbe::{Definition, Expression, Key, Policy, Polarity};
+    ///
+    /// let (authority, observatory) = (Key::new(3), Key::new(1));
+    /// let compromised = Definition::new("compromised", 0, Polarity::Minus, Expression::list(authority, 0, Polarity::Minus));
+    /// let public = |expression| Definition::new("public", 10, Polarity::Plus, expression);
+    /// let lists = public(Expression::list(observatory, 1, Polarity::Plus));
+    /// let vetted = public(Expression::vetted_list(observatory, 1, "compromised"));
+    ///
+    /// let external = Policy::new(Key::new(9), &[compromised.clone(), lists])?;
+    /// assert_eq!(external.rewrite()?, Policy::new(Key::new(9), &[compromised, vetted])?);
+    /// # Ok::<(), Box<dyn std::error::Error>>(())
+    /// ```
     pub fn rewrite(&self) -> Result<Policy, Refusal> {
         let mut words = vec![0; POLICY_WORDS];
-        let rewriting = calls::rewrite(&self.words, self.our_key, &mut words);
+        let rewriting = calls::rewrite(&self.words, self.our_key.word(), &mut words);
         if rewriting.number > 0 {
-            return Err(Refusal::from_number(rewriting.number, Part::from_number(rewriting.part)));
+            return Err(Refusal::of_reply(rewriting.number, rewriting.part));
         }
         words.truncate(rewriting.length);
-        Ok(Policy { our_key: self.our_key, words })
+        Ok(Policy { words, ..self.clone() })
     }
 
     /// The words of the definition or query that a refusal is about; none if there is no such definition or the policy's table is broken.
+    ///
+    /// ```
+    /// use txindurbe::{Key, Part, Policy, Query};
+    ///
+    /// let policy = Policy::from_words(Key::new(9), vec![1, 1, 10, 0, 6, 2, 1, 0]);
+    /// let query = Query::from_words(vec![3, 0]);
+    /// assert_eq!(policy.part(&query, Part::Definition(0)), [1, 0]);
+    /// assert_eq!(policy.part(&query, Part::Query), [3, 0]);
+    /// ```
     pub fn part<'a>(&'a self, query: &'a Query, part: Part) -> &'a [u32] {
         let (of_query, words) = calls::part(&self.words, query.words(), part.number());
         if of_query == 1 {
@@ -168,22 +298,38 @@ impl Policy {
     }
 }
 
-/// A query's words: one expression, which may use every definition.
+/// A query's words: one expression, which may use every definition. [`Policy::query`] makes them.
+///
+/// ```
+/// use txindurbe::{Expression, Key, Policy, Query};
+///
+/// let query = Policy::new(Key::new(9), &[])?.query(&Expression::rows([vec![7.into()]]))?;
+/// assert_eq!(query, Query::from_words(vec![1, 1, 1, 0, 7]));
+/// # Ok::<(), txindurbe::Unresolved>(())
+/// ```
 #[derive(Clone, PartialEq, Eq, Debug)]
 pub struct Query {
     words: Vec<u32>,
 }
 
 impl Query {
-    pub fn new(expression: &Expression) -> Query {
-        Query { words: expression.words().to_vec() }
-    }
-
     /// Any words at all; the engine refuses what is malformed.
+    ///
+    /// ```
+    /// use txindurbe::{Key, Part, Policy, Query, Refusal};
+    ///
+    /// let policy = Policy::from_words(Key::new(9), vec![1, 0]);
+    /// assert_eq!(policy.judge(&Query::from_words(vec![])), Err(Refusal::BadWord(Part::Query)));
+    /// ```
     pub fn from_words(words: Vec<u32>) -> Query {
         Query { words }
     }
 
+    /// As the engine reads them.
+    ///
+    /// ```
+    /// assert_eq!(txindurbe::Query::from_words(vec![3, 0]).words(), [3, 0]);
+    /// ```
     pub fn words(&self) -> &[u32] {
         &self.words
     }
@@ -192,36 +338,53 @@ impl Query {
 #[cfg(test)]
 mod tests {
     use super::*;
-    use crate::{key, Term};
+
+    const OUR_KEY: Key = Key::new(9);
+
+    fn seven(label: &str, name: u16) -> Definition {
+        Definition::new(label, name, Polarity::Plus, Expression::rows([vec![7.into()]]))
+    }
 
     #[test]
     fn a_policy_says_its_format_in_word_0() {
-        let definitions = [Definition { name: 10, polarity: Polarity::Plus, expression: Expression::rows(&[&[Term::Atom(7)]]) }];
+        let definitions = [seven("public", 10)];
         for (format, word) in [(Format::EqualWidths, 1), (Format::WiderRows, 2)] {
-            let policy = Policy::in_format(key(9), format, &definitions);
+            let policy = Policy::in_format(OUR_KEY, format, &definitions).unwrap();
             assert_eq!(policy.words(), [word, 1, 10, 0, 6, 5, 1, 1, 1, 0, 7]);
             assert_eq!(policy.format(), Some(format));
         }
-        assert_eq!(Policy::new(key(9), &definitions), Policy::in_format(key(9), Format::EqualWidths, &definitions));
+        assert_eq!(Policy::new(OUR_KEY, &definitions), Policy::in_format(OUR_KEY, Format::EqualWidths, &definitions));
     }
 
     #[test]
     fn a_policy_keeps_our_key_beside_its_words() {
-        for our_key in [key(0), key(9), u32::MAX, 5] {
-            let made = [Policy::new(our_key, &[]), Policy::in_format(our_key, Format::EqualWidths, &[]), Policy::from_words(our_key, vec![1, 0])];
+        for our_key in [Key::new(0), OUR_KEY, Key::new((1 << 31) - 1)] {
+            let made = [
+                Policy::new(our_key, &[]).unwrap(),
+                Policy::in_format(our_key, Format::EqualWidths, &[]).unwrap(),
+                Policy::from_words(our_key, vec![1, 0]),
+            ];
             for policy in made {
                 assert_eq!((policy.our_key(), policy.words()), (our_key, &[1, 0][..]));
                 // the same words with another key are another policy
-                assert_ne!(policy, Policy::from_words(key(8), vec![1, 0]));
+                assert_ne!(policy, Policy::from_words(Key::new(8), vec![1, 0]));
             }
         }
     }
 
     #[test]
+    fn labels_make_no_difference_to_a_policy() {
+        let policy = Policy::new(OUR_KEY, &[seven("public", 10)]).unwrap();
+        assert_eq!(policy, Policy::new(OUR_KEY, &[seven("observations", 10)]).unwrap());
+        assert_eq!(policy, Policy::from_words(OUR_KEY, policy.words().to_vec()));
+        assert_ne!(policy, Policy::new(OUR_KEY, &[seven("public", 11)]).unwrap());
+    }
+
+    #[test]
     fn words_that_have_no_format() {
-        assert_eq!(Policy::from_words(key(9), vec![]).format(), None);
+        assert_eq!(Policy::from_words(OUR_KEY, vec![]).format(), None);
         for word in [0, 3, 1 << 16, 1 << 31, u32::MAX] {
-            assert_eq!(Policy::from_words(key(9), vec![word, 0]).format(), None, "{word}");
+            assert_eq!(Policy::from_words(OUR_KEY, vec![word, 0]).format(), None, "{word}");
         }
     }
 

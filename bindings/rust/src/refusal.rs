@@ -1,18 +1,27 @@
 use crate::sizes::MOST_DEFINITIONS;
 use std::fmt;
 
-/// Where a refusal was met.
+/// Where a refusal was met. [`Policy::part`](crate::Policy::part) has its words.
+///
+/// ```
+/// use txindurbe::Part;
+///
+/// assert_eq!(format!("{}, {}", Part::Definition(0), Part::Query), "definition 0, the query");
+/// ```
 #[derive(Clone, Copy, PartialEq, Eq, Hash, Debug)]
 pub enum Part {
     /// A definition of the policy, counted from 0.
     Definition(u32),
+    /// The query.
     Query,
 }
 
 /// The part that is the query. Lower numbers are definitions, higher ones no part.
 const QUERY_PART: u32 = MOST_DEFINITIONS as u32;
+const NO_PART: u32 = QUERY_PART + 1;
 
 impl Part {
+    /// Of the engine's number.
     pub(crate) fn from_number(number: u32) -> Option<Part> {
         match number {
             0..QUERY_PART => Some(Part::Definition(number)),
@@ -23,34 +32,100 @@ impl Part {
 
     pub(crate) fn number(self) -> u32 {
         match self {
-            Part::Definition(number) => number,
+            Part::Definition(number @ 0..QUERY_PART) => number,
+            Part::Definition(_) => NO_PART,
             Part::Query => QUERY_PART,
         }
     }
 }
 
-/// The documents' refusal table: the engine's word for each, its number and what it means.
+impl fmt::Display for Part {
+    fn fmt(&self, out: &mut fmt::Formatter) -> fmt::Result {
+        match self {
+            Part::Definition(number) => write!(out, "definition {number}"),
+            Part::Query => out.write_str("the query"),
+        }
+    }
+}
+
+/// The documents' refusal table: the engine's word for each, whether a part comes with it, its number, its rule.
 macro_rules! refusal_table {
-    ($($kind:ident = $number:literal, $meaning:literal;)*) => {
-        /// What was wrong. Later versions may know more kinds.
+    ($($kind:ident $(($part:ident: $Part:ident))? = $number:literal, $rule:literal;)*) => {
+        /// Why the engine refused, as the documents' refusal table has it. A refused filing leaves its store unchanged. Later versions may know more refusals.
+        ///
+        /// ```
+        /// use txindurbe::{variable, Expression, Guard, Key, Part, Policy, Polarity, Refusal};
+        ///
+        /// // Each x that is withdrawn: but certificates say only what is not.
+        /// let withdrawn = Expression::list(Key::new(1), 2, Polarity::Minus);
+        /// let drawn = Expression::each([Guard::Draw(vec![variable("x")], withdrawn)], [variable("x")]);
+        /// let policy = Policy::new(Key::new(9), &[])?;
+        /// let refusal = policy.judge(&policy.query(&drawn)?).unwrap_err();
+        /// assert_eq!(refusal, Refusal::OpenDraw(Part::Query));
+        /// assert_eq!(refusal.to_string(), "refusal 7 in the query: a draw is made from an open expression");
+        /// # Ok::<(), txindurbe::Unresolved>(())
+        /// ```
         #[derive(Clone, Copy, PartialEq, Eq, Hash, Debug)]
         #[non_exhaustive]
-        pub enum RefusalKind {
-            $(#[doc = concat!($number, ": ", $meaning, ".")] $kind = $number,)*
+        pub enum Refusal {
+            $(#[doc = concat!($number, ": ", $rule, ".")] $kind $(($Part))?,)*
         }
 
-        impl RefusalKind {
-            fn from_number(number: u32) -> Option<RefusalKind> {
-                match number {
-                    $($number => Some(RefusalKind::$kind),)*
+        impl Refusal {
+            /// The refusal of this number. None if there is no such number, if it comes with a part and none is given, or if it comes without and one is.
+            ///
+            /// ```
+            /// use txindurbe::{Part, Refusal};
+            ///
+            /// assert_eq!(Refusal::from_number(10, None), Some(Refusal::StoreFull));
+            /// assert_eq!(Refusal::from_number(7, Some(Part::Query)), Some(Refusal::OpenDraw(Part::Query)));
+            /// assert_eq!(Refusal::from_number(7, None), None);
+            /// assert_eq!(Refusal::from_number(0, None), None);
+            /// ```
+            pub fn from_number(number: u32, part: Option<Part>) -> Option<Refusal> {
+                match (number, part.as_slice()) {
+                    $(($number, &[$($part)?]) => Some(Refusal::$kind $(($part))?),)*
                     _ => None,
                 }
             }
 
-            /// In words.
-            pub fn meaning(self) -> &'static str {
+            /// The documents' number.
+            ///
+            /// ```
+            /// use txindurbe::{Part, Refusal};
+            ///
+            /// assert_eq!(Refusal::TooManyRows(Part::Query).number(), 13);
+            /// ```
+            pub fn number(&self) -> u32 {
                 match self {
-                    $(RefusalKind::$kind => $meaning,)*
+                    $(Refusal::$kind { .. } => $number,)*
+                }
+            }
+
+            /// The rule that is broken, in words.
+            ///
+            /// ```
+            /// use txindurbe::{Part, Refusal};
+            ///
+            /// assert_eq!(Refusal::TooManyRows(Part::Query).rule(), "a value lists over 128 rows");
+            /// ```
+            pub fn rule(&self) -> &'static str {
+                match self {
+                    $(Refusal::$kind { .. } => $rule,)*
+                }
+            }
+
+            /// The definition or the query that it is about, if it is about one: that is so of 3 to 7 and 12 to 14.
+            ///
+            /// ```
+            /// use txindurbe::{Part, Refusal};
+            ///
+            /// assert_eq!(Refusal::TooManyRows(Part::Query).part(), Some(Part::Query));
+            /// assert_eq!(Refusal::StoreFull.part(), None);
+            /// ```
+            pub fn part(&self) -> Option<Part> {
+                match *self {
+                    $(Refusal::$kind $(($part))? => [$($part)?].first().copied(),)*
                 }
             }
         }
@@ -60,18 +135,18 @@ macro_rules! refusal_table {
 refusal_table! {
     BadHeader = 1, "the policy is under 2 or over 8,192 words, has a format other than 1 and 2 or over 16 definitions, or its table is cut short";
     BadTable = 2, "an entry of the policy's table breaks a rule, or the parts do not end with the policy";
-    BadWord = 3, "a word is outside its rule, words run out or are left over, or the query is empty or over 1,024 words";
-    NotInScope = 4, "a variable is not in scope or wrongly numbered, or a definition is not available";
-    TooDeep = 5, "an expression stands deeper than 15, or there is a ninth draw";
-    NoPolarity = 6, "a definition does not have its declared polarity, or the query has none";
-    OpenDraw = 7, "a draw is made from an open expression";
+    BadWord(part: Part) = 3, "a word is outside its rule, words run out or are left over, or the query is empty or over 1,024 words";
+    NotInScope(part: Part) = 4, "a variable is not in scope or wrongly numbered, or a definition is not available";
+    TooDeep(part: Part) = 5, "an expression stands deeper than 15, or there is a ninth draw";
+    NoPolarity(part: Part) = 6, "a definition does not have its declared polarity, or the query has none";
+    OpenDraw(part: Part) = 7, "a draw is made from an open expression";
     BadStore = 8, "the store is too short or unsound";
     BadCertificate = 9, "the certificate is not ten words or unsound";
     StoreFull = 10, "the store holds 1,600 certificates and this one is new";
     ShortArea = 11, "an area lent to the call is too short";
-    ComplementDrawn = 12, "a complement is drawn from while reading";
-    TooManyRows = 13, "a value lists over 128 rows";
-    TooManyDraws = 14, "a draw is due and 1,000,000 were made";
+    ComplementDrawn(part: Part) = 12, "a complement is drawn from while reading";
+    TooManyRows(part: Part) = 13, "a value lists over 128 rows";
+    TooManyDraws(part: Part) = 14, "a draw is due and 1,000,000 were made";
     NotExternal = 15, "an external rule is broken, or the output would pass 8,192 words";
     BadDate = 16, "a date does not exist or lies outside 2000 to 2099";
     BadTerm = 17, "the certificate's end is not after its first minute";
@@ -80,43 +155,25 @@ refusal_table! {
     NotAKey = 20, "the number given as our key is not a key";
 }
 
-impl RefusalKind {
-    /// The documents' number.
-    pub fn number(self) -> u32 {
-        self as u32
-    }
-}
-
-/// Why there is no answer. A refused filing leaves its store unchanged.
-#[derive(Clone, Copy, PartialEq, Eq, Hash, Debug)]
-pub struct Refusal {
-    pub kind: RefusalKind,
-    /// The definition or the query that it is about, if it is about one.
-    pub part: Option<Part>,
-}
-
 impl Refusal {
-    /// Of a number that the library gave. One that the documents do not list means that another version of the library is linked.
-    pub(crate) fn from_number(number: u32, part: Option<Part>) -> Refusal {
-        let kind = RefusalKind::from_number(number).unwrap_or_else(|| panic!("the library linked has a refusal {number}"));
-        Refusal { kind, part }
+    /// Of the numbers that the library gave. What the documents do not list means that another version of the library is linked.
+    pub(crate) fn of_reply(number: u32, part: u32) -> Refusal {
+        Refusal::from_number(number, Part::from_number(part)).unwrap_or_else(|| panic!("the library linked has a refusal {number} with part {part}"))
     }
 
-    /// The documents' number.
-    pub fn number(&self) -> u32 {
-        self.kind.number()
+    /// The same of a call whose refusals have no part.
+    pub(crate) fn without_part(number: u32) -> Refusal {
+        Refusal::of_reply(number, NO_PART)
     }
 }
 
 impl fmt::Display for Refusal {
     fn fmt(&self, out: &mut fmt::Formatter) -> fmt::Result {
         write!(out, "refusal {}", self.number())?;
-        match self.part {
-            Some(Part::Definition(number)) => write!(out, " in definition {number}")?,
-            Some(Part::Query) => write!(out, " in the query")?,
-            None => {}
+        if let Some(part) = self.part() {
+            write!(out, " in {part}")?;
         }
-        write!(out, ": {}", self.kind.meaning())
+        write!(out, ": {}", self.rule())
     }
 }
 
@@ -127,29 +184,56 @@ mod tests {
     use super::*;
 
     /// BAD_HEADER as BadHeader.
-    fn as_kind(constant: &str) -> String {
+    fn as_variant(constant: &str) -> String {
         constant.split('_').map(|word| word[..1].to_string() + &word[1..].to_lowercase()).collect()
     }
 
+    /// Those that come with a part are given the query.
+    fn of_number(number: u32) -> Option<Refusal> {
+        [None, Some(Part::Query)].into_iter().find_map(|part| Refusal::from_number(number, part))
+    }
+
     #[test]
-    fn kinds_and_header_have_the_engines_words_and_numbers() {
+    fn refusals_and_header_have_the_engines_words_and_numbers() {
         let engine = include_str!("../../../crates/refusals/src/lib.rt");
         let header: Vec<&str> = include_str!("../../../include/txindurbe.h").split([' ', ',', '\n']).filter(|word| !word.is_empty()).collect();
         let constants = engine.lines().filter_map(|line| line.strip_prefix("pub const ")?.strip_suffix(';')?.split_once(": u32 = "));
-        let mut kinds = 0;
+        let mut refusals = 0;
         for (constant, number) in constants {
             assert!(header.windows(3).any(|words| words == [&format!("TXB_{constant}"), "=", number]), "the header's {constant}");
             let number = number.parse().expect("constants are numbers");
             match constant {
-                "QUERY_PART" => assert_eq!(Part::from_number(number), Some(Part::Query)),
-                "NO_PART" => assert_eq!(Part::from_number(number), None),
+                "QUERY_PART" => assert_eq!((Part::from_number(number), Part::Query.number()), (Some(Part::Query), number)),
+                "NO_PART" => assert_eq!((Part::from_number(number), NO_PART), (None, number)),
                 _ => {
-                    let kind = RefusalKind::from_number(number).expect("each has a kind");
-                    assert_eq!((format!("{kind:?}"), kind.number()), (as_kind(constant), number));
-                    kinds += 1;
+                    let refusal = of_number(number).expect("each has a refusal");
+                    assert_eq!((format!("{refusal:?}").replace("(Query)", ""), refusal.number()), (as_variant(constant), number));
+                    refusals += 1;
                 }
             }
         }
-        assert_eq!((0..1_000).filter_map(RefusalKind::from_number).count(), kinds);
+        assert_eq!((0..1_000).filter_map(of_number).count(), refusals);
+    }
+
+    /// 3 to 7 and 12 to 14, as document 01's table says: with 1, 2, 8, 11 and every number above 14 there is no part.
+    #[test]
+    fn some_refusals_come_with_a_part() {
+        for number in 1..=20 {
+            let with_part = (3..=7).contains(&number) || (12..=14).contains(&number);
+            for part in [Part::Definition(3), Part::Query] {
+                let refusal = Refusal::from_number(number, Some(part));
+                assert_eq!(refusal.map(|refusal| (refusal.number(), refusal.part())), with_part.then_some((number, Some(part))), "{number}");
+            }
+            let refusal = Refusal::from_number(number, None);
+            assert_eq!(refusal.map(|refusal| (refusal.number(), refusal.part())), (!with_part).then_some((number, None)), "{number}");
+        }
+    }
+
+    #[test]
+    fn definitions_past_the_last_are_no_part() {
+        assert_eq!(Part::Definition(15).number(), 15);
+        for number in [16, 17, u32::MAX] {
+            assert_eq!(Part::Definition(number).number(), NO_PART);
+        }
     }
 }

@@ -1,22 +1,33 @@
 use crate::sizes::{MOST_WIDTH, ROW_WORDS};
+use crate::Atom;
 use std::cmp::Ordering;
+use std::fmt;
 
-/// The key kN. Atoms below 2^31 are numbers, those from there up keys.
-pub const fn key(n: u32) -> u32 {
-    (1 << 31) | n
-}
-
-/// One to four atoms. Made from an array: `Row::from([7, key(1)])`.
-#[derive(Clone, Copy, PartialEq, Eq, Hash, Debug)]
+/// One to four atoms, from an array or a slice of numbers, of keys or of atoms.
+///
+/// Rows are in order atom by atom, and where one row ends and the other goes on, the shorter comes first: (7), (7, 1), (7, 1, 2), (8).
+///
+/// ```
+/// use txindurbe::{Atom, Key, Row};
+///
+/// let row = Row::from([Atom::from(7), Atom::from(Key::new(1))]);
+/// assert_eq!(row.to_string(), "(7, k1)");
+/// assert!(Row::from([7]) < row && row < Row::from([8]));
+///
+/// // A slice may be too long for a row, or empty.
+/// let words = [7, 2_147_483_649, 0, 0, 0];
+/// assert_eq!(Row::try_from(&words[..2]), Ok(row));
+/// assert!(Row::try_from(&words[..]).is_err());
+/// ```
+#[derive(Clone, Copy, PartialEq, Eq, Hash)]
 pub struct Row {
     width: u32,
     /// Unused ones are 0.
-    atoms: [u32; MOST_WIDTH],
+    atoms: [Atom; MOST_WIDTH],
 }
 
 impl Ord for Row {
-    /// Mirrors the engine's order of rows, `rowBefore` in `crates/rows/specs/Row.antt`: atom by atom, and where one row ends and the other goes on, the
-    /// shorter comes first. All that compares rows here comes to this function, the search in answers too, which the engine lays out in that order.
+    /// Mirrors the engine's order of rows, `rowBefore` in `crates/rows/specs/Row.antt`. All that orders rows here comes to this function.
     fn cmp(&self, other: &Row) -> Ordering {
         self.atoms().cmp(other.atoms())
     }
@@ -29,74 +40,112 @@ impl PartialOrd for Row {
 }
 
 impl Row {
-    pub fn atoms(&self) -> &[u32] {
+    /// One to four.
+    ///
+    /// ```
+    /// use txindurbe::{Atom, Row};
+    ///
+    /// assert_eq!(Row::from([7, 1]).atoms(), [Atom::from(7), Atom::from(1)]);
+    /// ```
+    pub fn atoms(&self) -> &[Atom] {
         &self.atoms[..self.width as usize]
     }
 
     /// Width and four atoms.
     pub(crate) fn words(&self) -> [u32; ROW_WORDS] {
-        let [a, b, c, d] = self.atoms;
+        let [a, b, c, d] = self.atoms.map(Atom::word);
         [self.width, a, b, c, d]
     }
 
-    /// From words of a sound set or store.
-    pub(crate) fn from_words(words: &[u32]) -> Row {
-        Row { width: words[0], atoms: [words[1], words[2], words[3], words[4]] }
+    /// From width and four atoms; none if they are no row's.
+    pub(crate) fn from_words(words: [u32; ROW_WORDS]) -> Option<Row> {
+        let [width, atoms @ ..] = words;
+        let row = Row::try_from(atoms.get(..width as usize)?).ok()?;
+        (row.words() == words).then_some(row)
+    }
+
+    /// From atoms that are one to four.
+    fn of(atoms: impl ExactSizeIterator<Item = Atom>) -> Row {
+        let mut row = Row { width: atoms.len() as u32, atoms: [Atom::from(0); MOST_WIDTH] };
+        row.atoms.iter_mut().zip(atoms).for_each(|(place, atom)| *place = atom);
+        row
     }
 }
 
-macro_rules! row_from {
+impl fmt::Display for Row {
+    fn fmt(&self, out: &mut fmt::Formatter) -> fmt::Result {
+        for (place, atom) in self.atoms().iter().enumerate() {
+            write!(out, "{}{atom}", if place == 0 { "(" } else { ", " })?;
+        }
+        out.write_str(")")
+    }
+}
+
+impl fmt::Debug for Row {
+    fn fmt(&self, out: &mut fmt::Formatter) -> fmt::Result {
+        fmt::Display::fmt(self, out)
+    }
+}
+
+macro_rules! row_from_arrays {
     ($($width:literal)*) => {$(
-        impl From<[u32; $width]> for Row {
-            fn from(atoms: [u32; $width]) -> Row {
-                let mut row = Row { width: $width, atoms: [0; MOST_WIDTH] };
-                row.atoms[..$width].copy_from_slice(&atoms);
-                row
+        impl<A: Into<Atom>> From<[A; $width]> for Row {
+            fn from(atoms: [A; $width]) -> Row {
+                Row::of(atoms.into_iter().map(A::into))
             }
         }
     )*};
 }
 
-row_from!(1 2 3 4);
+row_from_arrays!(1 2 3 4);
 
-/// A set of rows: some, or all but some. It lists at most 128 rows, in ascending order; a query whose answer would list more, or that comes to such a set
-/// on its way, is refused as [`TooManyRows`](crate::RefusalKind::TooManyRows) and not cut short.
-#[derive(Clone, PartialEq, Eq, Debug)]
-pub enum Rows {
-    Only(Vec<Row>),
-    AllBut(Vec<Row>),
+macro_rules! row_from_slices {
+    ($($atom:ty)*) => {$(
+        impl TryFrom<&[$atom]> for Row {
+            type Error = WrongWidth;
+
+            fn try_from(atoms: &[$atom]) -> Result<Row, WrongWidth> {
+                match atoms.len() {
+                    1..=MOST_WIDTH => Ok(Row::of(atoms.iter().map(|&atom| atom.into()))),
+                    width => Err(WrongWidth(width)),
+                }
+            }
+        }
+    )*};
 }
 
-impl Rows {
-    pub fn contains(&self, row: impl Into<Row>) -> bool {
-        let row = row.into();
-        match self {
-            Rows::Only(listed) => listed.binary_search(&row).is_ok(),
-            Rows::AllBut(listed) => listed.binary_search(&row).is_err(),
-        }
-    }
+row_from_slices!(u32 crate::Key Atom);
 
-    /// The rows, or the missing ones.
-    pub fn listed(&self) -> &[Row] {
-        match self {
-            Rows::Only(listed) | Rows::AllBut(listed) => listed,
-        }
-    }
+/// So many atoms are no row: it has one to four.
+///
+/// ```
+/// use txindurbe::{Row, WrongWidth};
+///
+/// assert_eq!(Row::try_from(&[7; 5][..]), Err(WrongWidth(5)));
+/// assert_eq!(WrongWidth(5).to_string(), "a row has one to four atoms, not 5");
+/// ```
+#[derive(Clone, Copy, PartialEq, Eq, Debug)]
+pub struct WrongWidth(
+    /// How many there are.
+    pub usize,
+);
 
-    /// From an answer: form, count, rows.
-    pub(crate) fn from_words(words: &[u32]) -> Rows {
-        let rows = words[2..].chunks_exact(ROW_WORDS).take(words[1] as usize).map(Row::from_words).collect();
-        if words[0] == 0 {
-            Rows::Only(rows)
-        } else {
-            Rows::AllBut(rows)
-        }
+impl fmt::Display for WrongWidth {
+    fn fmt(&self, out: &mut fmt::Formatter) -> fmt::Result {
+        write!(out, "a row has one to four atoms, not {}", self.0)
     }
 }
+
+impl std::error::Error for WrongWidth {}
 
 #[cfg(test)]
 mod tests {
     use super::*;
+    use crate::Key;
+
+    fn key(n: u32) -> u32 {
+        Key::new(n).word()
+    }
 
     /// Each row is before all that follow it.
     #[test]
@@ -122,27 +171,9 @@ mod tests {
         ];
         for (place, row) in ascending.iter().enumerate() {
             for (other_place, other) in ascending.iter().enumerate() {
-                assert_eq!(row.cmp(other), place.cmp(&other_place), "{row:?} and {other:?}");
+                assert_eq!(row.cmp(other), place.cmp(&other_place), "{row} and {other}");
                 assert_eq!(row.partial_cmp(other), Some(row.cmp(other)));
             }
-        }
-    }
-
-    #[test]
-    fn answers_are_searched_in_that_order() {
-        // form, count; the rows 7, then 7/1, then 7/1/2, then 8: a search by width first would miss some of them
-        let mut answer = vec![0, 4, 1, 7, 0, 0, 0, 2, 7, 1, 0, 0, 3, 7, 1, 2, 0, 1, 8, 0, 0, 0];
-        let listed = [Row::from([7]), Row::from([7, 1]), Row::from([7, 1, 2]), Row::from([8])];
-        let only = Rows::from_words(&answer);
-        assert_eq!(only, Rows::Only(listed.to_vec()));
-        answer[0] = 1;
-        let all_but = Rows::from_words(&answer);
-        assert_eq!(all_but, Rows::AllBut(listed.to_vec()));
-        for row in listed {
-            assert!(only.contains(row) && !all_but.contains(row), "{row:?}");
-        }
-        for row in [Row::from([0]), Row::from([7, 0]), Row::from([7, 1, 0]), Row::from([7, 1, 2, 0]), Row::from([8, 0])] {
-            assert!(!only.contains(row) && all_but.contains(row), "{row:?}");
         }
     }
 }

@@ -1,4 +1,12 @@
 //! The documents' sizes. Whoever needs one takes it from here.
+//!
+//! ```
+//! use txindurbe::{sizes, Links, Store};
+//!
+//! assert_eq!(Store::new().words().len(), sizes::STORE_WORDS);
+//! assert_eq!(Links::new().words().len(), sizes::LINKS_WORDS);
+//! assert_eq!(sizes::STORE_WORDS, 1 + sizes::MOST_CERTIFICATES * sizes::CERTIFICATE_WORDS);
+//! ```
 
 /// The most atoms of a row.
 pub const MOST_WIDTH: usize = 4;
@@ -28,9 +36,11 @@ pub const MOST_DEFINITIONS: usize = 16;
 /// The most words of a policy: an area of so many takes every rewritten one.
 pub const POLICY_WORDS: usize = 8_192;
 
-/// The areas that a query is lent.
+/// The area that a query's answer is written to.
 pub const ANSWER_WORDS: usize = SET_WORDS;
+/// The area that a query builds the definitions' sets in.
 pub const DEFINITIONS_WORDS: usize = SET_WORDS * MOST_DEFINITIONS;
+/// The area that a query builds all other sets in.
 pub const SCRATCH_WORDS: usize = 16_384;
 
 #[cfg(test)]

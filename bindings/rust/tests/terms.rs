@@ -6,13 +6,12 @@ mod filed;
 use filed::store_of;
 use txindurbe::calls::{self, Dated, Minutes};
 use txindurbe::{
-    key, Certificate, Date, Engine, Expression, Filing, Links, Minute, Polarity, Policy, Query, Refusal, RefusalKind, Row, Rows, Store, Table,
-    Validity,
+    Certificate, Date, Engine, Expression, Filing, Key, Links, Minute, Part, Polarity, Policy, Refusal, Row, Rows, Store, Table, Validity,
 };
 
 /// No list that is read here is under it.
-const OUR_KEY: u32 = key(9);
-const OBSERVATORY: u32 = key(1);
+const OUR_KEY: Key = Key::new(9);
+const OBSERVATORY: Key = Key::new(1);
 const RELEASED: u16 = 1;
 
 fn term(first: u32, end: u32) -> Validity {
@@ -23,25 +22,20 @@ fn released(number: u32, validity: Validity) -> Certificate {
     Certificate::listed(OBSERVATORY, RELEASED, [number], validity)
 }
 
-fn refused<T>(kind: RefusalKind) -> Result<T, Refusal> {
-    Err(Refusal { kind, part: None })
-}
-
 /// What is released, at least.
-fn at_least(store: &Store, minute: u32) -> Result<Vec<Row>, RefusalKind> {
-    let query = Query::new(&Expression::list(OBSERVATORY, RELEASED, Polarity::Plus));
-    let answer =
-        Engine::new().query(&Policy::new(OUR_KEY, &[]), &query, Minute::new(minute), store, &Links::new()).map_err(|refusal| refusal.kind)?;
-    match answer.table {
-        Table::Lower(Rows::Only(rows)) => Ok(rows),
-        table => panic!("{table:?}"),
+fn at_least(store: &Store, minute: u32) -> Result<Vec<Row>, Refusal> {
+    let policy = Policy::new(OUR_KEY, &[]).unwrap();
+    let query = policy.query(&Expression::list(OBSERVATORY, RELEASED, Polarity::Plus)).unwrap();
+    match Engine::new().query(&policy, &query, Minute::new(minute), store, &Links::new())?.table() {
+        Table::Lower(Rows::Only(rows)) => Ok(rows.clone()),
+        table => panic!("{table}"),
     }
 }
 
 #[test]
 fn a_certificate_holds_from_its_first_minute_up_to_but_without_its_end() {
     let certificate = released(7, term(10, 20));
-    assert_eq!(certificate.words(), [OBSERVATORY, 1, 0, 1, 7, 0, 0, 0, 10, 20]);
+    assert_eq!(certificate.words(), [OBSERVATORY.word(), 1, 0, 1, 7, 0, 0, 0, 10, 20]);
     let store = store_of([certificate]);
     for (minute, holds) in [(0, false), (9, false), (10, true), (19, true), (20, false), (u32::MAX, false)] {
         assert_eq!(certificate.validity.holds_at(Minute::new(minute)), holds, "{minute}");
@@ -66,7 +60,7 @@ fn the_different_rows_that_hold_are_limited() {
     assert_eq!(at_least(&store, 10).map(|rows| rows.len()), Ok(128));
     assert_eq!(store.file(&released(128, term(20, 30))), Ok(Filing::Filed));
     assert_eq!(at_least(&store, 19).map(|rows| rows.len()), Ok(128));
-    assert_eq!(at_least(&store, 20), Err(RefusalKind::TooManyRows));
+    assert_eq!(at_least(&store, 20), Err(Refusal::TooManyRows(Part::Query)));
     assert_eq!(at_least(&store, 30), Ok(vec![]));
 }
 
@@ -74,24 +68,25 @@ fn the_different_rows_that_hold_are_limited() {
 fn an_end_not_after_its_first_minute_is_refused() {
     let mut store = Store::new();
     for (first, end) in [(0, 0), (5, 5), (5, 4), (u32::MAX, 0)] {
-        assert_eq!(store.file(&released(7, term(first, end))), refused(RefusalKind::BadTerm));
+        assert_eq!(store.file(&released(7, term(first, end))), Err(Refusal::BadTerm));
     }
     assert_eq!(store, Store::new());
     // what else is unsound comes first
-    let by_a_number = Certificate { key: 5, ..released(7, term(5, 5)) };
-    assert_eq!(store.file(&by_a_number), refused(RefusalKind::BadCertificate));
+    let mut by_a_number = released(7, term(5, 5)).words();
+    by_a_number[0] = 5;
+    assert_eq!(store.file_words(&by_a_number), Err(Refusal::BadCertificate));
     // held, it makes the store unsound
     let mut words = store_of([released(7, term(0, 1))]).words().to_vec();
     words[10] = 0;
-    assert_eq!(at_least(&Store::from_words(words), 0), Err(RefusalKind::BadStore));
+    assert_eq!(at_least(&Store::from_words(words), 0), Err(Refusal::BadStore));
 }
 
 #[test]
 fn a_store_takes_1600_certificates() {
     let mut store = store_of((0..1_600).map(|n| released(n / 2, term(n % 2, 2))));
     assert_eq!(store.file(&released(0, term(0, 2))), Ok(Filing::Held));
-    assert_eq!(store.file(&released(0, term(0, 1))), refused(RefusalKind::StoreFull));
-    assert_eq!(store.file(&released(0, term(1, 1))), refused(RefusalKind::BadTerm));
+    assert_eq!(store.file(&released(0, term(0, 1))), Err(Refusal::StoreFull));
+    assert_eq!(store.file(&released(0, term(1, 1))), Err(Refusal::BadTerm));
 }
 
 #[test]
@@ -110,10 +105,10 @@ fn dates_become_minutes_and_back() {
     }
     let day = |year, month, day| date(year, month, day, 0, 0);
     for odd in [day(2001, 2, 29), day(2026, 4, 31), day(2026, 13, 1), day(2026, 1, 0), day(1999, 12, 31), day(2100, 1, 1), date(2026, 1, 1, 24, 0)] {
-        assert_eq!(Minute::from_date(odd), refused(RefusalKind::BadDate), "{odd:?}");
+        assert_eq!(Minute::from_date(odd), Err(Refusal::BadDate), "{odd:?}");
     }
-    assert_eq!(Minute::new(52_596_000).date(), refused(RefusalKind::BadDate));
-    assert_eq!(Validity::from_dates(day(2027, 1, 1), day(2027, 2, 29)), refused(RefusalKind::BadDate));
+    assert_eq!(Minute::new(52_596_000).date(), Err(Refusal::BadDate));
+    assert_eq!(Validity::from_dates(day(2027, 1, 1), day(2027, 2, 29)), Err(Refusal::BadDate));
 }
 
 #[test]
