@@ -1,11 +1,14 @@
 //! The library beside a straightforward evaluator, hand-tuned programs and SQLite, on twenty-one tasks.
 //!
 //!     cargo run --release --offline [-- ROUNDS]
+//!     cargo run --release --offline -- --archive
 //!     cargo run --release --offline -- --check
 //!
-//! Prints a table of medians, with ratios to the hand-tuned program and what each program leaves out, and draws it to docs/benchmark.svg. With `--check`
-//! each program runs once and nothing is measured: the programs of a task must agree.
+//! Prints a table of medians, with ratios to the hand-tuned program and what each program leaves out, and draws it to docs/benchmark.svg; then what the tool
+//! takes for 100,000 filings and a query, and what of it is the engine's (`--archive` for that alone). With `--check` each program runs once and nothing is
+//! measured: the programs of a task must agree, and the archive with the engine.
 
+mod archive;
 mod hand;
 mod measure;
 mod picture;
@@ -16,7 +19,7 @@ mod tasks;
 use differential::engine::Engine;
 use differential::evaluator::{Date, Evaluator, Question};
 use hand::Program;
-use measure::{measure, Measured};
+use measure::{measure, median, Measured};
 #[cfg(sqlite)]
 use sqlite::{Database, Statement};
 use std::process::ExitCode;
@@ -422,7 +425,8 @@ pub fn readable(seconds: f64) -> String {
     let (value, unit) = match seconds {
         s if s < 1e-6 => (s * 1e9, "ns"),
         s if s < 1e-3 => (s * 1e6, "µs"),
-        s => (s * 1e3, "ms"),
+        s if s < 1.0 => (s * 1e3, "ms"),
+        s => (s, "s"),
     };
     let digits = if value < 10.0 {
         2
@@ -480,6 +484,9 @@ fn sqlite_version() -> String {
     "no SQLite".into()
 }
 
+/// How many samples there are of each.
+const ROUNDS: usize = 21;
+
 /// Prints and draws what is measured.
 fn measure_all(rounds: usize) -> Result<(), String> {
     println!("{}; {}; medians of {rounds} samples of processor time; in brackets the ratio to the hand-tuned program", processor(), sqlite_version());
@@ -488,7 +495,7 @@ fn measure_all(rounds: usize) -> Result<(), String> {
     let path = concat!(env!("CARGO_MANIFEST_DIR"), "/../docs/benchmark.svg");
     std::fs::write(path, picture::draw(&measured)).expect("the folder docs is there");
     println!("drawn to docs/benchmark.svg");
-    Ok(())
+    archive::measure(rounds)
 }
 
 fn check_all() -> Result<(), String> {
@@ -496,14 +503,17 @@ fn check_all() -> Result<(), String> {
         task.agree()?;
         println!("{}: {} programs agree", task.name, task.contestants.len());
     }
+    archive::check(5_000)?;
+    println!("the archive's replies and stores are the engine's");
     Ok(())
 }
 
 fn main() -> ExitCode {
     let result = match std::env::args().nth(1).as_deref() {
         Some("--check") => check_all(),
-        Some(rounds) => measure_all(rounds.parse().expect("the argument is --check or a count of rounds")),
-        None => measure_all(21),
+        Some("--archive") => archive::measure(ROUNDS),
+        Some(rounds) => measure_all(rounds.parse().expect("the argument is --check, --archive or a count of rounds")),
+        None => measure_all(ROUNDS),
     };
     match result {
         Ok(()) => ExitCode::SUCCESS,

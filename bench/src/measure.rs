@@ -49,7 +49,7 @@ fn time(run: &mut dyn FnMut() -> Option<Outcome>, times: u32) -> f64 {
     (now() - start).as_secs_f64() / f64::from(times)
 }
 
-fn median(mut samples: Vec<f64>) -> f64 {
+pub fn median(mut samples: Vec<f64>) -> f64 {
     samples.sort_by(f64::total_cmp);
     samples[samples.len() / 2]
 }
