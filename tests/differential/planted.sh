@@ -3,7 +3,7 @@
 set -eu
 cd "$(dirname "$0")"
 cargo build --quiet --release --offline
-export run=target/release/differential
+export run=${CARGO_TARGET_DIR:-target}/release/differential
 count=$($run --faults | wc -l)
 
 # Prints the fault's line if its run ends otherwise.
