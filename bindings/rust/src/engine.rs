@@ -138,7 +138,11 @@ impl Engine {
     /// assert_eq!(at(20)?.table().to_string(), "at least no rows");
     /// # Ok::<(), Box<dyn std::error::Error>>(())
     /// ```
+    ///
+    /// # Panics
+    /// If the query uses definitions of another policy by their labels.
     pub fn query(&mut self, policy: &Policy, query: &Query, minute: Minute, store: &Store, links: &Links) -> Result<Answer, Refusal> {
+        policy.assert_has_definitions_of(query);
         let Engine { answer, definitions, scratch } = self;
         let lent = Lent { answer, definitions, scratch };
         let reply = calls::query(policy.words(), query.words(), policy.our_key().word(), minute.number(), store.words(), links.words(), lent);

@@ -172,7 +172,8 @@ impl Expression {
         Expression::list_of(key, name, polarity)
     }
 
-    /// The list of a key that a variable holds. If it holds our key, certificates and links are read as with any other.
+    /// The list of a key that a variable holds. If it holds our key, certificates and links are read as with any other. A fixed key as the issuer is
+    /// [`list`](Expression::list).
     ///
     /// ```
     /// use txindurbe::{variable, Expression, Guard, Key, Policy, Polarity};

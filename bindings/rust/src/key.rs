@@ -3,7 +3,7 @@ use std::fmt;
 /// Atoms from here up are keys.
 const FIRST: u32 = 1 << 31;
 
-/// An observatory's key, or the archive's own: kN, by its number N. A number is no key, so that none is taken for one.
+/// An observatory's key, or the archive's own: kN, by its number N. What asks for a key takes no number.
 ///
 /// ```
 /// use txindurbe::Key;

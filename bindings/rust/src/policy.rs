@@ -155,7 +155,7 @@ impl Policy {
         let mut table = vec![format as u32, definitions.len() as u32];
         let mut parts = Vec::new();
         for Definition { name, polarity, expression, .. } in definitions {
-            let part = words(expression, &labels)?;
+            let (part, _) = words(expression, &labels)?;
             let offset = 2 + 4 * definitions.len() + parts.len();
             table.extend([u32::from(*name), *polarity as u32, offset as u32, part.len() as u32]);
             parts.extend(part);
@@ -176,7 +176,8 @@ impl Policy {
         Policy { our_key, words, labels: Vec::new() }
     }
 
-    /// The words of an expression, which may use every definition by its label.
+    /// The words of an expression, which may use every definition by its label. It is a query under this policy, and under what this one is rewritten into;
+    /// where a policy has another definition in the place of one that it uses, asking it there panics.
     ///
     /// ```
     /// use txindurbe::{Definition, Expression, Key, Policy, Polarity, Verdict};
@@ -188,7 +189,17 @@ impl Policy {
     /// # Ok::<(), txindurbe::Unresolved>(())
     /// ```
     pub fn query(&self, expression: &Expression) -> Result<Query, Unresolved> {
-        Ok(Query { words: words(expression, &self.labels)? })
+        let (words, used) = words(expression, &self.labels)?;
+        Ok(Query { words, used })
+    }
+
+    /// So that a definition asked for by its label is never another one.
+    pub(crate) fn assert_has_definitions_of(&self, query: &Query) {
+        let known = !self.labels.is_empty();
+        let other = query.used.iter().find(|(place, label)| known && self.labels.get(*place as usize) != Some(label));
+        if let Some((place, label)) = other {
+            panic!("the query was made under another policy: it uses `{label}` as definition {place}, which is another one here");
+        }
     }
 
     /// The archive's own.
@@ -243,7 +254,11 @@ impl Policy {
     /// assert_eq!(policy.judge(&policy.query(&nonsense)?), Err(Refusal::NoPolarity(Part::Query)));
     /// # Ok::<(), txindurbe::Unresolved>(())
     /// ```
+    ///
+    /// # Panics
+    /// If the query uses definitions of another policy by their labels.
     pub fn judge(&self, query: &Query) -> Result<Verdict, Refusal> {
+        self.assert_has_definitions_of(query);
         let judgement = calls::judge(&self.words, query.words(), self.our_key.word());
         Verdict::from_numbers(judgement.number, judgement.part, judgement.verdict)
     }
@@ -307,10 +322,21 @@ impl Policy {
 /// assert_eq!(query, Query::from_words(vec![1, 1, 1, 0, 7]));
 /// # Ok::<(), txindurbe::Unresolved>(())
 /// ```
-#[derive(Clone, PartialEq, Eq, Debug)]
+#[derive(Clone, Debug)]
 pub struct Query {
     words: Vec<u32>,
+    /// The definitions that it was given by their labels, each with its place in its policy.
+    used: Vec<(u32, String)>,
 }
+
+/// By words.
+impl PartialEq for Query {
+    fn eq(&self, other: &Query) -> bool {
+        self.words == other.words
+    }
+}
+
+impl Eq for Query {}
 
 impl Query {
     /// Any words at all; the engine refuses what is malformed.
@@ -322,7 +348,7 @@ impl Query {
     /// assert_eq!(policy.judge(&Query::from_words(vec![])), Err(Refusal::BadWord(Part::Query)));
     /// ```
     pub fn from_words(words: Vec<u32>) -> Query {
-        Query { words }
+        Query { words, used: Vec::new() }
     }
 
     /// As the engine reads them.
@@ -338,6 +364,7 @@ impl Query {
 #[cfg(test)]
 mod tests {
     use super::*;
+    use crate::{Engine, Links, Minute, Store};
 
     const OUR_KEY: Key = Key::new(9);
 
@@ -370,6 +397,27 @@ mod tests {
                 assert_ne!(policy, Policy::from_words(Key::new(8), vec![1, 0]));
             }
         }
+    }
+
+    /// Under another policy `closed` stands where `open` did: its rows must not be taken for those of `open`.
+    #[test]
+    fn a_query_by_label_is_no_other_policys() {
+        let rows = |atom: u32| Expression::rows([vec![atom.into()]]);
+        let [open, closed] = [("open", 7), ("closed", 8)].map(|(label, atom)| Definition::new(label, atom as u16, Polarity::Plus, rows(atom)));
+        let policy = Policy::new(Key::new(9), std::slice::from_ref(&open)).unwrap();
+        let query = policy.query(&Expression::defined("open")).unwrap();
+        assert_eq!(policy.judge(&query), Ok(Verdict::Lower));
+        assert_eq!(policy.rewrite().unwrap().judge(&query), Ok(Verdict::Lower));
+        assert_eq!(Policy::new(Key::new(9), &[open.clone(), closed.clone()]).unwrap().judge(&query), Ok(Verdict::Lower));
+
+        let other = Policy::new(Key::new(9), &[closed, open]).unwrap();
+        assert!(std::panic::catch_unwind(|| other.judge(&query)).is_err());
+        let asked = || Engine::new().query(&other, &query, Minute::new(0), &Store::new(), &Links::new());
+        assert!(std::panic::catch_unwind(asked).is_err());
+        // one that uses no definition, or none by its label, may be asked of any
+        let any = policy.query(&rows(7)).unwrap();
+        assert_eq!(other.judge(&any), Ok(Verdict::Exact));
+        assert_eq!(other.judge(&Query::from_words(query.words().to_vec())), Ok(Verdict::Lower));
     }
 
     #[test]

@@ -3,17 +3,18 @@
 use crate::expression::Node;
 use crate::{Expression, Guard, Polarity, Term, Unresolved};
 
-/// As the engine reads it, beside definitions of these labels.
-pub(crate) fn words(expression: &Expression, labels: &[String]) -> Result<Vec<u32>, Unresolved> {
-    let mut writing = Writing { words: Vec::new(), labels, variables: Vec::new() };
+/// As the engine reads it, beside definitions of these labels; and which of them it uses, by place and label.
+pub(crate) fn words(expression: &Expression, labels: &[String]) -> Result<(Vec<u32>, Vec<(u32, String)>), Unresolved> {
+    let mut writing = Writing { words: Vec::new(), labels, used: Vec::new(), variables: Vec::new() };
     writing.expression(expression)?;
-    Ok(writing.words)
+    Ok((writing.words, writing.used))
 }
 
 /// The words so far, and what names stand for.
 struct Writing<'a> {
     words: Vec<u32>,
     labels: &'a [String],
+    used: Vec<(u32, String)>,
     /// Those in scope, each at its number.
     variables: Vec<&'a str>,
 }
@@ -131,6 +132,7 @@ impl<'a> Writing<'a> {
         match (places.next(), places.next()) {
             (Some((place, _)), None) => {
                 self.words.push(place);
+                self.used.push((place, label.into()));
                 Ok(())
             }
             _ => Err(Unresolved::Definition(label.into())),
