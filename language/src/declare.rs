@@ -48,7 +48,7 @@ pub(crate) fn query_of(file: &File) -> Option<&Expression> {
     })
 }
 
-/// Of queries, formats and our keys a file has one each at most.
+/// Each of these a file has once at most.
 fn said_once(file: &File, problems: &mut Vec<Problem>) {
     let mut said: Vec<(&str, Span)> = Vec::new();
     for statement in &file.statements {
@@ -56,7 +56,8 @@ fn said_once(file: &File, problems: &mut Vec<Problem>) {
             StatementKind::Query(_) => "query",
             StatementKind::Format { .. } => "format",
             StatementKind::OurKey(_) => "our key",
-            _ => continue,
+            StatementKind::External => "external",
+            StatementKind::Keys(_) | StatementKind::Lists(_) | StatementKind::Define(_) => continue,
         };
         match said.iter().find(|(word, _)| *word == what) {
             Some((_, first)) => {
@@ -136,7 +137,10 @@ fn lists(file: &File, problems: &mut Vec<Problem>) -> Vec<NamedList> {
 /// A name's number is over 65,535; in a definition it is the policy's table that breaks its rule, else a word of an expression.
 pub(crate) fn number_too_great(refusal: u32, span: Span) -> Problem {
     let most = say::number(MOST_NAME as usize);
-    Problem::error(format!("the number of a list or definition is at most {most}")).refused(refusal).at(span, format!("over {most}"))
+    Problem::error(format!("the number of a list or definition is at most {most}"))
+        .refused(refusal)
+        .at(span, format!("over {most}"))
+        .mend("take a smaller number")
 }
 
 fn our_key(file: &File, names: &Names, problems: &mut Vec<Problem>) -> Option<Key> {

@@ -9,8 +9,16 @@ use txindurbe::{Atom, Format, Key, Part, Policy, Query, Refusal};
 /// The deepest that an expression stands in words that the engine accepts.
 const DEEPEST: usize = 15;
 
-/// Of a policy that the engine accepts with this key as ours, and of a query that it accepts under it. Definitions are called d0, d1 and so on, variables x0,
-/// x1 and so on by their numbers; keys and lists have no names.
+/// The text of a policy that the engine accepts with this key as ours, and of a query that it accepts under it; else its refusal. Definitions are called d0, d1
+/// and so on, variables x0, x1 and so on by their numbers; keys and lists have no names.
+///
+/// ```
+/// use txindurbe::Key;
+/// use txindurbe_language::{decompile, print};
+///
+/// let file = decompile(Key::new(9), &[1, 1, 10, 0, 6, 5, 1, 1, 1, 0, 7], Some(&[3, 0])).expect("the engine accepts it");
+/// assert_eq!(print(&file), "our key k9\n\ndefine d0 10 + = { (7) }\n\nquery d0\n");
+/// ```
 pub fn decompile(our_key: Key, policy: &[u32], query: Option<&[u32]>) -> Result<File, Refusal> {
     let policy = Policy::from_words(our_key, policy.to_vec());
     let asked = Query::from_words(query.unwrap_or(&[1, 0]).to_vec());

@@ -16,6 +16,16 @@ use crate::token::{tokens, Token, TokenKind, Word};
 use mistakes::Expected;
 
 /// The tree of a whole file, or all that is wrong with its text.
+///
+/// ```
+/// use txindurbe_language::{parse, Sources};
+///
+/// let mut sources = Sources::default();
+/// let source = sources.add("public.qcm", "list released = 1, withdrawn = 2 -");
+/// let problems = parse(&sources, source).unwrap_err();
+/// assert_eq!(problems[0].message, "a list has a sign: the + list and the − list of one number are two lists");
+/// assert_eq!(problems[0].labels[0].span.start, "list released = 1".len());
+/// ```
 pub fn parse(sources: &Sources, source: usize) -> Result<File, Vec<Problem>> {
     let mut parser = Parser::new(&sources.texts[source].text, source);
     let file = parser.file();
@@ -23,6 +33,15 @@ pub fn parse(sources: &Sources, source: usize) -> Result<File, Vec<Problem>> {
 }
 
 /// The same for a text that is one expression.
+///
+/// ```
+/// use txindurbe_language::{parse_expression, print_expression, Sources};
+///
+/// let mut sources = Sources::default();
+/// let source = sources.add("the query", "alma . released union{(7)}");
+/// let expression = parse_expression(&sources, source).expect("it is one expression");
+/// assert_eq!(print_expression(&expression), "alma.released union { (7) }");
+/// ```
 pub fn parse_expression(sources: &Sources, source: usize) -> Result<Expression, Vec<Problem>> {
     let mut parser = Parser::new(&sources.texts[source].text, source);
     match parser.only_expression() {
@@ -55,6 +74,8 @@ struct Parser<'a> {
     /// The place of the token that is next.
     next: usize,
     waiting: Vec<Waiting>,
+    /// The braces and parentheses that are open here.
+    open: Vec<Span>,
     /// How many expressions the next token stands in.
     nested: usize,
     /// How many stand inside one another in the expression read last.
@@ -66,7 +87,7 @@ impl<'a> Parser<'a> {
     fn new(text: &'a str, source: usize) -> Parser<'a> {
         let mut problems = Vec::new();
         let tokens = tokens(text, source, &mut problems);
-        Parser { text, tokens, next: 0, waiting: Vec::new(), nested: 0, height: 0, problems }
+        Parser { text, tokens, next: 0, waiting: Vec::new(), open: Vec::new(), nested: 0, height: 0, problems }
     }
 
     fn done<T>(self, read: T) -> Result<T, Vec<Problem>> {
@@ -171,6 +192,18 @@ impl<'a> Parser<'a> {
         found
     }
 
+    /// Takes an opening brace or parenthesis.
+    fn open(&mut self) {
+        let bracket = self.take();
+        self.open.push(bracket);
+    }
+
+    /// Takes the closing one. All from the opening one to it.
+    fn close(&mut self) -> Span {
+        let close = self.take();
+        self.open.pop().unwrap_or(close).to(close)
+    }
+
     // ---- mistakes
 
     /// Notes what is wrong; reading goes on.
@@ -188,7 +221,11 @@ impl<'a> Parser<'a> {
 
     /// Fails: none of what may stand here.
     fn expected<T>(&mut self, what: &Expected) -> Parsed<T> {
-        self.fail(mistakes::expected(what, self.token(), self.spelling()))
+        let problem = mistakes::expected(what, self.token(), self.spelling());
+        match self.open.last() {
+            Some(open) if self.is_end_of_statement() => self.fail(mistakes::also_open(problem, *open, self.text_of(*open))),
+            _ => self.fail(problem),
+        }
     }
 
     /// To the next word that begins a statement.
@@ -202,6 +239,7 @@ impl<'a> Parser<'a> {
             self.take();
         }
         self.waiting.clear();
+        self.open.clear();
         self.nested = 0;
     }
 

@@ -14,6 +14,15 @@ const WIDEST: usize = 100;
 const INDENT: usize = 4;
 
 /// The text of a file, formatted.
+///
+/// ```
+/// use txindurbe_language::{parse, print, Sources};
+///
+/// let mut sources = Sources::default();
+/// let source = sources.add("public.qcm", "key alma=k1,vla=k2 # who");
+/// let file = parse(&sources, source).expect("nothing is wrong with it");
+/// assert_eq!(print(&file), "key alma = k1, vla = k2  # who\n");
+/// ```
 pub fn print(file: &File) -> String {
     let mut printer = Printer::default();
     for statement in &file.statements {
@@ -23,7 +32,7 @@ pub fn print(file: &File) -> String {
     printer.text
 }
 
-/// On one line, without its comments.
+/// An expression on one line, without its comments.
 pub fn print_expression(expression: &Expression) -> String {
     one_line(expression)
 }

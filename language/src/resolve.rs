@@ -156,6 +156,7 @@ impl<'a> Resolver<'a> {
         }
         let variables = self.scope.iter().filter_map(|&place| self.variables[place].text.as_deref());
         match closest(text, variables.chain(self.names.key_names())) {
+            None if is_key_in_capitals(text) => problem.mend(format!("write `{}`: keys have a small k", text.to_ascii_lowercase())),
             None => problem.mend(format!("declare the key, `key {text} = k7`, or draw the variable by a guard before")),
             meant => problem.meant(meant),
         }
@@ -168,15 +169,17 @@ impl<'a> Resolver<'a> {
             let problem = if self.names.declared_list(text).is_some() {
                 Problem::error(format!("`{text}` is a list, and a list is some key's"))
                     .at(name.span, "whose list?")
-                    .mend(format!("write the key before it: `k1.{text}`"))
+                    .mend(format!("write whose it is before it: `alma.{text}`, if `alma` is the key"))
             } else if self.names.key(text).is_some() || self.in_scope(text).is_some() {
                 let kind = if self.names.key(text).is_some() { "key" } else { "variable" };
                 let problem = Problem::error(format!("`{text}` is a {kind}, and no set of rows")).at(name.span, "a set must stand here");
                 problem.mend(format!("write a list of its, `{text}.1+`, or the row alone, `{{ ({text}) }}`"))
             } else {
                 let problem = Problem::error(format!("there is no definition `{text}`")).refused(4).at(name.span, "not defined");
+                let define = || format!("define it before: `define {text} + = ..`");
                 match (closest(text, self.names.definition_names()), closest(text, self.names.list_names())) {
-                    (None, Some(list)) => problem.mend(format!("did you mean the list `{list}`? Write its key before it: `k1.{list}`")),
+                    (None, Some(list)) => problem.mend(format!("did you mean the list `{list}`? Write its key before it: `alma.{list}`")),
+                    (None, None) => problem.mend(define()),
                     (meant, _) => problem.meant(meant),
                 }
             };
@@ -252,7 +255,9 @@ impl<'a> Resolver<'a> {
         let problem = Problem::error(format!("there is no list `{text}`")).at(span, "not declared");
         let definitions = self.names.definition_names().filter(|_| ours);
         match closest(text, self.names.list_names().chain(definitions)) {
-            None => problem.mend(format!("declare its number and sign: `list {text} = 7 +`")),
+            None => problem.mend(format!(
+                "declare its number and sign, as `list {text} = 7 +` if its certificates say what is in it, `list {text} = 7 -` if they say what is not"
+            )),
             meant => problem.meant(meant),
         }
     }
@@ -299,4 +304,9 @@ fn drawing(guard: &WrittenGuard, text: &str) -> Option<Drawn> {
     let WrittenKind::Draw(pattern, _) = &guard.kind else { return None };
     let name = pattern.terms.iter().find(|term| matches!(&term.kind, WrittenTermKind::Named(name) if name == text))?;
     Some(Drawn { name: name.span, guard: guard.span })
+}
+
+/// `K1`
+fn is_key_in_capitals(text: &str) -> bool {
+    text.strip_prefix('K').is_some_and(|number| !number.is_empty() && number.chars().all(|digit| digit.is_ascii_digit()))
 }

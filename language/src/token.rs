@@ -97,9 +97,10 @@ pub(crate) enum TokenKind {
     Differs,
     Plus,
     Minus,
-    /// Never right. What was meant depends on the place, as with the semicolon.
+    /// Never right. What was meant depends on the place, as with the two below.
     Colon,
     Semicolon,
+    And,
     /// None of ours, and complained of already.
     Strange,
     /// The end of the text.
@@ -139,15 +140,12 @@ const fn mistaken(written: &'static str, meant: &'static [TokenKind], rule: &'st
 }
 
 /// One that begins with another comes before it.
-const MISTAKEN: [Mistaken; 20] = [
+const MISTAKEN: [Mistaken; 17] = [
     mistaken("==", &[TokenKind::Equals], "same is written with one `=`", "write `=`"),
     mistaken(":=", &[TokenKind::Equals], "what a name stands for comes behind `=`", "write `=`"),
     mistaken("<>", &[TokenKind::Differs], "different is written `!=`", "write `!=`"),
     mistaken("/=", &[TokenKind::Differs], "different is written `!=`", "write `!=`"),
     mistaken("≠", &[TokenKind::Differs], "different is written `!=`", "write `!=`"),
-    mistaken("&&", &[TokenKind::Comma], "a comma stands between guards, and all of them must pass", "write `,`"),
-    mistaken("&", &[TokenKind::Comma], "a comma stands between guards, and all of them must pass", "write `,`"),
-    mistaken("∧", &[TokenKind::Comma], "a comma stands between guards, and all of them must pass", "write `,`"),
     mistaken("∪", &[TokenKind::Reserved(Word::Union)], "both together are written with `union`", "write `union`"),
     mistaken("∖", &[TokenKind::Reserved(Word::Minus)], "the difference is written with `minus`", "write `minus`"),
     mistaken("\\", &[TokenKind::Reserved(Word::Minus)], "the difference is written with `minus`", "write `minus`"),
@@ -162,7 +160,8 @@ const MISTAKEN: [Mistaken; 20] = [
     mistaken("]", &[TokenKind::RightBrace], "sets stand in braces, rows in parentheses", "write `}` for a set, `)` for a row"),
 ];
 
-const OURS: [(&str, TokenKind); 14] = [
+/// Those of the language, and those that the parser is to complain of.
+const SIGNS: [(&str, TokenKind); 17] = [
     ("!=", TokenKind::Differs),
     ("{", TokenKind::LeftBrace),
     ("}", TokenKind::RightBrace),
@@ -177,6 +176,9 @@ const OURS: [(&str, TokenKind); 14] = [
     ("−", TokenKind::Minus),
     (":", TokenKind::Colon),
     (";", TokenKind::Semicolon),
+    ("&&", TokenKind::And),
+    ("&", TokenKind::And),
+    ("∧", TokenKind::And),
 ];
 
 /// How comments begin in other languages.
@@ -282,7 +284,7 @@ impl Reader<'_> {
             self.at += length;
         } else if COMMENTS_ELSEWHERE.iter().any(|begin| self.rest().starts_with(begin)) {
             self.comment_elsewhere();
-        } else if let Some((text, kind)) = OURS.iter().find(|(text, _)| self.rest().starts_with(text)) {
+        } else if let Some((text, kind)) = SIGNS.iter().find(|(text, _)| self.rest().starts_with(text)) {
             self.token(*kind, text.len());
         } else if is_quote(letter) {
             self.quoted();
@@ -343,7 +345,7 @@ fn is_quote(letter: char) -> bool {
 /// Whether something that is not strange begins with it.
 fn is_known(letter: char) -> bool {
     let begins = |text: &str| text.starts_with(letter);
-    let of_a_sign = OURS.iter().any(|(text, _)| begins(text)) || MISTAKEN.iter().any(|sign| begins(sign.written));
+    let of_a_sign = SIGNS.iter().any(|(text, _)| begins(text)) || MISTAKEN.iter().any(|sign| begins(sign.written));
     of_a_sign || COMMENTS_ELSEWHERE.into_iter().any(begins) || is_quote(letter) || letter == '#'
 }
 

@@ -7,6 +7,7 @@ use crate::names::closest;
 use crate::problem::Problem;
 use crate::program::Program;
 use crate::say;
+use crate::syntax::StatementKind;
 use crate::tree::{Kind, List, Node, Whole};
 use std::collections::BTreeSet;
 use widths::Widths;
@@ -14,6 +15,7 @@ use widths::Widths;
 /// Of the definitions, known from the text alone.
 pub(crate) fn of_definitions(program: &Program) -> Vec<Problem> {
     let mut warnings = never_used(program);
+    warnings.extend(nothing_vetted(program));
     for (place, definition) in program.definitions.iter().enumerate() {
         warnings.extend(of_part(program, &definition.whole, place));
     }
@@ -30,6 +32,17 @@ fn of_part(program: &Program, whole: &Whole, available: usize) -> Vec<Problem> {
     let mut widths = Widths::of_text(program, available);
     widths.check(&whole.expression, &mut warnings);
     warnings
+}
+
+/// An external policy without compromised keys is taken as it is.
+fn nothing_vetted(program: &Program) -> Option<Problem> {
+    let external = program.file.statements.iter().find(|statement| statement.kind == StatementKind::External)?;
+    if program.definitions.is_empty() || program.compromised().is_some() {
+        return None;
+    }
+    let problem =
+        Problem::warning("no list is vetted: the first definition is not 0 −, the compromised keys").at(external.span, "the policy stays as it is");
+    Some(problem.mend("begin with `define compromised 0 - = ..`, or take `external` out"))
 }
 
 /// In a file with a query.

@@ -45,7 +45,7 @@ fn all_unknown_names_are_said_in_their_order() {
 
 #[test]
 fn names_of_another_kind() {
-    refused("list released = 1 +\nquery released", None, ["`released` is a list", "released", "k1.released"]);
+    refused("list released = 1 +\nquery released", None, ["`released` is a list", "released", "alma.released"]);
     refused("key alma = k1\nquery alma", None, ["`alma` is a key", "alma", "{ (alma) }"]);
     refused("query { (x) | (x) in k1.1+, (x) not in x }", None, ["`x` is a variable", "x", "x.1+"]);
     refused("list gone = 2 -\nquery k1.1+ vetted by gone", None, ["vetted by a definition", "gone", "define compromised - = k1.gone"]);

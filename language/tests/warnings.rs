@@ -332,3 +332,38 @@ fn many_rows_in_both_are_said_shortly() {
     let store = stored(&rows.collect::<Vec<_>>());
     warned_over("query k1.2+", &store, ["(1), (2), (3) and 2 more are certified in `k1.2+`", "k1.2+", ""]);
 }
+
+#[test]
+fn a_row_of_another_width_than_all_that_are_certified_absent() {
+    let query = "{ (x) | (x) in alma.released, (x) not in alma.withdrawn }";
+    let released = now(1, 1, Plus, [7]);
+    let wider = stored(&[released, now(1, 2, Minus, [7, 2027])]);
+    let said = ["only rows of 2 atoms are certified absent", "(x)", "write a row of 2 atoms"];
+    warned_over(&policy(&format!("query {query}")), &wider, said);
+    // the whole row is tested in format 2 too
+    warned_over(&policy(&format!("format 2\nquery {query}")), &wider, said);
+    silent_over(&policy(&format!("query {query}")), &stored(&[released, now(1, 2, Minus, [7, 2027]), now(1, 2, Minus, [8])]));
+}
+
+#[test]
+fn a_plus_list_of_which_no_certificate_holds() {
+    let text = policy("query { (x) | (x) in alma.released }");
+    let said = ["no certificate of `alma.released` holds at this minute", "alma.released", "ask at another minute"];
+    for (first, end) in [(0, 5), (6, 10)] {
+        warned_over(&text, &stored(&[(1, 1, Plus, Row::from([7]), holding(first, end))]), said);
+    }
+    silent_over(&text, &stored(&[(1, 1, Plus, Row::from([7]), holding(5, 6))]));
+    // of nothing that was ever certified nothing is said: a + list may be empty
+    silent_over(&text, &Store::new());
+    silent_over(&text, &stored(&[(2, 1, Plus, Row::from([7]), holding(0, 5))]));
+}
+
+#[test]
+fn an_external_policy_that_vets_nothing() {
+    let said = ["no list is vetted", "external", "`define compromised 0 - = ..`"];
+    warned("external\ndefine d + = k1.1+", said);
+    warned("external\ndefine d 0 + = k1.1+", said);
+    silent("external\ndefine bad 0 - = k8.5-\ndefine d + = k1.1+");
+    silent("external");
+    silent("define d + = k1.1+");
+}

@@ -130,6 +130,7 @@ pub struct InitArguments {
 
 #[derive(Args)]
 pub struct FileArguments {
+    /// The archive's file
     pub archive: PathBuf,
     /// Certificates or links as CSV (.csv) or JSON lines (.jsonl); - for standard input
     ///
@@ -171,6 +172,7 @@ pub struct QueryArguments {
 /// What is asked, of which archive.
 #[derive(Args)]
 pub struct AskedArguments {
+    /// The archive's file
     pub archive: PathBuf,
     /// A policy, as text
     pub policy: PathBuf,
@@ -208,6 +210,7 @@ pub enum Promise {
 
 #[derive(Args)]
 pub struct NamesArguments {
+    /// The archive's file
     pub archive: PathBuf,
     /// Take the names of keys and lists from this policy
     #[arg(long, value_name = "POLICY")]
@@ -218,6 +221,7 @@ pub struct NamesArguments {
 
 #[derive(Args)]
 pub struct LogArguments {
+    /// The archive's file
     pub archive: PathBuf,
     /// Take the names of keys and lists from this policy
     #[arg(long, value_name = "POLICY")]
@@ -249,6 +253,7 @@ pub struct CiteArguments {
 
 #[derive(Args)]
 pub struct VerifyArguments {
+    /// The archive's file
     pub archive: PathBuf,
     /// The policy that was cited, as text
     pub policy: PathBuf,

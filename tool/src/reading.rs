@@ -22,14 +22,16 @@ use txindurbe_language::Names;
 
 /// kN, or a name that the policy declares.
 pub fn key(names: &Names, text: &str) -> Result<Key, String> {
-    numbered_key(text).or_else(|| names.key(text)).ok_or_else(|| unknown(names, "key", text, "write kN, or name a policy that declares it"))
+    numbered_key(text)
+        .or_else(|| names.key(text))
+        .ok_or_else(|| unknown(names, "key", text, "write kN, or give the policy that declares it (--names)"))
 }
 
 /// `1+`, `2-`, or a name that the policy declares.
 pub fn list(names: &Names, text: &str) -> Result<(u16, Polarity), String> {
     numbered_list(text)
         .or_else(|| names.list(text))
-        .ok_or_else(|| unknown(names, "list", text, "write its number and sign as 1+ or 2-, or name a policy that declares it"))
+        .ok_or_else(|| unknown(names, "list", text, "write its number and sign as 1+ or 2-, or give the policy that declares it (--names)"))
 }
 
 /// A number below 2^31, or a key.
@@ -43,7 +45,12 @@ pub fn atom(names: &Names, text: &str) -> Result<Atom, String> {
 
 /// `7`, `7 2027`, `(7, 2027)`.
 pub fn row(names: &Names, text: &str) -> Result<Row, String> {
-    let inside = text.trim().strip_prefix('(').and_then(|rest| rest.strip_suffix(')')).unwrap_or(text);
+    let text = text.trim();
+    let inside = match (text.strip_prefix('('), text.strip_suffix(')')) {
+        (Some(rest), Some(_)) => rest.strip_suffix(')').unwrap_or(rest),
+        (None, None) => text,
+        _ => return Err(format!("{text:?} has one parenthesis: write a row as (7, 2027)")),
+    };
     let atoms = inside.split([' ', ',']).filter(|part| !part.is_empty()).map(|part| atom(names, part));
     let atoms: Vec<Atom> = atoms.collect::<Result<_, String>>()?;
     Row::try_from(atoms.as_slice()).map_err(|_| format!("a row has one to four atoms, and {text:?} has {}", atoms.len()))

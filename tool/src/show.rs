@@ -8,6 +8,9 @@ use codespan_reporting::term::{self, Config};
 use std::io::IsTerminal;
 use txindurbe_language::{Label, Problem, Severity, Sources};
 
+/// Of one text: who has mended these sees the others.
+const MOST_SHOWN: usize = 20;
+
 pub struct Show {
     colour: ColorChoice,
 }
@@ -27,8 +30,11 @@ impl Show {
         for source in &sources.texts {
             files.add(&source.name, &source.text);
         }
-        for problem in problems {
+        for problem in problems.iter().take(MOST_SHOWN) {
             self.emit(&files, &diagnostic(problem));
+        }
+        if let Some(more) = problems.len().checked_sub(MOST_SHOWN).filter(|more| *more > 0) {
+            self.error(&format!("and {more} more like these"));
         }
     }
 

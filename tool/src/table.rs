@@ -200,7 +200,7 @@ impl Shown<'_> {
         object.insert("archive".into(), json!(self.archive));
         object.insert("point".into(), json!(self.point));
         object.insert("minute".into(), json!(self.minute.number()));
-        object.insert("date".into(), json!(When(self.minute).to_string()));
+        object.insert("date".into(), json!(self.minute.date().is_ok().then(|| When(self.minute).to_string())));
         writeln!(out, "{}", Value::Object(object))
     }
 

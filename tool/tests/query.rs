@@ -111,7 +111,7 @@ fn a_promise_that_is_not_made_is_refused() {
             assert_eq!((ran.status, ran.out.is_empty(), ran.err.is_empty()), (expected, expected == 1, expected == 0), "{expression} {required}");
         }
     }
-    let ran = folder.run(&["query", "a", "p.qcm", "--require", "upper"]);
+    let ran = folder.run(&["query", "a", "p.qcm", "--minute", "5", "--require", "upper"]);
     assert!(
         ran.err.starts_with("error: the answer would be lower, and not upper or exact: its rows certainly belong, and others may.\n"),
         "{}",

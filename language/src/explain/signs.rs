@@ -107,7 +107,7 @@ pub(crate) fn not_as_declared(program: &Program, definition: &Definition) -> Opt
 
 /// What should stand in the place of a leaf of the wrong polarity.
 fn polarity_mend(fault: &Fault) -> String {
-    let absent = "certificates must say what is NOT in it; declare the list with - if observatories certify what is absent";
+    let absent = "one of which certificates say what is NOT in it (the − list of this number is another list than the + list)";
     let is_list = matches!(fault.leaf.kind, Kind::List(List { origin: Origin::Certificates, .. }));
     match (fault.used, fault.needed) {
         (Used::Absent(_), Polarity::Minus) if is_list => format!("`not in` needs a − list: {absent}"),

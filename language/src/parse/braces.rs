@@ -2,42 +2,42 @@
 
 use super::mistakes::{self, Separated};
 use super::{bare, begins_a_term, Parsed, Parser};
-use crate::syntax::{Expression, ExpressionKind, Guard, Row, Span};
+use crate::syntax::{Expression, ExpressionKind, Guard, Row};
 use crate::token::{TokenKind, Word};
 
 impl Parser<'_> {
     /// Rows, or a comprehension.
     pub(super) fn braces(&mut self) -> Parsed<Expression> {
-        let open = self.take();
+        self.open();
         if self.kind() == TokenKind::RightBrace {
-            return Ok(self.close(open, ExpressionKind::Rows(Vec::new())));
+            return Ok(self.closed(ExpressionKind::Rows(Vec::new())));
         }
         if self.kind() == TokenKind::Bar {
             return self.fail(mistakes::no_head(self.span()));
         }
         let first = self.head_or_row()?;
         match self.kind() {
-            TokenKind::Bar => self.take_bar_and_guards(open, first),
+            TokenKind::Bar => self.take_bar_and_guards(first),
             TokenKind::Colon => {
                 self.complain(mistakes::colon_for_bar(self.span()));
-                self.take_bar_and_guards(open, first)
+                self.take_bar_and_guards(first)
             }
             TokenKind::Reserved(Word::In | Word::Not) => {
                 self.complain(mistakes::no_head_but_guard(first.span, self.text_of(first.span).trim_matches(['(', ')'])));
-                self.guards(open, first.clone(), Some(first))
+                self.guards(first.clone(), Some(first))
             }
             TokenKind::LeftParenthesis | TokenKind::Name if self.guard_follows() => {
                 self.complain(mistakes::no_bar(self.behind_last()));
-                self.guards(open, first, None)
+                self.guards(first, None)
             }
-            _ => self.rows(open, first),
+            _ => self.rows(first),
         }
     }
 
-    fn take_bar_and_guards(&mut self, open: Span, mut head: Row) -> Parsed<Expression> {
+    fn take_bar_and_guards(&mut self, mut head: Row) -> Parsed<Expression> {
         self.take();
         self.settle(&mut head.comments);
-        self.guards(open, head, None)
+        self.guards(head, None)
     }
 
     /// Whether a row or a term follows, and then what makes it a guard.
@@ -51,27 +51,31 @@ impl Parser<'_> {
         matches!(next, Some(TokenKind::Reserved(Word::In | Word::Not) | TokenKind::Equals | TokenKind::Differs))
     }
 
-    fn rows(&mut self, open: Span, first: Row) -> Parsed<Expression> {
+    fn rows(&mut self, first: Row) -> Parsed<Expression> {
         let mut complained = self.is_loose(&first);
         let mut rows = Vec::new();
         let mut row = first;
-        while self.another(open, Separated::Rows)? {
+        while self.another(Separated::Rows)? {
             self.settle(&mut row.comments);
             rows.push(row);
             row = self.row_of_set(complained)?;
             complained |= self.is_loose(&row);
-            if rows.len() == 1 && matches!(self.kind(), TokenKind::Reserved(Word::In | Word::Not)) {
-                self.complain(mistakes::comma_for_bar(rows[0].span.to(row.span)));
-                return self.guards(open, rows.remove(0), Some(row));
+            match self.kind() {
+                TokenKind::Bar | TokenKind::Colon => return self.fail(mistakes::several_heads(rows[0].span.to(row.span))),
+                TokenKind::Reserved(Word::In | Word::Not) if rows.len() == 1 => {
+                    self.complain(mistakes::comma_for_bar(rows[0].span.to(row.span)));
+                    return self.guards(rows.remove(0), Some(row));
+                }
+                _ => {}
             }
         }
         self.settle(&mut row.comments);
         rows.push(row);
-        Ok(self.close(open, ExpressionKind::Rows(rows)))
+        Ok(self.closed(ExpressionKind::Rows(rows)))
     }
 
     /// `drawn` is the first guard's row, if that has been read.
-    fn guards(&mut self, open: Span, head: Row, mut drawn: Option<Row>) -> Parsed<Expression> {
+    fn guards(&mut self, head: Row, mut drawn: Option<Row>) -> Parsed<Expression> {
         let mut guards: Vec<Guard> = Vec::new();
         let mut height = 0;
         let mut more = drawn.is_some() || self.kind() != TokenKind::RightBrace;
@@ -82,39 +86,35 @@ impl Parser<'_> {
                 None => self.guard()?,
             };
             height = height.max(self.height);
-            more = self.another(open, Separated::Guards)?;
+            more = self.another(Separated::Guards)?;
             self.settle(&mut guard.comments);
             guards.push(guard);
         }
         self.height = height + 1;
-        Ok(self.close(open, ExpressionKind::Each { head, guards }))
+        Ok(self.closed(ExpressionKind::Each { head, guards }))
     }
 
     /// The next token is the closing brace.
-    fn close(&mut self, open: Span, kind: ExpressionKind) -> Expression {
+    fn closed(&mut self, kind: ExpressionKind) -> Expression {
         let comments_at_end = self.comments_before();
-        let span = open.to(self.take());
-        Expression { comments_at_end, ..bare(kind, span) }
+        Expression { comments_at_end, ..bare(kind, self.close()) }
     }
 
     /// Behind one of several things: whether another one follows. If not, what closes them does.
-    pub(super) fn another(&mut self, open: Span, what: Separated) -> Parsed<bool> {
+    pub(super) fn another(&mut self, what: Separated) -> Parsed<bool> {
         let problem = match self.kind() {
             kind if kind == what.closing() => return Ok(false),
             TokenKind::Comma => None,
             TokenKind::Semicolon => Some(mistakes::semicolon_for_comma(self.span())),
-            TokenKind::Name if what != Separated::Terms && mistakes::is_and_or(self.spelling()) => {
-                Some(mistakes::and_or(self.span(), self.spelling()))
+            TokenKind::Name | TokenKind::And if what != Separated::Terms && mistakes::is_and_or(self.spelling()) => {
+                Some(mistakes::and_or(what, self.span(), self.spelling()))
             }
             TokenKind::Bar if what == Separated::Guards => Some(mistakes::second_bar(self.span())),
-            TokenKind::Bar | TokenKind::Colon if what == Separated::Rows => {
-                return self.fail(mistakes::several_heads(open.to(self.last())));
-            }
             _ if self.another_begins(what) => {
                 self.complain(mistakes::no_comma(what, self.behind_last()));
                 return Ok(true);
             }
-            _ => return self.not_closed(open, what),
+            _ => return self.not_closed(what),
         };
         self.problems.extend(problem);
         let separator = self.take();
@@ -138,7 +138,8 @@ impl Parser<'_> {
     }
 
     /// Fails: something is open that neither ends nor goes on here.
-    pub(super) fn not_closed<T>(&mut self, open: Span, what: Separated) -> Parsed<T> {
+    pub(super) fn not_closed<T>(&mut self, what: Separated) -> Parsed<T> {
+        let open = self.open.last().copied().unwrap_or(self.span());
         let problem = if self.is_end_of_statement() {
             mistakes::not_closed(open, self.behind_last(), what)
         } else {

@@ -94,25 +94,24 @@ impl Parser<'_> {
     }
 
     fn in_parentheses(&mut self) -> Parsed<Expression> {
-        let open = self.take();
-        if self.is_row_inside() {
-            let close = self.tokens[self.next..].iter().find(|token| token.kind == TokenKind::RightParenthesis).map_or(open, |token| token.span);
-            return self.fail(mistakes::row_for_set(open.to(close), self.text_of(open.to(close))));
+        if self.is_row() {
+            let row = self.row()?;
+            self.complain(mistakes::row_for_set(row.span, self.text_of(row.span)));
+            return Ok(bare(ExpressionKind::Rows(Vec::new()), row.span));
         }
+        self.open();
         let expression = self.expression()?;
-        match self.kind() {
-            TokenKind::RightParenthesis => {
-                self.take();
-                Ok(expression)
-            }
-            _ => self.not_closed(open, Separated::Operands),
+        if self.kind() != TokenKind::RightParenthesis {
+            return self.not_closed(Separated::Operands);
         }
+        self.close();
+        Ok(expression)
     }
 
-    /// Behind an opening parenthesis: whether what follows can only be a row.
-    fn is_row_inside(&self) -> bool {
-        let next = self.kind_after(1);
-        match self.kind() {
+    /// At an opening parenthesis: whether what it holds can only be a row.
+    fn is_row(&self) -> bool {
+        let next = self.kind_after(2);
+        match self.kind_after(1) {
             TokenKind::Number | TokenKind::Key | TokenKind::Any => next != TokenKind::Dot,
             TokenKind::Name => next == TokenKind::Comma,
             _ => false,
@@ -132,7 +131,7 @@ impl Parser<'_> {
         })
     }
 
-    fn list_behind_dot(&mut self) -> Parsed<List> {
+    pub(super) fn list_behind_dot(&mut self) -> Parsed<List> {
         match self.kind() {
             TokenKind::Name => Ok(List::Named(Identifier { text: self.spelling().to_string(), span: self.take() })),
             TokenKind::Number => {

@@ -84,18 +84,24 @@ pub(super) const A_TERM: Expected = rule("a term is expected", "write a number, 
 pub(super) const A_GUARD: Expected = rule("a guard is expected", "write `(x) in ..`, `(x) not in ..`, `x = 7` or `x != 7`");
 pub(super) const IN: Expected = rule("a row in a guard is followed by `in` or `not in` and a set", "write `(x) in ..` or `(x) not in ..`");
 
-/// What was likely meant by a word or a sign that is none of ours: other languages have it, or it is one of ours in capitals.
-fn meant(token: &Token, text: &str) -> Option<String> {
+/// A name that is a word of the language but for its capitals.
+fn in_capitals(token: &Token, text: &str) -> Option<String> {
+    let word = Word::in_small_letters(text).filter(|_| token.kind == TokenKind::Name)?;
+    Some(format!("the words of the language are written in small letters: `{}`", word.text()))
+}
+
+/// What was likely meant behind a set by a word or a sign of another language.
+fn meant_behind_set(token: &Token, text: &str) -> Option<String> {
     let meant = match text.to_ascii_lowercase().as_str() {
-        "or" | "plus" | "|" | "+" => "for the rows of both write `union`",
+        "or" | "plus" => "for the rows of both write `union`",
+        "+" => "for the rows of both write `union`; a definition's sign is said where it is defined",
+        "|" => "for the rows of both write `union`; a comprehension stands in braces: `{ (x) | (x) in .. }`",
+        "vetted" => "only a key's list is vetted, and each by itself: `alma.released vetted by compromised`",
         "except" | "without" | "less" | "-" => "for the rows of one that are not in the other write `minus`",
-        "and" | "intersect" | "intersection" => "for the rows that are in both write `{ (x) | (x) in .., (x) in .. }`",
+        "and" | "&" | "&&" | "∧" | "intersect" | "intersection" => "for the rows that are in both write `{ (x) | (x) in .., (x) in .. }`",
         "where" | "if" | "such" => "guards stand behind `|`: `{ (x) | (x) in alma.released, x != 7 }`",
         "is" | "isin" | "notin" => "write `in` or `not in`",
-        _ => {
-            let word = Word::in_small_letters(text).filter(|_| token.kind == TokenKind::Name)?;
-            return Some(format!("the words of the language are written in small letters: `{}`", word.text()));
-        }
+        _ => return in_capitals(token, text),
     };
     Some(meant.to_string())
 }
@@ -106,14 +112,20 @@ pub(super) fn expected(what: &Expected, token: &Token, text: &str) -> Problem {
         TokenKind::End => "the text ends here".to_string(),
         _ => format!("not `{text}`"),
     };
-    let mend = meant(token, text).unwrap_or_else(|| what.mend.to_string());
+    let mend = in_capitals(token, text).unwrap_or_else(|| what.mend.to_string());
     Problem::error(what.rule).at(token.span, label).mend(mend)
+}
+
+/// The same where the statement ends although something is open.
+pub(super) fn also_open(problem: Problem, open: Span, bracket: &str) -> Problem {
+    let name = if bracket == "(" { "parenthesis" } else { "brace" };
+    problem.at(open, format!("the {name} opened here is not closed"))
 }
 
 // ---- statements
 
 pub(super) fn no_statement(token: &Token, text: &str, next: TokenKind) -> Problem {
-    let mend = meant(token, text).unwrap_or_else(|| match (token.kind, next) {
+    let mend = in_capitals(token, text).unwrap_or_else(|| match (token.kind, next) {
         (TokenKind::Name, TokenKind::Equals) => {
             format!("write `key {text} = ..` for a key, `list {text} = ..` for a list, `define {text} + = ..` for a definition")
         }
@@ -259,16 +271,19 @@ pub(super) fn semicolon_for_comma(span: Span) -> Problem {
 }
 
 pub(super) fn is_and_or(text: &str) -> bool {
-    matches!(text.to_ascii_lowercase().as_str(), "and" | "or")
+    matches!(text.to_ascii_lowercase().as_str(), "and" | "or" | "&" | "&&" | "∧")
 }
 
-pub(super) fn and_or(span: Span, text: &str) -> Problem {
-    if text.eq_ignore_ascii_case("or") {
+pub(super) fn and_or(what: Separated, span: Span, text: &str) -> Problem {
+    if what == Separated::Guards && text.eq_ignore_ascii_case("or") {
         let problem = Problem::error("all guards of a comprehension must pass").at(span, "guards cannot be alternatives");
-        problem.mend("write one comprehension for each and join them: `{ .. } union { .. }`")
-    } else {
-        Problem::error("guards are separated by commas, and all of them must pass").at(span, format!("not `{text}`")).mend("write `,`")
+        return problem.mend("write one comprehension for each and join them: `{ .. } union { .. }`");
     }
+    let rule = match what {
+        Separated::Guards => "guards are separated by commas, and all of them must pass".to_string(),
+        _ => format!("{} are separated by commas", what.text()),
+    };
+    Problem::error(rule).at(span, format!("not `{text}`")).mend("write `,`")
 }
 
 pub(super) fn not_closed(open: Span, here: Span, what: Separated) -> Problem {
@@ -283,9 +298,12 @@ pub(super) fn not_expected_inside(token: &Token, text: &str, open: Span, what: S
         Separated::Operands => format!("`union`, `minus` or `{closing}` is expected"),
         _ => format!("a comma or `{closing}` is expected"),
     };
-    let mend = meant(token, text).unwrap_or_else(|| match (what, token.kind) {
+    let behind_set = matches!(what, Separated::Guards | Separated::Operands);
+    let likely = if behind_set { meant_behind_set(token, text) } else { in_capitals(token, text) };
+    let mend = likely.unwrap_or_else(|| match (what, token.kind) {
         (Separated::Operands, TokenKind::Comma) => "write `{ (..) }` if a row is meant".to_string(),
-        (Separated::Guards, TokenKind::Name | TokenKind::Key | TokenKind::Number) => WITH_A_DOT.to_string(),
+        (Separated::Guards, TokenKind::Name) => WITH_A_DOT.to_string(),
+        (Separated::Terms, TokenKind::Dot) => "a row has numbers, which are whole, keys and names, and no lists".to_string(),
         _ => format!("write `{closing}` before it"),
     });
     let problem = Problem::error(rule).at(token.span, format!("not `{text}`"));
@@ -298,14 +316,16 @@ const WITH_A_DOT: &str = "a key's list is written with a dot, `alma.released`";
 
 /// What stands behind an expression that is whole.
 pub(super) fn behind_expression(token: &Token, text: &str) -> Problem {
-    let mend = meant(token, text).unwrap_or_else(|| {
+    let mend = meant_behind_set(token, text).unwrap_or_else(|| {
         let mend = match token.kind {
             TokenKind::Reserved(Word::In | Word::Not) | TokenKind::Equals | TokenKind::Differs => {
                 "guards stand in a comprehension: `{ (x) | (x) in alma.released, x != 7 }`"
             }
             TokenKind::RightBrace | TokenKind::RightParenthesis => NOTHING_OPEN,
             TokenKind::Name => WITH_A_DOT,
-            TokenKind::Comma => "sets are joined by `union`",
+            TokenKind::Comma | TokenKind::LeftBrace | TokenKind::LeftParenthesis | TokenKind::Key | TokenKind::Reserved(Word::All) => {
+                "sets are joined by `union`"
+            }
             _ => "take it out",
         };
         mend.to_string()
@@ -314,7 +334,7 @@ pub(super) fn behind_expression(token: &Token, text: &str) -> Problem {
 }
 
 pub(super) fn too_deep(span: Span, deepest: usize) -> Problem {
-    let problem = Problem::error("an expression stands at depth 15 at most, each one directly inside another one deeper").refused(5);
+    let problem = Problem::error("an expression stands at depth 15 at most, each one directly inside another one deeper");
     problem.at(span, format!("over {deepest} stand inside one another here")).mend("give the inner ones a name with `define`")
 }
 
@@ -434,10 +454,10 @@ pub(super) fn list_in_braces(span: Span, list: &str) -> Problem {
 
 pub(super) fn compared_in_parentheses(span: Span) -> Problem {
     let problem = Problem::error("`=` and `!=` compare two terms, not rows").at(span, "a row");
-    problem.mend("write the terms without parentheses: `x = 7`, each pair by a guard of its own")
+    problem.mend("write the terms without parentheses, as `x != 7`, and each pair by a guard of its own")
 }
 
-pub(super) fn compared_with_list(span: Span) -> Problem {
+pub(super) fn compared_with_list(span: Span, list: &str) -> Problem {
     let problem = Problem::error("`=` and `!=` compare two terms, not sets").at(span, "a list");
-    problem.mend("write `(x) in alma.released` or `(x) not in alma.released`")
+    problem.mend(format!("write `(x) in {list}` or `(x) not in {list}`"))
 }

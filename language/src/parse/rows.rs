@@ -23,8 +23,10 @@ impl Parser<'_> {
         let row = match self.kind() {
             TokenKind::LeftParenthesis => self.row()?,
             kind if begins_a_term(kind) && self.kind_after(1) == TokenKind::Dot => {
-                let list = self.span().to(self.tokens[(self.next + 2).min(self.tokens.len() - 1)].span);
-                return self.fail(mistakes::list_in_braces(list, self.text_of(list)));
+                let issuer = self.take();
+                let list = self.list_from(issuer)?;
+                self.complain(mistakes::list_in_braces(list, self.text_of(list)));
+                return Err(Failed);
             }
             kind if begins_a_term(kind) => self.loose_term()?,
             _ => return self.expected(&mistakes::A_ROW),
@@ -41,20 +43,17 @@ impl Parser<'_> {
 
     /// `(7, alma)`
     pub(super) fn row(&mut self) -> Parsed<Row> {
-        let open = self.take();
+        self.open();
         let mut terms = Vec::new();
-        if self.kind() == TokenKind::RightParenthesis {
-            let span = open.to(self.span());
-            self.complain(mistakes::empty_row(span));
-        } else {
-            loop {
-                terms.push(self.term()?);
-                if !self.another(open, Separated::Terms)? {
-                    break;
-                }
-            }
+        let mut more = self.kind() != TokenKind::RightParenthesis;
+        while more {
+            terms.push(self.term()?);
+            more = self.another(Separated::Terms)?;
         }
-        let span = open.to(self.take());
+        let span = self.close();
+        if terms.is_empty() {
+            self.complain(mistakes::empty_row(span));
+        }
         Ok(Row { terms, span, comments: Comments::default() })
     }
 
@@ -189,8 +188,9 @@ impl Parser<'_> {
     fn comparison(&mut self, start: Span, left: Term) -> Parsed<Guard> {
         let same = match self.kind() {
             TokenKind::Dot => {
-                self.take();
-                return self.fail(mistakes::guard_without_row(start.to(self.span()), self.text_of(start.to(self.span()))));
+                let list = self.list_from(start)?;
+                self.complain(mistakes::guard_without_row(list, self.text_of(list)));
+                return Err(Failed);
             }
             TokenKind::Equals => true,
             TokenKind::Differs => false,
@@ -199,12 +199,20 @@ impl Parser<'_> {
         self.take();
         let right = if self.kind() == TokenKind::LeftParenthesis { self.compared_row()? } else { self.term()? };
         if self.kind() == TokenKind::Dot {
-            self.take();
-            return self.fail(mistakes::compared_with_list(right.span.to(self.span())));
+            let list = self.list_from(right.span)?;
+            self.complain(mistakes::compared_with_list(list, self.text_of(list)));
+            return Err(Failed);
         }
         let span = start.to(self.last());
         let kind = if same { GuardKind::Same(left, right) } else { GuardKind::Different(left, right) };
         Ok(Guard { kind, span, comments: Comments::default() })
+    }
+
+    /// A list where a term was expected; the next token is its dot.
+    fn list_from(&mut self, issuer: Span) -> Parsed<Span> {
+        self.take();
+        self.list_behind_dot()?;
+        Ok(issuer.to(self.last()))
     }
 
     /// A row where a term was expected.

@@ -395,7 +395,9 @@ fn commas() {
     let rule = "a comma or `}` is expected";
     says("query ‹{› (x) | (x) in alma «released» }", rule, "not `released`", "a key's list is written with a dot, `alma.released`");
     says("query ‹{› (7) «=» }", rule, "not `=`", "write `}` before it");
-    says("query { ‹(›7«.»8) }", "a comma or `)` is expected", "not `.`", "write `)` before it");
+    let mend = "a row has numbers, which are whole, keys and names, and no lists";
+    says("query { ‹(›7«.»8) }", "a comma or `)` is expected", "not `.`", mend);
+    says("query { (7) «and» (8) }", "rows are separated by commas", "not `and`", "write `,`");
 }
 
 #[test]
@@ -407,7 +409,6 @@ fn words_and_signs_of_other_languages() {
     let rule = "guards are separated by commas, and all of them must pass";
     says("query { (x) | (x) in a «and» (x) in b }", rule, "not `and`", "write `,`");
     says("query { (x) | x = 7 «AND» (x) in b }", rule, "not `AND`", "write `,`");
-    let rule = "a comma stands between guards, and all of them must pass";
     for sign in ["&&", "&", "∧"] {
         says(&format!("query {{ (x) | (x) in a «{sign}» (x) in b }}"), rule, &format!("not `{sign}`"), "write `,`");
     }
@@ -423,12 +424,20 @@ fn words_and_signs_of_other_languages() {
     says("key alma «:=» k1", "what a name stands for comes behind `=`", "not `:=`", "write `=`");
     let rule = "an expression ends here, or goes on with `union` or `minus`";
     says("query a «and» b", rule, "not `and`", "for the rows that are in both write `{ (x) | (x) in .., (x) in .. }`");
+    says("query a «&» b", rule, "not `&`", "for the rows that are in both write `{ (x) | (x) in .., (x) in .. }`");
     says("query a «or» b", rule, "not `or`", "for the rows of both write `union`");
     says("query a «except» b", rule, "not `except`", "for the rows of one that are not in the other write `minus`");
-    says("query a «|» b", rule, "not `|`", "for the rows of both write `union`");
+    says("query a «|» b", rule, "not `|`", "for the rows of both write `union`; a comprehension stands in braces: `{ (x) | (x) in .. }`");
+    says(
+        "query { (7) } «vetted» by b",
+        rule,
+        "not `vetted`",
+        "only a key's list is vetted, and each by itself: `alma.released vetted by compromised`",
+    );
     says("query a«,» b", rule, "not `,`", "sets are joined by `union`");
     says("query alma «released»", rule, "not `released`", "a key's list is written with a dot, `alma.released`");
     says("query (x) «in» a", rule, "not `in`", "guards stand in a comprehension: `{ (x) | (x) in alma.released, x != 7 }`");
+    says("query {} «{» (7) }", rule, "not `{`", "sets are joined by `union`");
     says("query {}«}»", rule, "not `}`", "nothing is open that it could close: take it out");
     says("query «\"alma\"».released", "names are written without quotes, and there are no other texts", "in quotes", "leave the quotes out");
     says("query {} «// all»", "a comment begins with `#` and goes to the end of the line", "read as a comment", "begin it with `#`");
@@ -478,12 +487,8 @@ fn declarations() {
     says("key a = «b»", "a key is written k and its number", "not `b`", "write `key alma = k1`");
     says("key a«» k1", "a key's name is followed by `=` and the key", "`=` is missing here", "write `key alma = k1`");
     says("key «=» k1", "`key` is followed by a name", "not `=`", "write `key alma = k1`");
-    says(
-        "key a = k1 «and» b = k2",
-        "behind a key comes a comma and another one, or the next statement",
-        "not `and`",
-        "for the rows that are in both write `{ (x) | (x) in .., (x) in .. }`",
-    );
+    says("key a = k1 «and» b = k2", "behind a key comes a comma and another one, or the next statement", "not `and`", "write `,` between two keys");
+    says("define «+» = {}", "`define` is followed by a name", "not `+`", "write `define public + = ..`");
     says("list a = «k1» +", "a list has a number from 0 to 65,535", "not `k1`", "write `list released = 1 +`");
     says("list a«» 1 +", "a list's name is followed by `=`, its number and its sign", "`=` is missing here", "write `list released = 1 +`");
     says("define a +«» {}", "a definition's sign is followed by `=` and what it stands for", "`=` is missing here", "write `define public + = ..`");
@@ -517,8 +522,16 @@ fn brackets_that_are_not_closed() {
     says("query «{» (7)‹›", rule, "opened here", "write `}`");
     let rule = "a parenthesis that is opened must be closed";
     says("query «(»a union b‹›", rule, "opened here", "write `)`");
+    let mend = "write its terms in parentheses: `(7)`, `(alma, x)`";
+    says("query ‹{›«»", "a row is expected", "the text ends here", mend);
+    says("query ‹{› (7),\n«query» {}", "a row is expected", "the next statement begins here", mend);
+    let mend = "write a number, a key, `k1`, or the name of a key or a variable";
+    says("query { ‹(›7,«»", "a term is expected", "the text ends here", mend);
+    let mend = "write rows, `{ (7) }`, a definition's name, or a key's list, `alma.released`";
+    says("query ‹{› (x) | (x) in«»", "a set is expected", "the text ends here", mend);
     says("query { «(»7‹›\nexternal", rule, "opened here", "write `)`");
     says("query { ‹(›x «}»", "a comma or `)` is expected", "not `}`", "write `)` before it");
+    says("query { ‹(›x «|» (x) in a }", "a comma or `)` is expected", "not `|`", "write `)` before it");
     says("query ‹(›a «}»", "`union`, `minus` or `)` is expected", "not `}`", "write `)` before it");
     says("query «[» (7) }", "sets stand in braces, rows in parentheses", "not `[`", "write `{` for a set, `(` for a row");
 }
@@ -536,7 +549,7 @@ fn comprehensions() {
     let mend = "write the row to be shown before it: `{ (o, x) | (o, x) in .. }`";
     says("query { «(o, x)» in a }", "a comprehension has a row and `|` before its guards, its head", "a guard begins here", mend);
     let mend = "write one row, as `{ (o, x) | .. }`, or join comprehensions by `union`";
-    says("query «{ (x), (y)» | (x, y) in a }", "a comprehension has one row before `|`, its head", "several rows", mend);
+    says("query { «(x), (y)» | (x, y) in a }", "a comprehension has one row before `|`, its head", "several rows", mend);
     says(
         "query «all» { (7) }",
         "all rows but some are written `all but { (7) }`",
@@ -554,11 +567,11 @@ fn guards() {
     says("query { (x) | (x) «in not» a }", "absent is written `not in`", "the wrong way round", "write `not in`");
     let mend = "write `(x) not in ..`, or `x != ..` to compare terms";
     says("query { (x) | «not» (x) in a }", "`not` stands behind the row, before `in`", "before the row", mend);
-    let mend = "write the terms without parentheses: `x = 7`, each pair by a guard of its own";
+    let mend = "write the terms without parentheses, as `x != 7`, and each pair by a guard of its own";
     says("query { (x) | «(x)» = 7 }", "`=` and `!=` compare two terms, not rows", "a row", mend);
     says("query { (x) | x != «(7)» }", "`=` and `!=` compare two terms, not rows", "a row", mend);
     let rule = "`=` and `!=` compare two terms, not sets";
-    says("query { (x) | x = «a.b» }", rule, "a list", "write `(x) in alma.released` or `(x) not in alma.released`");
+    says("query { (x) | x = «a.b» }", rule, "a list", "write `(x) in a.b` or `(x) not in a.b`");
     says("query { (x) | «a.b» }", "a guard on a set has a row before it", "a list alone", "write `(x) in a.b` or `(x) not in a.b`");
     let mend = "write `(x) in ..`, `(x) not in ..`, `x = 7` or `x != 7`";
     says("query { (x) | x «}»", "a guard is expected", "not `}`", mend);
@@ -577,6 +590,8 @@ fn sets() {
     says("query «7»", "a set is expected", "a number", "write `{ (7) }` for the set of this row");
     let mend = "write `a.b` without braces, or `{ (x) | (x) in a.b }`";
     says("query { «a.b» }", "braces hold rows, and a list is a set already", "a list", mend);
+    let mend = "write `a.2-` without braces, or `{ (x) | (x) in a.2- }`";
+    says("query { «a.2-» }", "braces hold rows, and a list is a set already", "a list", mend);
     let mend = "write its name, `alma.released`, or its number and sign, `alma.1+`";
     says("query alma.«{»}", "behind a key's dot comes its list", "not `{`", mend);
     let mend = "write `(a union b) minus c` or `a union (b minus c)`";
@@ -608,8 +623,8 @@ fn many_mistakes_in_one_run() {
             "a list has a sign: the + list and the − list of one number are two lists",
             "a statement begins with `format`, `external`, `our key`, `key`, `list`, `define` or `query`",
             "a set is expected",
-            "a comprehension has one row before `|`, its head",
             "a row is written in parentheses",
+            "a comprehension has one row before `|`, its head",
             "rows are separated by commas",
             "same is written with one `=`",
             "a set is expected",
@@ -662,7 +677,7 @@ fn deep_nesting_is_refused() {
         for count in [1_000, 100_000] {
             let problems = parse_expression(&sources(&text(count)), 0).expect_err(what);
             let [problem] = &problems[..] else { panic!("{what}: {}", problems.len()) };
-            assert_eq!(problem.refusal, Some(5), "{what}");
+            assert_eq!(problem.refusal, None, "{what}");
             assert_eq!(problem.message, "an expression stands at depth 15 at most, each one directly inside another one deeper");
             assert_eq!(problem.labels[0].text, "over 50 stand inside one another here");
         }

@@ -1,14 +1,14 @@
 //! Warnings that need the certificates: what nobody certified, at this minute.
 
 use super::used_definitions;
-use super::widths::{not_matched, Set, Widths};
+use super::widths::{atoms, not_matched, Set, Widths};
 use crate::evidence::Evidence;
 use crate::names::sign;
 use crate::problem::Problem;
 use crate::program::Program;
 use crate::say;
-use crate::syntax::Polarity;
-use crate::tree::{GuardKind, Kind, List, Node, Origin, TermKind, Whole};
+use crate::syntax::{Polarity, Span};
+use crate::tree::{GuardKind, Kind, List, Node, Origin, Row as Written, TermKind, Whole};
 use std::collections::{BTreeMap, BTreeSet};
 use txindurbe::{Key, Name, Row};
 
@@ -19,6 +19,8 @@ pub(crate) fn over(program: &Program, asked: &Whole, evidence: &Evidence) -> Vec
         used.into_iter().map(|place| &program.definitions[place].whole).chain([asked]).flat_map(|whole| whole.expression.all()).collect();
     let mut warnings = uncertified(program, &asked.expression, evidence);
     warnings.extend(unmatched(program, &nodes, evidence));
+    warnings.extend(never_absent(&nodes, evidence));
+    warnings.extend(none_holds(&nodes, evidence));
     warnings.extend(twins(program, &nodes, evidence));
     say::in_order(warnings)
 }
@@ -142,6 +144,47 @@ fn unmatched(program: &Program, nodes: &[&Node], evidence: &Evidence) -> Vec<Pro
         }
     }
     warnings
+}
+
+// ---- a row of another width than all that are certified absent
+
+/// Tests of a − list that no row of theirs can pass: in both formats `not in` tests the whole row.
+fn never_absent(nodes: &[&Node], evidence: &Evidence) -> Vec<Problem> {
+    let tests = nodes.iter().flat_map(|node| node.guards()).filter_map(|guard| match &guard.kind {
+        GuardKind::Absent(row, Node { kind: Kind::List(list), span }) if list.polarity == Polarity::Minus => Some((row, list, *span)),
+        _ => None,
+    });
+    let never = tests.filter_map(|(row, list, span)| {
+        let certified = Set::of(evidence.rows(&names_of(list, evidence)).iter().map(|row| row.atoms().len()));
+        let width = row.terms.len();
+        (certified != Set::NONE && !certified.has(width)).then(|| never_passes(row, width, list, span, certified))
+    });
+    never.collect()
+}
+
+fn never_passes(row: &Written, width: usize, list: &List, span: Span, certified: Set) -> Problem {
+    let message = format!("this guard passes for no row: of `{}` only rows of {} are certified absent", list.text, certified.shown());
+    let problem = Problem::warning(message).at(row.span, format!("a row of {}, tested whole in both formats", atoms(&width.to_string())));
+    problem.at(span, "tested here").mend(format!("write a row of {}, or have rows of {width} certified absent", certified.shown()))
+}
+
+// ---- a + list that is drawn from and has no certificate that holds
+
+fn none_holds(nodes: &[&Node], evidence: &Evidence) -> Vec<Problem> {
+    let drawn = nodes.iter().flat_map(|node| node.guards()).filter_map(|guard| match &guard.kind {
+        GuardKind::Draw(_, Node { kind: Kind::List(list), span }) if list.polarity == Polarity::Plus => Some((list, *span)),
+        _ => None,
+    });
+    let ended = drawn.filter(|(list, _)| {
+        let names = names_of(list, evidence);
+        evidence.at_some_minute(&names) && evidence.rows(&names).is_empty()
+    });
+    ended
+        .map(|(list, span)| {
+            let problem = Problem::warning(format!("no certificate of `{}` holds at this minute, so nothing is drawn here", list.text));
+            problem.at(span, "there are certificates, for other minutes").mend("ask at another minute, or have its rows certified again")
+        })
+        .collect()
 }
 
 // ---- a row in a + list and in its − twin

@@ -25,7 +25,7 @@ impl Set {
         set
     }
 
-    fn has(self, width: usize) -> bool {
+    pub fn has(self, width: usize) -> bool {
         self.widths().any(|other| other == width)
     }
 
@@ -46,13 +46,13 @@ impl Set {
     }
 
     /// "1 atom", "2 or 3 atoms"
-    fn shown(self) -> String {
+    pub fn shown(self) -> String {
         let widths: Vec<String> = self.widths().map(|width| width.to_string()).collect();
         atoms(&widths.join(" or "))
     }
 }
 
-fn atoms(count: &str) -> String {
+pub(crate) fn atoms(count: &str) -> String {
     format!("{count} {}", if count == "1" { "atom" } else { "atoms" })
 }
 

@@ -17,6 +17,7 @@ pub mod words;
 use crate::cli::PointArguments;
 use crate::failure::Failure;
 use crate::when::{self, When};
+use std::io;
 use std::path::Path;
 use txindurbe::Minute;
 use txindurbe_language::{compile, Asked, Compiled, Names, Sources};
@@ -29,7 +30,12 @@ pub struct Loaded {
 
 /// Text that is read from a file.
 pub fn read(path: &Path) -> Result<String, Failure> {
-    std::fs::read_to_string(path).map_err(|error| Failure::of_file(path, error))
+    std::fs::read_to_string(path).map_err(|error| match error.kind() {
+        io::ErrorKind::InvalidData => {
+            Failure::of_file(path, "it is no text. (Where a command takes an archive and a policy, the archive comes first.)")
+        }
+        _ => Failure::of_file(path, error),
+    })
 }
 
 pub fn load(policy: &Path) -> Result<Loaded, Failure> {

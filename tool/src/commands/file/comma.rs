@@ -65,8 +65,11 @@ impl Record {
     fn read(&self, kind: Kind, heading: &Record, names: &Names) -> Read {
         if self.fields.len() != heading.fields.len() {
             let message = format!("the line has {} fields, and the heading {}", self.fields.len(), heading.fields.len());
-            let wrong = problem(message, self.whole, "").mended("a field with a comma in it stands in quotes, as \"(7, 2027)\"");
-            return Err(vec![wrong]);
+            let mend = match self.fields.len() < heading.fields.len() {
+                true => "write the fields that are missing, in the order of the heading; a quote that is opened must be closed",
+                false => "a field with a comma in it stands in quotes, as \"(7, 2027)\"",
+            };
+            return Err(vec![problem(message, self.whole, "").mended(mend)]);
         }
         let field = |((name, value), span): ((_, &str), &Span)| Field { name, value: Value::from(value), span: *span };
         let fields: Vec<Field> = heading.names().zip(&self.fields).zip(&self.spans).map(field).collect();

@@ -15,7 +15,7 @@
 //! Filings without `is` must be Filed or Held.
 
 use crate::when::{NotAMinute, When};
-use txindurbe::{Membership, Minute, Verdict};
+use txindurbe::{Membership, Minute, Part, Refusal, Verdict};
 
 /// A part of the text, and where in it that stands.
 #[derive(Clone, Copy, PartialEq, Eq, Debug)]
@@ -158,7 +158,11 @@ fn minute(piece: Piece) -> Result<Minute, Wrong> {
 }
 
 fn number(piece: Piece) -> Result<u32, Wrong> {
-    piece.text.parse().map_err(|_| piece.wrong("a refusal has a number", "write `refused 13`"))
+    let number = piece.text.parse().map_err(|_| piece.wrong("a refusal has a number", "write `refused 13`"))?;
+    match [None, Some(Part::Query)].iter().any(|part| Refusal::from_number(number, *part).is_some()) {
+        true => Ok(number),
+        false => Err(piece.wrong("there is no such refusal", "docs/REFERENCE.md has them all")),
+    }
 }
 
 pub fn verdict(word: &str) -> Option<Verdict> {
