@@ -8,7 +8,7 @@ use codespan_reporting::term::{self, Config};
 use std::io::IsTerminal;
 use txindurbe_language::{Label, Problem, Severity, Sources};
 
-/// Of one text: who has mended these sees the others.
+/// Of those that have a place: who has mended these sees the others.
 const MOST_SHOWN: usize = 20;
 
 pub struct Show {
@@ -30,11 +30,15 @@ impl Show {
         for source in &sources.texts {
             files.add(&source.name, &source.text);
         }
-        for problem in problems.iter().take(MOST_SHOWN) {
+        let (placed, of_all): (Vec<&Problem>, Vec<&Problem>) = problems.iter().partition(|problem| !problem.labels.is_empty());
+        for problem in placed.iter().take(MOST_SHOWN) {
             self.emit(&files, &diagnostic(problem));
         }
-        if let Some(more) = problems.len().checked_sub(MOST_SHOWN).filter(|more| *more > 0) {
-            self.error(&format!("and {more} more like these"));
+        if placed.len() > MOST_SHOWN {
+            self.error(&format!("there are {} more like these", placed.len() - MOST_SHOWN));
+        }
+        for problem in of_all {
+            self.emit(&files, &diagnostic(problem));
         }
     }
 

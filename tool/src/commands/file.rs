@@ -24,9 +24,6 @@ const MANY: usize = 1_000;
 /// The most lines that are written through to the disk at once.
 const LARGEST_BATCH: usize = 1_000;
 
-/// How many errors in lines are shown.
-const SHOWN: usize = 20;
-
 pub fn run(arguments: &FileArguments, show: &Show, out: &mut dyn Write) -> Outcome {
     let mut archive = Archive::open(&arguments.archive)?;
     let names = names(arguments.names.as_deref())?;
@@ -104,7 +101,7 @@ impl Lines {
         }
         match problems.is_empty() {
             true => Ok(lines),
-            false => Err(Failure::Problems(lines.sources, cut(problems, wrong_lines))),
+            false => Err(Failure::Problems(lines.sources, with_sum(problems, wrong_lines))),
         }
     }
 
@@ -141,9 +138,8 @@ fn text(path: &Path) -> Result<String, Failure> {
     Ok(text)
 }
 
-/// The first ones, and what they come to.
-fn cut(mut problems: Vec<Problem>, lines: usize) -> Vec<Problem> {
-    problems.truncate(SHOWN);
+/// And what they come to.
+fn with_sum(mut problems: Vec<Problem>, lines: usize) -> Vec<Problem> {
     let lines = if lines == 1 { "1 line".into() } else { format!("{lines} lines") };
     let message = format!("nothing was filed: {lines} cannot be turned into words");
     problems.push(Problem { severity: Severity::Error, refusal: None, message, labels: Vec::new(), mends: Vec::new() });
