@@ -1,5 +1,5 @@
 use crate::sizes::POLICY_WORDS;
-use crate::words::words;
+use crate::words::{words, Used};
 use crate::{calls, Expression, Key, Part, Polarity, Refusal, Unresolved, Verdict};
 
 /// A name, the polarity that it is declared with, what it stands for, and the label that expressions have for it.
@@ -326,7 +326,7 @@ impl Policy {
 pub struct Query {
     words: Vec<u32>,
     /// The definitions that it was given by their labels, each with its place in its policy.
-    used: Vec<(u32, String)>,
+    used: Vec<Used>,
 }
 
 /// By words.

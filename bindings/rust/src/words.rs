@@ -3,8 +3,11 @@
 use crate::expression::Node;
 use crate::{Expression, Guard, Polarity, Term, Unresolved};
 
-/// As the engine reads it, beside definitions of these labels; and which of them it uses, by place and label.
-pub(crate) fn words(expression: &Expression, labels: &[String]) -> Result<(Vec<u32>, Vec<(u32, String)>), Unresolved> {
+/// A definition that an expression uses: its place in the policy, and its label.
+pub(crate) type Used = (u32, String);
+
+/// As the engine reads it, beside definitions of these labels; and which of them it uses.
+pub(crate) fn words(expression: &Expression, labels: &[String]) -> Result<(Vec<u32>, Vec<Used>), Unresolved> {
     let mut writing = Writing { words: Vec::new(), labels, used: Vec::new(), variables: Vec::new() };
     writing.expression(expression)?;
     Ok((writing.words, writing.used))
@@ -14,7 +17,7 @@ pub(crate) fn words(expression: &Expression, labels: &[String]) -> Result<(Vec<u
 struct Writing<'a> {
     words: Vec<u32>,
     labels: &'a [String],
-    used: Vec<(u32, String)>,
+    used: Vec<Used>,
     /// Those in scope, each at its number.
     variables: Vec<&'a str>,
 }
