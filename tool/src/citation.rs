@@ -26,10 +26,8 @@ use crate::when::When;
 use sha2::{Digest as _, Sha256};
 use std::fmt;
 use std::str::FromStr;
+use txindurbe::sizes::MOST_WIDTH;
 use txindurbe::{Minute, Policy, Query, Table, Verdict};
-
-/// The atoms that a row has room for.
-const MOST_WIDTH: usize = 4;
 
 /// A SHA-256 digest, written `sha256:` and 64 hexadecimal digits.
 #[derive(Clone, Copy, PartialEq, Eq, Debug)]

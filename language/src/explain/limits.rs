@@ -73,29 +73,21 @@ pub(crate) fn broken_word(program: &Program, part: Part, whole: &Whole, number: 
         Broken::Draws(guard) => Problem::error("at most 8 draws stand in one definition or query")
             .at(guard.span, "the ninth")
             .mend("give a part of it a name with `define`: each definition has 8 draws of its own"),
-        Broken::NotBefore(place, span) => not_before(program, part, place, span),
+        Broken::NotBefore(place, span) => not_before(program, part, place, span)?,
         Broken::NoOwn(list) => no_own(program, list),
     })
 }
 
-fn not_before(program: &Program, part: Part, place: usize, span: Span) -> Problem {
-    let used = &program.definitions[place];
-    let user = match part {
-        Part::Definition(number) => program.definitions.get(number as usize),
-        Part::Query => None,
-    };
-    match user {
-        Some(user) if user.span == used.span => {
-            let problem = Problem::error(format!("`{}` uses itself", used.text)).at(span, "used here").at(used.span, "defined here");
-            problem.mend("a definition uses only those before it")
-        }
-        Some(user) => {
-            let problem =
-                Problem::error(format!("`{}` is used before it is defined", used.text)).at(span, "used here").at(used.span, "defined here, later");
-            problem.mend(format!("move `define {}` before `define {}`", used.text, user.text))
-        }
-        None => Problem::error(format!("`{}` is not available here", used.text)).at(span, "used here").at(used.span, "defined here"),
+/// Of definitions alone: a query may use all.
+fn not_before(program: &Program, part: Part, place: usize, span: Span) -> Option<Problem> {
+    let Part::Definition(number) = part else { return None };
+    let (used, user) = (program.definitions.get(place)?, program.definitions.get(number as usize)?);
+    if user.span == used.span {
+        let problem = Problem::error(format!("`{}` uses itself", used.text)).at(span, "used here").at(used.span, "defined here");
+        return Some(problem.mend("a definition uses only those before it"));
     }
+    let problem = Problem::error(format!("`{}` is used before it is defined", used.text)).at(span, "used here").at(used.span, "defined here, later");
+    Some(problem.mend(format!("move `define {}` before `define {}`", used.text, user.text)))
 }
 
 /// Under our key, but no definition.
