@@ -179,8 +179,8 @@ module _ {kind : Kind} (laws : Lawful kind) where
   -- a list of filings
   pub at_keeps : {first now : List ℕ} {rs : List (List ℕ)} → Keeps kind first now rs → (ws : List (List ℕ)) → Keeps kind first (store_at kind now ws) (accepted_from kind rs ws)
   unfolding store_at accepted_from
-  at_keeps k [] = k
-  at_keeps k (w ∷ ws) = at_keeps (file_keeps k w) ws
+  at_keeps {first} {now} {rs} k [] = k
+  at_keeps {first} {now} {rs} k (w ∷ ws) = at_keeps {first = first} {now = store_after kind now w} {rs = accepted_by kind (reply_given kind rs w) rs w} (file_keeps k w) ws
 
   -- a list of filings in two parts
   pub accepted_from_append : (rs xs ys : List (List ℕ)) → accepted_from kind rs (xs ++ ys) ≡ accepted_from kind (accepted_from kind rs xs) ys

@@ -48,6 +48,7 @@ origin_reads s t m p = record {
 
     returning : (b : Bool) → T b → Returns (λ ws k. after (need not_in_scope b ws k) (λ u. give (origin_of s t m p))) (origin_of s t m p) [] 0
     returning true f = give_returns _
+    returning false f = elim f [ ]
 
 pub leaf_as_reads : (s : Scope) (n w : ℕ) → Reads (leaf_as s n (leaf_of w)) (leaves_of s n w)
 unfolding leaf_as leaf_of leaf_code leaf_rest FitLeaf polarity_word

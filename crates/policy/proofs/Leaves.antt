@@ -32,6 +32,7 @@ where_reads {Good} n rule same = record {
 
     returning : (w : ℕ) (b : Bool) → T b → Returns (λ ws k. after (need n b ws k) (λ t. give w)) w [] 0
     returning w true t = give_returns w
+    returning w false t = elim t [ ]
 
 -- c things, each of a spelling without draws
 abbrev pub many : {A : Type 0} → (A → List ℕ) → (A → Type 0) → ℕ → Spelling (List A)

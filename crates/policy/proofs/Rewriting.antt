@@ -98,6 +98,7 @@ first_passes ours policy out (x ∷ xs) (e ∷ es) ls (one a rest) k t due h =
     let isMinus : x.polarity ≡ 1 = eqb-true x.polarity 1 (true_T _ (T_right (eqb x.name 0) (eqb x.polarity 1) k)) in
     one (record { parses = ap (parse (scope_of ours [])) (entry_part out x due e (vet_all es) h ∙ sym ((parse_iff (scope_of ours []) (entry_words policy x) e).0 a.parses).0) ∙ a.parses; has = a.has; closed = a.closed })
     (all_pass ours policy out rest (omega arith) (ap polarity_of isMinus) (later_plus x xs e es k t) _ (next_part out due e (vet_all es) h))
+first_passes ours policy out (x ∷ xs) [] ls x6 k t due h = elim x6 [ ]
 
 -- "The resulting program .. satisfies our polarity discipline": it passes 1 to 7
 pub rewritten_passes : (ours : ℕ) (policy : List ℕ) (xs : List Entry) (es : List Expr) (ls : List Known) → check_policy ours policy ≡ passed xs es ls → T (keys_listed xs) → T (is_external xs es) →

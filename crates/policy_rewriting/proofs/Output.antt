@@ -136,7 +136,7 @@ same_place : (x : Entry) (due size : ℕ) → x.offset ≡ due → size ≡ x.si
 same_place x due size o s = rw (← o, s) refl
 
 module _ (p : List ℕ) where
-  placed_same : (at due : ℕ) (earlier : List Entry) {xs : List Entry} {ks ls : List Known} {es : List Expr} {ours : ℕ} → InTable p at due earlier xs → Accepted ours p xs ks es ls → placed due xs es ≡ xs
+  placed_same : {ours : ℕ} (at due : ℕ) (earlier : List Entry) {xs : List Entry} {ks ls : List Known} {es : List Expr} → InTable p at due earlier xs → Accepted ours p xs ks es ls → placed due xs es ≡ xs
   unfolding InTable placed
   placed_same at due earlier h none = refl
   placed_same at due earlier h (one {x = x} {xs = xs} {e = e} {es = es} a rest) =
@@ -163,7 +163,7 @@ module _ (p : List ℕ) where
       four_words at (omega arith) ∙ ap (λ (y : Entry). entry_four y ++ drop (at + 4) p) (sym h.0) ∙ ap (λ (r : List ℕ). entry_four x ++ r) rest
       ∙ sym (append_assoc (entry_four x) (each entry_four xs) (drop (at + 4 * length (x ∷ xs)) p))
 
-  parts_same : (at due : ℕ) (earlier : List Entry) {xs : List Entry} {ks ls : List Known} {es : List Expr} {ours : ℕ} → InTable p at due earlier xs → Accepted ours p xs ks es ls → drop due p ≡ parts es
+  parts_same : {ours : ℕ} (at due : ℕ) (earlier : List Entry) {xs : List Entry} {ks ls : List Known} {es : List Expr} → InTable p at due earlier xs → Accepted ours p xs ks es ls → drop due p ≡ parts es
   unfolding InTable parts each
   parts_same at due earlier h none = drop_of_length-le p {i = due} (omega (arith, h))
   parts_same at due earlier h (one {x = x} {e = e} {es = es} a rest) =

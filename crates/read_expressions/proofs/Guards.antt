@@ -60,7 +60,7 @@ turned false m n k = refl
 
 -- the guard is one of the two comparisons, as the `match` on it tells
 abbrev pub Compares : Held-guard.Guard → Type 0
-Compares g = (tag_of the_type g ≡ 1) ⊎ (tag_of the_type g ≡ 2)
+Compares g = ((x : Held-term.Term) × (y : Held-term.Term) × (g ≡ Same x y)) ⊎ ((x : Held-term.Term) × (y : Held-term.Term) × (g ≡ Different x y))
 
 -- the guards after a comparison, and what is gathered: it goes by whether the comparison passes
 record Compared (f : From) (ws : List ℕ) (at left count : ℕ) (vs : Values) (g : Held-guard.Guard) (b : Body) : Type 0 where
@@ -95,13 +95,15 @@ module _ (f : From) {ws : List ℕ} {at left count : ℕ} (vs : Values) (z : lef
             ∙ ap (λ (o : Bool). either o (gathering f c vs found) (λ j. done found j) k) (different_passes vs refl refl refl);
       }) s
 
+  compared_as_same : {g : Held-guard.Guard} {x y : Held-term.Term} → g ≡ Same x y → IsGuard ws at g → {b : Body} → StandsBody (scope_in f) count ws at left b → Compared f ws at left count vs g b
+  compared_as_same {g} {x} {y} e i {b} s = subst (λ (h : Held-guard.Guard). Compared f ws at left count vs h b) (sym e) (compared_same {x = x} {y = y} (subst (λ (h : Held-guard.Guard). IsGuard ws at h) e i) s)
+
+  compared_as_different : {g : Held-guard.Guard} {x y : Held-term.Term} → g ≡ Different x y → IsGuard ws at g → {b : Body} → StandsBody (scope_in f) count ws at left b → Compared f ws at left count vs g b
+  compared_as_different {g} {x} {y} e i {b} s = subst (λ (h : Held-guard.Guard). Compared f ws at left count vs h b) (sym e) (compared_different {x = x} {y = y} (subst (λ (h : Held-guard.Guard). IsGuard ws at h) e i) s)
+
   compared : {g : Held-guard.Guard} → Compares g → IsGuard ws at g → {b : Body} → StandsBody (scope_in f) count ws at left b → Compared f ws at left count vs g b
-  compared {g = Draw} (inl e) i s = absurd (omega (arith, e))
-  compared {g = Draw} (inr e) i s = absurd (omega (arith, e))
-  compared {g = Same x y} t i s = compared_same i s
-  compared {g = Different x y} t i s = compared_different i s
-  compared {g = Absent} (inl e) i s = absurd (omega (arith, e))
-  compared {g = Absent} (inr e) i s = absurd (omega (arith, e))
+  compared (inl (x, y, e)) i s = compared_as_same e i s
+  compared (inr (x, y, e)) i s = compared_as_different e i s
 
 -- ---- what the callees are asked
 

@@ -43,7 +43,7 @@ again j = j.before.before.before
 
 -- from where its entry is placed
 abbrev judged : Placed → Judged
-judged p = p.before.before.before.before
+judged p = p.before.before
 
 -- the definition judged is the next one
 next_judged : (j : Judged) → j.judge_entry.result ≡ whole_for (earlier_is (again j).loop-next.earlier)
@@ -91,7 +91,7 @@ returns-in-Refused c =
     let j = c.before in
     let l = again j in
     let a = (entry l).args in
-    judging_refused a.our_key a.policy.now a.count l.loop.next l.loop.earlier l.loop-next.invariant j.loop-next-test.true (next_judged j) _
+    judging_refused a.our_key a.policy.now a.count l.loop-next.next l.loop-next.earlier l.loop-next.invariant j.loop-next-test.true (next_judged j) _
     c.in-Refused.is refl
 
 entry_place-at-requires : tie.Need-entry_place-at-requires invariant-loop-next decreases-loop-next
@@ -114,8 +114,8 @@ loop-next-preserved c =
     let j = judged p in
     let l = again j in
     let a = (entry l).args in
-    definition_judged a.our_key a.policy.now a.count l.loop.next l.loop.earlier l.loop-next.invariant j.loop-next-test.true (next_judged j)
-    p.facts-1.given.1 (ap (λ o. get_or a.policy.now o 0) (next_placed p)) (ap (λ o. get_or a.policy.now (o + 1) 0) (next_placed p))
+    definition_judged a.our_key a.policy.now a.count l.loop-next.next l.loop-next.earlier l.loop-next.invariant j.loop-next-test.true (next_judged j)
+    p.in-Checked.is (ap (λ o. get_or a.policy.now o 0) (next_placed p)) (ap (λ o. get_or a.policy.now (o + 1) 0) (next_placed p))
     c.with_definition-earlier.ensures.0 c.with_definition-earlier.ensures.1
 
 returns : tie.Need-returns invariant-loop-next decreases-loop-next

@@ -34,7 +34,7 @@ pub link_held_spec : {M : Type 1} → statement M
 link_held_spec =
     tie.close
     (tie.spec
-    (λ c. omega (arith, (sound_links_lem (entry c).args.links.now (entry c).requires.0).long))
+    (λ c. omega (arith, (sound_links_lem c.args.links.now c.requires.0).long))
     (λ c. omega (arith, c.shared_slice_known-3-1.given 0))
     record_at-requires
     link_before-requires

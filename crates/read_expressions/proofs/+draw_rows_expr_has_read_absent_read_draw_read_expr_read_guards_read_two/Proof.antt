@@ -45,8 +45,8 @@ use Rattle.read_expressions.proofs.+draw_rows_expr_has_read_absent_read_draw_rea
   read_expr_claims,
   read_guards_claims,
   read_two_claims,
-  draw-rows-Inv-loop,
-  draw-rows-μ-loop,
+  invariant-loop-i,
+  decreases-loop-i,
 }
 use Rattle.read_expressions.proofs.+draw_rows_expr_has_read_absent_read_draw_read_expr_read_guards_read_two.Proof.Rows as rows
 use Rattle.read_expressions.proofs.+draw_rows_expr_has_read_absent_read_draw_read_expr_read_guards_read_two.Proof.Has as has
@@ -69,8 +69,8 @@ pub +draw_rows_expr_has_read_absent_read_draw_read_expr_read_guards_read_two_spe
     (λ t. draw-rows-lts.spec (draw_rows_claims t)
     (draw_rows_at t)
     draw-rows.Post
-    draw-rows-Inv-loop
-    draw-rows-μ-loop
+    invariant-loop-i
+    decreases-loop-i
     (rows.overflow_add-free t)
     (rows.offset_bounds-area-free t)
     (rows.bounds-area-free t)

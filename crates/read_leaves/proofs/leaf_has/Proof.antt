@@ -75,13 +75,13 @@ returns-then-code-eq-CODE_DEFINITION c =
 has_row-requires-in-Done : tie.Need-has_row-requires-in-Done
 has_row-requires-in-Done c κs =
     let start = entry c.before.before.before.before.before.before.before.before.before in
-    (start.requires.0.bound, leaf_filled _ c.read-leaf.ensures c.used.given.1, start.requires.2)
+    (start.requires.0.bound, leaf_filled _ c.read_leaf.ensures c.in-Done.is, start.requires.2)
 
 returns-in-Refused : tie.Need-returns-in-Refused
 returns-in-Refused c = leaf_refused _ c.read_leaf.ensures c.in-Refused.is
 
 returns-in-Done : tie.Need-returns-in-Done
-returns-in-Done c = leaf_looked _ c.read-leaf.ensures c.used.given.1 c.has_row-in-Done.ensures c.told-in-Done.ensures
+returns-in-Done c = leaf_looked _ c.read_leaf.ensures c.in-Done.is c.has_row-in-Done.ensures c.told-in-Done.ensures
 
 pub leaf_has_spec : {M : Type 1} → statement M
 leaf_has_spec =

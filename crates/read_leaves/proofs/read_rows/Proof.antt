@@ -74,8 +74,8 @@ loop-i-preserved c =
     let few = literal_few c.requires.3 in
     let room = inv.few in
     let insert = c.insert in
-    let l = listed inv.filled wide insert.result insert.ensures.0 insert.new.0 insert.ensures.1 (omega arith) in
-    (filling_next inv c.loop-i-test.true c.row_of-row.ensures l c.skip_row-next.ensures, insert.auto.0 ∙ c.loop-i.invariant.1)
+    let l = listed inv.filled wide insert.result insert.ensures.0 insert.new.set insert.ensures.1 (omega arith) in
+    (filling_next inv c.loop-i-test.true c.row_of-row.ensures l c.skip_row-next.ensures, insert.auto.set ∙ c.loop-i.invariant.1)
 
 shape_of-area : tie.Need-shape_of-area invariant-loop-i decreases-loop-i
 shape_of-area c = c.loop-i.invariant.1 ∙ c.clear.auto.set

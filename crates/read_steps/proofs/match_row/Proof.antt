@@ -28,7 +28,7 @@ abbrev width : tie.At-loop-j invariant-loop-j decreases-loop-j → ℕ
 width l = get_or (entry l).args.words.now (entry l).args.at 0
 
 fits : (l : tie.At-loop-j invariant-loop-j decreases-loop-j) → Fits (entry l).args.format (entry l).args.words.now (entry l).args.at (entry l).args.area.now (entry l).args.row
-fits l = fitting (entry l).args.area.now (entry l).args.row (entry l).requires.2 (entry l).requires.3 (sym l.fits2.ensures ∙ l.if-not-fits.false)
+fits l = fitting (entry l).args.area.now (entry l).args.row (entry l).requires.2 (entry l).requires.3 (sym l.fits.ensures ∙ l.if-not-fits.false)
 
 less : (c : tie.In-loop-j invariant-loop-j decreases-loop-j) → c.loop-j.j < width c.before
 less c = omega (arith, c.wide-end.ensures)
@@ -50,7 +50,7 @@ bounds-words-at c = let w = pattern_width c.requires.1 in let good = c.well_form
 returns-then-not-fits : tie.Need-returns-then-not-fits invariant-loop-j decreases-loop-j
 returns-then-not-fits c =
     let start = c.before.before.before.before.before.before in
-    misfitting start.args.area.now start.args.row start.requires.2 start.requires.3 (sym c.fits2.ensures ∙ c.if-not-fits.true)
+    misfitting start.args.area.now start.args.row start.requires.2 start.requires.3 (sym c.fits.ensures ∙ c.if-not-fits.true)
 
 loop-j-init : tie.Need-loop-j-init invariant-loop-j decreases-loop-j
 loop-j-init c = let pre = c.requires in passed_start pre.0 pre.1
@@ -90,18 +90,18 @@ is_new_lem : (c : tie.In-New invariant-loop-j decreases-loop-j) → IsSlot (entr
 is_new_lem c = slot_told c.slot_at-slot.ensures c.in-New.is
 
 bounds-values-scope : tie.Need-bounds-values-scope invariant-loop-j decreases-loop-j
-bounds-values-scope c = omega (arith, new_scope (from_new c).loop-j.invariant (less (from_new c)) (is_new_lem c))
+bounds-values-scope c = let n = c.before in omega (arith, new_scope (from_new n).loop-j.invariant (less (from_new n)) (is_new_lem n))
 
 loop-j-preserved-in-New : tie.Need-loop-j-preserved-in-New invariant-loop-j decreases-loop-j
-loop-j-preserved-in-New c = passed_new (from_new c).loop-j.invariant (fits (from_new c).before) (less (from_new c)) (is_new_lem c)
+loop-j-preserved-in-New c = let n = c.before in passed_new (from_new n).loop-j.invariant (fits (from_new n).before) (less (from_new n)) (is_new_lem n)
 
 -- a term
 
 abbrev from_old : tie.After-value_of invariant-loop-j decreases-loop-j → tie.In-loop-j invariant-loop-j decreases-loop-j
 from_old c = c.before.before.before.before
 
-is_old : (c : tie.After-value_of invariant-loop-j decreases-loop-j) → IsSlot (entry (from_old c).before).args.words.now (place (from_old c)) (Old c.slot.given.0.0)
-is_old c = slot_told c.slot_at.ensures c.slot.given.1
+is_old : (c : tie.After-value_of invariant-loop-j decreases-loop-j) → IsSlot (entry (from_old c).before).args.words.now (place (from_old c)) (Old c.in-Old.term)
+is_old c = slot_told c.slot_at-slot.ensures c.in-Old.is
 
 returns-then-value_of-atom : tie.Need-returns-then-value_of-atom invariant-loop-j decreases-loop-j
 returns-then-value_of-atom c =

@@ -1,7 +1,7 @@
 -- By the two forms.
 use mathlib.Core.Path.{sym, ◌∙◌}
 use native.Mathlib.Omega.{arith}
-use borrow.Author.Tests.{not-true, not-false}
+use borrow.Author.Tests.{eq-eqb, ne_eqb}
 use Rattle.set_algebra.specs.Private.{Rooms}
 use Rattle.set_algebra.proofs.Combining.{rooms, filtered_value, rest_value, joined_value}
 use borrow.Author.Rules.{rules}
@@ -47,7 +47,7 @@ returns-then-complement c =
     let more = right.before in
     let k = more.before in
     let start = entry k in
-    rest_value start.args.area.now start.requires _ (sym k.alike.ensures ∙ more.if-not-alike.false) right.if-complement.true _ kept.keep_right.ensures
+    rest_value start.args.area.now start.requires _ (sym k.alike.ensures ∙ more.if-not-alike.false) (eq-eqb _ _ right.if-complement.true) _ kept.keep_right.ensures
 
 -- ---- it lists more
 
@@ -61,7 +61,7 @@ returns c =
     let more = right.before in
     let k = more.before in
     let start = entry k in
-    joined_value start.args.area.now start.requires _ (sym k.alike.ensures ∙ more.if-not-alike.false) right.if-complement.false _ _ joined.join.ensures.0 joined.join.ensures.1
+    joined_value start.args.area.now start.requires _ (sym k.alike.ensures ∙ more.if-not-alike.false) (ne_eqb _ _ right.if-complement.false) _ _ joined.join.ensures.0 joined.join.ensures.1
 
 pub combine_spec : {M : Type 1} → statement M
 combine_spec =

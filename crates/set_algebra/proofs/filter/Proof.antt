@@ -41,7 +41,7 @@ sought k =
     let a = (entry l).args in
     let load = k.before.before.before.before in
     sought_here (entry l).requires _ l.loop-i.invariant.walk (less (turn k)) (others_kept a.area.now a.listed (entry l).requires _ _ _ _ l.loop-i.invariant)
-    (row_here a.area.now a.listed (entry l).requires _ _ _ _ l.loop-i.invariant (less (turn k))) _ load.load.ensures k.seek-place.ensures
+    (row_here a.area.now a.listed (entry l).requires _ _ _ _ l.loop-i.invariant (less (turn k))) _ k.load-row.ensures k.seek-place.ensures
 
 asked : (k : tie.After-alike invariant-loop-i decreases-loop-i) →
     alike (entry (turn k).before).args.listed (lists row_before (rights (entry (turn k).before).args.area.now) (get_or (lefts (entry (turn k).before).args.area.now) (turn k).loop-i.i [])) ≡ k.alike.result
@@ -76,7 +76,7 @@ seek-place-requires c κs =
     let l = t.before in
     let a = (entry l).args in
     seek_ready (entry l).requires _ l.loop-i.invariant.walk (less t) (others_kept a.area.now a.listed (entry l).requires _ _ _ _ l.loop-i.invariant)
-    (row_here a.area.now a.listed (entry l).requires _ _ _ _ l.loop-i.invariant (less t)) _ load.load.ensures
+    (row_here a.area.now a.listed (entry l).requires _ _ _ _ l.loop-i.invariant (less t)) _ c.load-row.ensures
 
 -- ---- a row is kept
 

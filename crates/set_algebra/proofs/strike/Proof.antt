@@ -41,7 +41,7 @@ sought k =
     let a = (entry l).args.area.now in
     let pre = (entry l).requires in
     sought_here (turned pre) _ l.loop-i.invariant.walk (less (turn k)) (lefts_kept a pre _ _ _ l.loop-i.invariant) (row_here a pre _ _ _ l.loop-i.invariant (less (turn k))) _
-    k.load.ensures k.seek-place.ensures
+    k.load-row.ensures k.seek-place.ensures
 
 -- ---- before the loop
 
@@ -72,7 +72,7 @@ seek-place-requires c κs =
     let l = t.before in
     let a = (entry l).args.area.now in
     let pre = (entry l).requires in
-    seek_ready (turned pre) _ l.loop-i.invariant.walk (less t) (lefts_kept a pre _ _ _ l.loop-i.invariant) (row_here a pre _ _ _ l.loop-i.invariant (less t)) _ load.load.ensures
+    seek_ready (turned pre) _ l.loop-i.invariant.walk (less t) (lefts_kept a pre _ _ _ l.loop-i.invariant) (row_here a pre _ _ _ l.loop-i.invariant (less t)) _ c.load-row.ensures
 
 -- ---- it is struck out
 

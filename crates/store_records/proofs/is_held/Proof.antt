@@ -35,7 +35,7 @@ pub is_held_spec : {M : Type 1} → statement M
 is_held_spec =
     tie.close
     (tie.spec
-    (λ c. omega (arith, (sound_store_lem (entry c).args.store.now (entry c).requires.0).long))
+    (λ c. omega (arith, (sound_store_lem c.args.store.now c.requires.0).long))
     (λ c. omega (arith, c.shared_slice_known-3-1.given 0))
     record_at-requires
     record_before-requires

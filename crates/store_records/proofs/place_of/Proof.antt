@@ -58,7 +58,7 @@ place_of_spec =
     (tie.spec
     invariant-loop-low
     decreases-loop-low
-    (λ c. omega (arith, (sound_store_lem (entry c).args.store.now (entry c).requires.0).long))
+    (λ c. omega (arith, (sound_store_lem c.args.store.now c.requires.0).long))
     (λ c. omega (arith, c.shared_slice_known-3-1.given 0))
     loop-low-init
     (λ c. search rules)

@@ -22,7 +22,7 @@ abbrev begun : tie.After-shared_slice_known-5-1 → tie.Start
 begun c = c.before.before.before.before.before.before.before.before
 
 bounds-policy-0 : tie.Need-bounds-policy-0
-bounds-policy-0 c = omega (arith, (ready_listed (begun c).requires.0 refl).fits)
+bounds-policy-0 c = omega (arith, (ready_listed c.requires.0 refl).fits)
 
 bounds-policy-1 : tie.Need-bounds-policy-1
 bounds-policy-1 c = omega (arith, (ready_listed (begun c.before).requires.0 refl).fits)
@@ -39,7 +39,7 @@ read_whole-requires c κs =
 copy-requires : tie.Need-copy-requires
 copy-requires c κs =
     let read = c.before.before.before.before in
-    ((done_filled read.read_whole.ensures c.draws.given.1).sound, (start (defined (counted read))).requires.1)
+    ((done_filled read.read_whole.ensures c.in-Done-read_whole.is).sound, (start (defined (counted read))).requires.1)
 
 returns-in-Refused : tie.Need-returns-in-Refused
 returns-in-Refused c = definition_refused c.read_definitions.ensures c.in-Refused.is
@@ -54,8 +54,7 @@ returns-in-Done-read_whole : tie.Need-returns-in-Done-read_whole
 returns-in-Done-read_whole c =
     let read = c.before.before.before.before.before.before.before in
     let told = counted read in
-    let draws = c.draws in
-    query_answered (defined told).read_definitions.ensures told.in-Done.is refl read.read_whole.ensures draws.given.1 c.copy.ensures
+    query_answered (defined told).read_definitions.ensures told.in-Done.is refl read.read_whole.ensures c.in-Done-read_whole.is c.copy.ensures
 
 pub read_all_spec : {M : Type 1} → statement M
 read_all_spec =

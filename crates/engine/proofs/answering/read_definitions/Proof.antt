@@ -29,10 +29,7 @@ definition_words-words-requires : tie.Need-definition_words-words-requires invar
 definition_words-words-requires c κs = words_inside (start c.before).requires (omega arith)
 
 read_whole-requires : tie.Need-read_whole-requires invariant-loop-d decreases-loop-d
-read_whole-requires c κs =
-    let here = c.before.before in
-    let loop = here.before in
-    next_asked loop.loop-d.invariant.0 here.loop-test.true here.definition_words.ensures (start loop).requires loop.loop-d.invariant.2
+read_whole-requires c κs = next_asked c.loop-d.invariant.0 c.loop-d-test.true c.definition_words-words.ensures c.requires c.loop-d.invariant.2
 
 overflow_cast-part : tie.Need-overflow_cast-part invariant-loop-d decreases-loop-d
 overflow_cast-part c =
@@ -50,7 +47,7 @@ place_set-requires c κs =
     let read = c.before.before.before.before in
     let here = found read in
     let loop = here.before.before in
-    ((done_filled read.read_whole.ensures c.total.given.1).sound, place_inside (start loop).requires here.loop-d-test.true loop.loop-d.invariant.1)
+    ((done_filled read.read_whole.ensures c.in-Done.is).sound, place_inside (start loop).requires here.loop-d-test.true loop.loop-d.invariant.1)
 
 loop-d-preserved : tie.Need-loop-d-preserved invariant-loop-d decreases-loop-d
 loop-d-preserved c =
@@ -58,7 +55,7 @@ loop-d-preserved c =
     let here = found read in
     let loop = here.before.before in
     let more = here.loop-d-test.true in (
-      next_read loop.loop-d.invariant.0 more here.definition_words-words.ensures read.read_whole.ensures c.total.given.1
+      next_read loop.loop-d.invariant.0 more here.definition_words-words.ensures read.read_whole.ensures c.in-Done.is
           (place_inside (start loop).requires more loop.loop-d.invariant.1) (words_inside (start loop).requires more).1 c.place_set.ensures,
       c.place_set.auto.definitions ∙ loop.loop-d.invariant.1,
       read.read_whole.auto.area ∙ loop.loop-d.invariant.2,

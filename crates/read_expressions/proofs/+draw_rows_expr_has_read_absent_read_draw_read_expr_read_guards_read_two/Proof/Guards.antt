@@ -14,10 +14,10 @@ abbrev start : (t : ℕ) → read-guards-lts.After-guard_at-guard (read_guards_c
 start t c = c.before.before.before.before.before.before.before.before
 
 pub insert_head-gathered-requires : (t : ℕ) → read-guards-lts.Need-insert_head-gathered-requires (read_guards_claims t) (read_guards_at t) read-guards.Post
-insert_head-gathered-requires t c κs = let q = c.requires.1 in (q.ask.bound, q.ask.gathering, some_head q c.if1.true)
+insert_head-gathered-requires t c κs = let q = c.requires.1 in (q.ask.bound, q.ask.gathering, some_head q c.if-left-eq0.true)
 
 pub returns-then-left-eq0 : (t : ℕ) → read-guards-lts.Need-returns-then-left-eq0 (read_guards_claims t) (read_guards_at t) read-guards.Post
-returns-then-left-eq0 t c = say_head c.if1.true c.insert_head-gathered.ensures
+returns-then-left-eq0 t c = say_head c.if-left-eq0.true c.insert_head-gathered.ensures
 
 pub guard_at-guard-requires : (t : ℕ) → read-guards-lts.Need-guard_at-guard-requires (read_guards_claims t) (read_guards_at t) read-guards.Post
 guard_at-guard-requires t c κs = some_guard c.requires.1 c.if-left-eq0.false
@@ -37,8 +37,8 @@ passes-requires t c κs = (start t c.before).requires.1.ask.bound
 
 pub overflow_add-at-then-passes : (t : ℕ) → read-guards-lts.Need-overflow_add-at-then-passes (read_guards_claims t) (read_guards_at t) read-guards.Post
 overflow_add-at-then-passes t c =
-    let i = inside_body (ask_compared (start t c.before.before.before).requires.1 c.if1.false c.match.keys2
-    c.guard-at.ensures).here in
+    let i = inside_body (ask_compared (start t c.before.before.before).requires.1 c.if-left-eq0.false c.in-Same.is
+    c.guard_at-guard.ensures).here in
     let fits = (start t c.before.before.before).well_formed in
     omega arith
 
@@ -48,13 +48,13 @@ read_guards-requires t c κs =
     let measure = q.0 in
     let i = inside_body q.1.here in (
       omega arith,
-      ask_compared q.1 c.if1.false c.match.keys2
-          c.guard-at.ensures,
+      ask_compared q.1 c.if-left-eq0.false c.in-Same.is
+          c.guard_at-guard.ensures,
     )
 
 pub returns-then-passes : (t : ℕ) → read-guards-lts.Need-returns-then-passes (read_guards_claims t) (read_guards_at t) read-guards.Post
-returns-then-passes t c = say_passes c.if1.false c.match.keys2
-    c.guard-at.ensures
+returns-then-passes t c = say_passes c.if-left-eq0.false c.in-Same.is
+    c.guard_at-guard.ensures
     (sym c.passes.ensures ∙ c.if-passes.true) c.read_guards.ensures
 
 pub overflow_add-at-in-Absent : (t : ℕ) → read-guards-lts.Need-overflow_add-at-in-Absent (read_guards_claims t) (read_guards_at t) read-guards.Post
@@ -72,8 +72,8 @@ returns-in-Draw t c = say_draw c.if-left-eq0.false
     (guard_told c.guard_at-guard.ensures c.in-Draw.is) c.read_draw.ensures
 
 pub returns-else-passes : (t : ℕ) → read-guards-lts.Need-returns-else-passes (read_guards_claims t) (read_guards_at t) read-guards.Post
-returns-else-passes t c = say_fails c.if1.false (start t c.before.before.before).requires.1.ask.gathering c.match.keys2
-    c.guard-at.ensures (sym c.passes.ensures ∙ c.if-passes.false)
+returns-else-passes t c = say_fails c.if-left-eq0.false (start t c.before.before.before).requires.1.ask.gathering c.in-Same.is
+    c.guard_at-guard.ensures (sym c.passes.ensures ∙ c.if-passes.false)
 
 pub returns-in-Absent : (t : ℕ) → read-guards-lts.Need-returns-in-Absent (read_guards_claims t) (read_guards_at t) read-guards.Post
 returns-in-Absent t c = say_absent c.if-left-eq0.false

@@ -41,10 +41,10 @@ read_expr-requires t c κs = let q = (start t c.before.before.before).requires i
 
 pub has_row-requires : (t : ℕ) → expr-has-lts.Need-has_row-requires (expr_has_claims t) (expr_has_at t) expr-has.Post
 has_row-requires t c κs = (
-  bound_after c.read-expr.ensures.unchanged
+  bound_after c.read_expr.ensures.unchanged
       (start t (tested t c.before.before.before)).requires.1.ask.bound,
-  done_filled c.read-expr.ensures
-      c.used.given.1,
+  done_filled c.read_expr.ensures
+      c.in-Done.is,
   tested_row (start t (tested t c.before.before.before)).requires.1,
 )
 
@@ -52,5 +52,5 @@ pub returns-in-Refused : (t : ℕ) → expr-has-lts.Need-returns-in-Refused (exp
 returns-in-Refused t c = say_has_refused c.read_expr.ensures c.in-Refused.is
 
 pub returns-in-Done : (t : ℕ) → expr-has-lts.Need-returns-in-Done (expr_has_claims t) (expr_has_at t) expr-has.Post
-returns-in-Done t c = say_has c.read-expr.ensures c.used.given.1 c.has_row.ensures
+returns-in-Done t c = say_has c.read_expr.ensures c.in-Done.is c.has_row.ensures
     c.told.ensures

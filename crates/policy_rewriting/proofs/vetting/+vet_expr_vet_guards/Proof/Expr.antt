@@ -60,7 +60,7 @@ body : (t : ℕ) (c : vet-expr-lts.Then-code-eq-CODE_COMPREHENSION (vet_expr_cla
     SomeBody (origin t c.before).args.words.now ((origin t c.before).args.at + 2) (get_or (origin t c.before).args.words.now ((origin t c.before).args.at + 1) 0)
 body t c =
     let k = (known t c.before).before in
-    some_body (start t k).requires.1.0 (sym (node_code (reading t k).read_node.ensures k.code-1.given.1).0 ∙ c.if-code-eq-CODE_COMPREHENSION.true)
+    some_body (start t k).requires.1.0 (sym (node_code (reading t k).read_node.ensures k.in-Code.is).0 ∙ c.if-code-eq-CODE_COMPREHENSION.true)
 
 pub overflow_add-left : (t : ℕ) → vet-expr-lts.Need-overflow_add-left (vet_expr_claims t) (vet_expr_at t) vet-expr.Post
 overflow_add-left t c =
@@ -113,7 +113,7 @@ returns-then-code-eq-CODE_COMPREHENSION t c =
     let a = (origin t b.before).args in
     let words = a.words.now in
     let k = (known t b.before).before in
-    let n = node_code (reading t k).read_node.ensures k.code-1.given.1 in
+    let n = node_code (reading t k).read_node.ensures k.in-Code.is in
     let first = code_laid a.to a.area.now n.0 code.lay.ensures in
     comprehension_walked (sym n.0 ∙ b.if-code-eq-CODE_COMPREHENSION.true) (then_laid a.to a.area.now (get_or words a.at 0 ∷ []) (get_or words (a.at + 1) 0 ∷ []) first count.lay-then-code-eq-CODE_COMPREHENSION.ensures) g.vet_guards.ensures
 
@@ -126,12 +126,12 @@ node t c =
 no_comprehension : (t : ℕ) (c : vet-expr-lts.Else-code-eq-CODE_COMPREHENSION (vet_expr_claims t) (vet_expr_at t) vet-expr.Post) → get_or (origin t c.before).args.words.now (origin t c.before).args.at 0 ≡ 7 → ⊥
 no_comprehension t c e =
     let k = (known t c.before).before in
-    c.if-code-eq-CODE_COMPREHENSION.false ((node_code (reading t k).read_node.ensures k.code-1.given.1).0 ∙ e)
+    c.if-code-eq-CODE_COMPREHENSION.false ((node_code (reading t k).read_node.ensures k.in-Code.is).0 ∙ e)
 
 union : (t : ℕ) (c : vet-expr-lts.Else-code-eq-CODE_COMPREHENSION (vet_expr_claims t) (vet_expr_at t) vet-expr.Post) → get_or (origin t c.before).args.words.now (origin t c.before).args.at 0 ≡ 5
 union t c =
     let k = (known t c.before).before in
-    is_union_lem _ (node t (known t c.before)) (node_code (reading t k).read_node.ensures k.code-1.given.1).1 (no_comprehension t c)
+    is_union_lem _ (node t (known t c.before)) (node_code (reading t k).read_node.ensures k.in-Code.is).1 (no_comprehension t c)
 
 pub overflow_add-at-2 : (t : ℕ) → vet-expr-lts.Need-overflow_add-at-2 (vet_expr_claims t) (vet_expr_at t) vet-expr.Post
 overflow_add-at-2 t c =
@@ -181,5 +181,5 @@ returns t c =
     let laid = (two t first).before in
     let k = (known t laid).before in
     let a = (start t k).args in
-    let code = code_laid a.to a.area.now (node_code (reading t k).read_node.ensures k.code-1.given.1).0 laid.lay.ensures in
+    let code = code_laid a.to a.area.now (node_code (reading t k).read_node.ensures k.in-Code.is).0 laid.lay.ensures in
     union_walked (union t (two t first)) code (told first.vet_expr.ensures next.in-To.is) second.vet_expr-2.ensures

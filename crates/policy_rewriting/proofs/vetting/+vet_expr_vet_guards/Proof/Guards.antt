@@ -94,8 +94,7 @@ skip_pattern-rest-requires t c κs =
 -- a draw's pattern, and what follows it
 pattern : (t : ℕ) (c : vet-guards-lts.After-skip_pattern-rest (vet_guards_claims t) (vet_guards_at t) vet-guards.Post) →
     let a = (origin t c.before).args in
-    let told = c.next-1.given.0 in
-    Pattern a.words.now a.at a.left told.0 told.1.0 c.skip_pattern-rest.result
+    Pattern a.words.now a.at a.left c.in-To.next c.in-To.end c.skip_pattern-rest.result
 pattern t c =
     let next = c.before in
     let o = operand t next in
