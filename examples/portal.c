@@ -2,7 +2,7 @@
  * A portal in C: certificates arrive, a curator's policy with own names stands, an astronomer searches; semesters pass; lists are linked; rows gain
  * epochs; keys are vetted.
  *
- *     rt staticlib capi
+ *     bash library
  *     cc -Iinclude examples/portal.c target/staticlib/libcapi.a -o portal && ./portal
  */
 #include <stdio.h>

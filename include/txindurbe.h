@@ -9,7 +9,7 @@
  * call writes, areas and out-parameters, must overlap nothing else that is passed to it. Calls keep nothing between them: threads may call at once, each with
  * areas of its own, as long as nobody files into a store that another one reads.
  *
- * Link with libcapi.a (made by: rt staticlib capi).
+ * Link with libcapi.a (made by: bash library).
  */
 #ifndef TXINDURBE_H
 #define TXINDURBE_H

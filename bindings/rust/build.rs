@@ -1,4 +1,4 @@
-//! Says where the compiled library is: in the folder `TXINDURBE_LIB`, or where `rt staticlib capi` writes it. It is needed only when a program is linked: without
+//! Says where the compiled library is: in the folder `TXINDURBE_LIB`, or where `bash library` writes it. It is needed only when a program is linked: without
 //! it all can be checked and documented, and a warning says what the linker will miss.
 
 use std::env;

@@ -27,7 +27,7 @@ pub struct Row {
 }
 
 impl Ord for Row {
-    /// Mirrors the engine's order of rows, `rowBefore` in `crates/rows/specs/Row.antt`. All that orders rows here comes to this function.
+    /// Mirrors the engine's order of rows, `row_before` in `crates/rows/specs/Row.antt`. All that orders rows here comes to this function.
     fn cmp(&self, other: &Row) -> Ordering {
         self.atoms().cmp(other.atoms())
     }

@@ -1,4 +1,4 @@
-//! What an answer says of a row, and how rows, sets and tables are printed. They link the compiled library: `rt staticlib capi` first.
+//! What an answer says of a row, and how rows, sets and tables are printed. They link the compiled library: `bash library` first.
 
 mod filed;
 

@@ -1,5 +1,5 @@
-//! Document 02's N2 through the safe types: external policies rewritten, and what their tables rest on. The words and tables were worked out by hand. They
-//! link the compiled library: `rt staticlib capi` first.
+//! External policies rewritten, through the safe types, and what their tables rest on. The words and tables were worked out by hand. They link the compiled
+//! library: `bash library` first.
 
 use txindurbe::calls::{self, Rewriting};
 use txindurbe::{

@@ -1,5 +1,4 @@
-//! Document 02's N6 through the safe types: policies of formats 1 and 2. What is expected was worked out by hand. They link the compiled library: `rt
-//! staticlib capi` first.
+//! Policies of formats 1 and 2 through the safe types. What is expected was worked out by hand. They link the compiled library: `bash library` first.
 
 mod filed;
 

@@ -1,4 +1,4 @@
-//! What stores tell of what they hold, and certificates and links from words. They link the compiled library: `rt staticlib capi` first.
+//! What stores tell of what they hold, and certificates and links from words. They link the compiled library: `bash library` first.
 
 mod filed;
 

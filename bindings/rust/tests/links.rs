@@ -1,5 +1,4 @@
-//! Document 02's N5 through the safe types: lists that include lists. What is expected was worked out by hand. They link the compiled library: `rt staticlib
-//! capi` first.
+//! Lists that include lists, through the safe types. What is expected was worked out by hand. They link the compiled library: `bash library` first.
 
 mod filed;
 

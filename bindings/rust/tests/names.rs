@@ -1,5 +1,5 @@
-//! Variables and definitions by name: the words that they come to, worked out by hand, and names that stand for nothing. They link the compiled library: `rt
-//! staticlib capi` first.
+//! Variables and definitions by name: the words that they come to, worked out by hand, and names that stand for nothing. They link the compiled library:
+//! `bash library` first.
 
 use txindurbe::{variable, Definition, Expression, Guard, Key, Part, Polarity, Policy, Query, Refusal, Term, Unresolved, Verdict};
 

@@ -1,5 +1,4 @@
-//! Document 02's N7 through the safe types: names under our own key. What is expected was worked out by hand. They link the compiled library: `rt staticlib
-//! capi` first.
+//! Names under our own key through the safe types. What is expected was worked out by hand. They link the compiled library: `bash library` first.
 
 mod filed;
 

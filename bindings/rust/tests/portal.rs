@@ -1,5 +1,5 @@
-//! Document 01's portal cases through the safe types, at minute 0, their certificates holding from 0 to 1, as document 02's N4 asks, and with k2 as our key, as
-//! its N7 asks. They link the compiled library: `rt staticlib capi` first.
+//! The portal cases through the safe types, at minute 0, their certificates holding from 0 to 1, and with k2 as our key. They link the compiled library:
+//! `bash library` first.
 
 use txindurbe::{
     variable, Certificate, Definition, Engine, Expression, Filing, Guard, Key, Links, Membership, Minute, Part, Polarity, Policy, Query, Refusal,

@@ -1,4 +1,4 @@
-//! Stores of both kinds saved and loaded again, and what is not loaded. They link the compiled library: `rt staticlib capi` first.
+//! Stores of both kinds saved and loaded again, and what is not loaded. They link the compiled library: `bash library` first.
 
 mod filed;
 

@@ -1,5 +1,5 @@
-//! Document 02's N4 through the safe types: terms of validity, queries at a minute, dates. What is expected was worked out by hand. They link the compiled
-//! library: `rt staticlib capi` first.
+//! Terms of validity, queries at a minute and dates, through the safe types. What is expected was worked out by hand. They link the compiled library:
+//! `bash library` first.
 
 mod filed;
 
