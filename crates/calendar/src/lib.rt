@@ -1,4 +1,6 @@
 // The converter between minutes and dates, for 2000 to 2099: two calls, each of a few sums and quotients.
+#![tactic(auto)]
+
 ghost use Rattle.std.specs.Prelude.{◌+◌, ◌-◌, ◌≤◌, ◌<◌, ◌≡◌, get_or};
 ghost use Rattle.calendar.specs.Gregorian.{leap, february_days, months, days_of_first, whole_in};
 ghost use Rattle.calendar.specs.Converter.{date_of, years, exists, minutes_reply, date_reply};

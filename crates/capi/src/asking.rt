@@ -22,10 +22,10 @@ pub extern "C" fn txb_query<'a>(
     verdict: &mut u32,
     draws: &mut u32,
 ) -> u32
-    ensures { Asked (record { store = store.entry.now; links = links.now })
+    ensures { Asked (record { store = store.entry.now; links = links.entry.now })
         (lent policy.now query.now our_key minute answer.old definitions.old scratch.old)
         (record { number = result; part = part.new; verdict = verdict.new; draws = draws.new })
-        answer.new (record { store = store.exit.now; links = links.now }) }
+        answer.new (record { store = store.exit.now; links = links.exit.now }) }
 {
     match ask(
         policy,

@@ -1,4 +1,6 @@
 // The calls of a portal for programs in C and Rust: a slice is a pointer and a length, an out-parameter a pointer. Each hands out all that its reply carries.
+#![tactic(auto)]
+
 mod asking;
 mod dates;
 mod filing;

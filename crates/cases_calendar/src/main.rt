@@ -5,6 +5,8 @@
 //     NAME|date MINUTES                            prints the date of the minutes: year, month, day, hour, minute
 //
 // A line without bars is a heading.
+#![tactic(auto)]
+
 ghost use Rattle.std.specs.Prelude.{◌≤◌, length};
 
 use calendar::{Dated, Minutes, date_at, minutes_of};

@@ -10,6 +10,8 @@
 //     part KEY NAME POLARITY       prints one name's part of the store, ten words to a line
 //
 // `file`, `store`, `link` and `links` lines keep the stores (`cases::storing`). Any other line is printed.
+#![tactic(auto)]
+
 ghost use Rattle.std.specs.Prelude.{◌≤◌, ◌<◌, length};
 
 use cases::storing::keep;

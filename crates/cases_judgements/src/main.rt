@@ -2,6 +2,8 @@
 // them. With a part number after one more bar the words of that part are printed instead. A line without bars says which key is ours, or is a
 // heading (`cases::headings`). How words are written is said in the crate `cases`. Each line of `stdout` was checked by hand against the
 // documents.
+#![tactic(auto)]
+
 ghost use Rattle.std.specs.Prelude.{◌≤◌, length};
 
 use cases::replies::say_refusal;

@@ -7,6 +7,8 @@
 //
 // `file`, `store`, `link` and `links` lines keep the stores (`cases::storing`); there are no links at the start. Any other line says which key is
 // ours, or is a heading (`cases::headings`); where k2 is another's key, k7 is ours, which no case has as an issuer.
+#![tactic(auto)]
+
 ghost use Rattle.std.specs.Prelude.{◌≤◌, length};
 
 use cases::replies::say_reply;

@@ -6,6 +6,8 @@
 //
 // A line without bars says which key is ours, or is a heading (`cases::headings`); where k2 is another's key, k7 is ours, which no case has as an
 // issuer.
+#![tactic(auto)]
+
 ghost use Rattle.std.specs.Prelude.{◌≤◌, length};
 
 use cases::replies::{say_refusal, say_rest};

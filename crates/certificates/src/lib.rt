@@ -1,4 +1,6 @@
 // Certificates, links, their stores and filing: no code, the definitions are in `specs/` and what is shown of them in `proofs/`.
+#![tactic(auto)]
+
 // What the code goes by:
 
 // key, name, polarity, the row's width and four atoms, the first and the end minute

@@ -1,5 +1,7 @@
 // An expression checked in one pass over its words: refusals 3, 4 and 5 at the first word that breaks a rule, and on the way which polarities
 // it has, whether it is open, and whether every draw is from a set that is not.
+#![tactic(auto)]
+
 ghost use Rattle.std.specs.Prelude.{◌≤◌, length, drop};
 ghost use Rattle.policy.specs.Decode.{is_draw, is_absent};
 ghost use Rattle.check_terms.specs.Answers.{Answers};

@@ -1,4 +1,6 @@
 // What holds no other expression, checked over its words: the leaves, and the head of a comprehension.
+#![tactic(auto)]
+
 ghost use Rattle.std.specs.Prelude.{◌≤◌, ◌<◌, ◌≡◌, length, drop};
 ghost use Rattle.refusals.specs.RefusalTable.{not_in_scope};
 ghost use Rattle.rows.specs.Name.{polarity_of};

@@ -1,5 +1,7 @@
 // The polarities that an expression has and whether it is open, from those of its parts; refusals 6 and 7, which rest on them; and what is known where
 // an expression stands: our key and the definitions before.
+#![tactic(auto)]
+
 ghost use Rattle.std.specs.Prelude.{◌+◌, ◌≤◌, ◌≡◌, ◌&&◌, ◌||◌};
 ghost use Rattle.rows.specs.Name.{polarity_of};
 ghost use Rattle.policy.specs.OwnKey.{definition_of};

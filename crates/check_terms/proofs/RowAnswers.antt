@@ -8,7 +8,7 @@ use lib.Dec.{leb, eqb}
 use lib.ListN.{length, drop}
 use borrow.Author.Tests.{le-leb}
 use Rattle.refusals.specs.RefusalTable.{bad_word, not_in_scope}
-use Rattle.policy.specs.Syntax.{Term, Slot}
+use Rattle.policy.specs.Syntax.{Slot}
 use Rattle.policy.specs.Decode.{Read, got, refused, Reader, after, give, word_where, times, is_atom, is_var, tag_of, term_as, any_atom, term, width, row, rows, Pattern, push_slot, slot_as, slots}
 use Rattle.policy.specs.Held.{slot_is}
 use Rattle.check_terms.specs.Answers.{Follows, kept, keeping, nothing, between, word_read_is, passed_is, slot_for, slot, scope_after, pattern, scope, pattern_read_is}

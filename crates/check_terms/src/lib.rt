@@ -1,4 +1,6 @@
 // Terms, slots and the guards that compare terms, decoded word by word.
+#![tactic(auto)]
+
 ghost use Rattle.refusals.specs.RefusalTable.{bad_word, not_in_scope};
 ghost use Rattle.policy.specs.Decode.{word_where, term, issuer, row, rows};
 ghost use Rattle.check_terms.specs.Answers.{Follows, keeping, nothing, between, next, slot, scope, pattern, opening, word_read_is, term_read_is, slot_read_is, guard_read_is, passed_is, pattern_read_is};

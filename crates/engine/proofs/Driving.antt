@@ -7,7 +7,6 @@ use lib.ListN.{length, get_or}
 use Rattle.refusals.specs.RefusalTable.{query_part}
 use Rattle.rows.specs.Sets.{RowSet}
 use Rattle.rows.specs.Layout.{set_in, set_words, put, written}
-use Rattle.rows.proofs.Lists.{length_snoc}
 use Rattle.certificates.specs.Stores.{Stores}
 use Rattle.policy.specs.OwnKey.{Declared}
 use Rattle.policy.specs.Leaf.{declaration}
@@ -20,7 +19,7 @@ use Rattle.policy.specs.Checking.{checked, check}
 use Rattle.policy.proofs.Judging.{AcceptedDefinition, Accepted, none, one, AcceptedPair, check_accepted}
 use Rattle.policy_table.specs.Entries.{entry_place, entries_from, declared_as, declared_in}
 use Rattle.policy_table.proofs.Declared.{known_more}
-use Rattle.policy_table.proofs.PartAnswers.{table_parts, inside, Listed, listed_of, length_entries}
+use Rattle.policy_table.proofs.PartAnswers.{table_parts, inside, Listed, listed_of}
 use Rattle.meaning.specs.Reading.{done, refused}
 use Rattle.read_values.specs.Answers.{Filled, set_read_is, IfDone}
 use Rattle.read_values.specs.From.{From, with_sets, sets_in, names, sets, SoundFrom}

@@ -1,4 +1,6 @@
 // The query call: a policy and a query judged under our key, then read from the certificates that hold at a minute, along links.
+#![tactic(auto)]
+
 mod answering;
 
 ghost use Rattle.std.specs.Prelude.{◌≡◌, ◌&&◌, leb};
@@ -48,9 +50,9 @@ pub fn query<'a>(
     definitions: &mut [u32],
     scratch: &mut [u32],
 ) -> Reply
-    ensures { Replied (record { store = store.entry.now; links = links.now })
+    ensures { Replied (record { store = store.entry.now; links = links.entry.now })
         (lent policy.now query.now our_key minute answer.old definitions.old scratch.old)
-        result answer.new (record { store = store.exit.now; links = links.now }) }
+        result answer.new (record { store = store.exit.now; links = links.exit.now }) }
 {
     match judge(policy, query, our_key) {
         Judgement::Refused { number, part } => Reply::Refused { number, part },

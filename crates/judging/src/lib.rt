@@ -1,4 +1,6 @@
 // A policy and a query judged under a key of ours: refusal 20, then 1 to 7, each part through 3 to 7 before the next.
+#![tactic(auto)]
+
 ghost use Rattle.std.specs.Prelude.{◌+◌, ◌≤◌, ◌≡◌, length};
 ghost use Rattle.refusals.specs.RefusalTable.{no_part};
 ghost use Rattle.policy.specs.Polarity.{verdict_word};

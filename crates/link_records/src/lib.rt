@@ -1,4 +1,6 @@
 // The link store's words, a count and then the links in order: tested and searched.
+#![tactic(auto)]
+
 ghost use Rattle.std.specs.Prelude.{◌+◌, ◌*◌, ◌≤◌, ◌≡◌, true, length};
 ghost use Rattle.rows.specs.Ordered.{words_before};
 ghost use Rattle.rows.specs.Records.{behind_at, place_in, held_at};

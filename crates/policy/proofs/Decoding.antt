@@ -15,7 +15,7 @@ use Rattle.policy.specs.Leaf.{leaf_code, leaf_rest, leaf_of, leaf_as}
 use Rattle.policy.specs.Words.{term_words, fresh, guard_count, expr_words, body_words}
 use Rattle.policy.specs.WellFormed.{FitTerm, Fit, FitBody, depth, body_depth, draw_count, body_draws, WellFormed}
 use Rattle.policy.specs.Parse.{parsed, none_left, parse}
-use Rattle.policy.specs.Decode.{Read, got, refused, Reader, after, give, word, word_where, count_draw, term, slots, guard_of, guard_as, body, code_of, is_code, expr_as, expr}
+use Rattle.policy.specs.Decode.{Read, got, refused, Reader, after, give, word, word_where, count_draw, term, guard_of, guard_as, body, code_of, is_code, expr_as, expr}
 use Rattle.policy.specs.Parsing.{Theorem}
 use Rattle.policy.proofs.Basics.{impossible}
 use Rattle.policy.proofs.Spelling.{Spelling, one_word, Made, made, Taken, Takes, Returns, Reads, refuse_takes, then_takes, last_takes, then_returns, last_returns, word_takes, word_returns, returns_as}

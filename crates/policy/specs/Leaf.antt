@@ -4,7 +4,7 @@ use Rattle.std.specs.Prelude.{ℕ, zero, suc, ◌<◌, Bool, true, false, ◌&&�
 use Rattle.refusals.specs.RefusalTable.{bad_word, not_in_scope}
 use Rattle.rows.specs.Name.{Polarity, plus, minus, opposite, same_polarity, polarity_word, is_name}
 use Rattle.policy.specs.Terms.{Term, term_words, each, term_row_words, FitIssuer, FitRows}
-use Rattle.policy.specs.Readers.{Reader, ◌>>=◌, ◌>>◌, give, refuse, word_where, issuer, rows, polarity}
+use Rattle.policy.specs.Readers.{Reader, ◌>>=◌, give, refuse, word_where, issuer, rows, polarity}
 use Rattle.policy.specs.OwnKey.{Declared, Scope, reach, FitOrigin, origin}
 pub use Rattle.policy.specs.OwnKey.{Origin, by_certificates, by_definition}
 

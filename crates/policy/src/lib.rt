@@ -1,5 +1,7 @@
 // Policies and queries: the definitions are in `specs/` and what is shown of them in `proofs/`. What the code goes by: the numbers of document 01,
 // "Expressions, in prefix order", and the terms, slots and guards that checker and readers hold.
+#![tactic(auto)]
+
 ghost use Rattle.std.specs.Prelude.{◌≡◌};
 ghost use Rattle.policy.specs.Decode.{is_node};
 

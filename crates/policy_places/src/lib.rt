@@ -1,4 +1,6 @@
 // What stands in the words of a checked policy or query: the term, slot or guard at a place, and the place after it.
+#![tactic(auto)]
+
 pub mod skip;
 
 ghost use Rattle.std.specs.Prelude.{◌+◌, ◌≤◌, length};

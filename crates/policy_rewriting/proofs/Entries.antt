@@ -8,7 +8,7 @@ use lib.Dec.{eqb}
 use lib.ListN.{length, get_or, take, drop}
 use lib.Seq.{drop-cons}
 use borrow.Author.Tests.{eq-eqb, ne_eqb}
-use Rattle.rows.specs.Name.{Polarity, minus, polarity_of}
+use Rattle.rows.specs.Name.{Polarity, polarity_of}
 use Rattle.policy.specs.Table.{entry_at, entry_words}
 use Rattle.policy.specs.External.{lists_keys, keys_listed, moved, entry_four}
 use Rattle.policy.proofs.Judging.{policy_accepted}

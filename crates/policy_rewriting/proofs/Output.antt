@@ -31,7 +31,7 @@ use Rattle.policy_rewriting.specs.Walks.{vets, out_leaf, out, Answered, Walked, 
 use Rattle.policy_rewriting.specs.Output.{Passing, SayKeys, may_be, sign, AskDefinition, WalkedDefinition, header_of, MeasuredAs}
 use Rattle.policy_rewriting.specs.declared.vetting.Vetted.{Vetted}
 use Rattle.policy_rewriting.specs.declared.vetting.Vetted.TheVariants as vetted
-use Rattle.policy_rewriting.specs.declared.Measured.TheVariants.{Words, Broken}
+use Rattle.policy_rewriting.specs.declared.Measured.TheVariants.{Words}
 use Rattle.policy_rewriting.proofs.Laid.{laid_none, laid_append, laid_apart}
 use Rattle.policy_rewriting.proofs.Entries.{word_first}
 use Rattle.policy_rewriting.proofs.Walks.{answer_told}

@@ -8,7 +8,7 @@ use native.Mathlib.Omega.{arith}
 use lib.ListN.{length, get_or, take, drop, length-append}
 use lib.Seq.{take-append_seam}
 use Rattle.rows.specs.Name.{Polarity}
-use Rattle.policy.specs.Syntax.{Term, comprehension, draw, same}
+use Rattle.policy.specs.Syntax.{Term, comprehension, draw}
 use Rattle.policy.specs.Words.{term_words, term_row_words, fresh, guard_count, expr_words, body_words}
 use Rattle.policy.specs.Decode.{is_node}
 use Rattle.policy.specs.External.{external_expr, external_body, each_leaf}

@@ -1,4 +1,6 @@
 // An external policy rewritten into a lent area.
+#![tactic(auto)]
+
 mod laying;
 mod vetting;
 

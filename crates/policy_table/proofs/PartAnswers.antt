@@ -9,7 +9,7 @@ use borrow.Author.Tests.{eq-eqb, ne_eqb, lt-ltb, le-ltb, ltb-true}
 use Rattle.rows.specs.Word.{All}
 use Rattle.rows.proofs.Case.{Case, is_true, is_false, split}
 use Rattle.rows.proofs.Lists.{all_at}
-use Rattle.policy.specs.Table.{Entry, entry_at, Table, table, refused, entries, read_table}
+use Rattle.policy.specs.Table.{Entry, entry_at, Table, table, refused, read_table}
 use Rattle.policy.specs.Part.{in_policy, whole_query, nowhere, no_entry, span_among, part_span, words_at, part_words}
 use Rattle.policy.specs.Part as Part
 use Rattle.policy_table.specs.Entries.{entry_place, entries_from, table_is}

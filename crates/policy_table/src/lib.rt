@@ -1,4 +1,6 @@
 // The policy's table: refusals 1 and 2. No sum is taken that could wrap.
+#![tactic(auto)]
+
 pub mod parts;
 
 ghost use Rattle.std.specs.Prelude.{◌+◌, ◌*◌, ◌≤◌, ◌≡◌, length};

@@ -7,7 +7,6 @@ use mathlib.Core.List.{List}
 use native.Mathlib.Omega.{arith}
 use lib.Dec.{eqb}
 use lib.ListN.{length, take, drop}
-use denote.Enum.Declared.{tag_of}
 use Rattle.rows.specs.Row.{Row}
 use Rattle.rows.specs.Sets.{has}
 use Rattle.rows.specs.Layout.{rows_in, set_in}
@@ -39,7 +38,6 @@ use Rattle.read_values.specs.declared.Tested as Tested
 use Rattle.policy.specs.declared.Term as Held-term
 use Rattle.policy.specs.declared.Guard as Held-guard
 use Rattle.policy.specs.declared.Guard.TheVariants.{Draw, Same, Different, Absent}
-use Rattle.policy.specs.contracts.Guard.{the_type}
 
 -- ---- a step that is one of two
 

@@ -1,6 +1,8 @@
 // The readers of expressions and of guards, which call each other. An expression's set is left at the area's front; what lies behind it is free.
 // A comprehension gathers its rows at the front, and from `free` on the area is free: below it lie the sets that are drawn from.
 // The values of the `count` variables in scope are lent down the calls: a reader may write behind them and leaves them as they were.
+#![tactic(auto)]
+
 ghost use Rattle.read_values.specs.From.{from};
 ghost use Rattle.read_expressions.specs.Readers.{AskExpr, AskTwo, AskBody, AskDraw, AskEach, AskAbsent, AskHas, SayExpr, SayTwo, SayBody, SayDraw, SayEach, SayAbsent, SayExprHas, AskWhole, SayWhole};
 

@@ -1,4 +1,6 @@
 // Of a name's records those that hold at a minute, and their rows. The records are in order by the row, so that those of one row stand side by side.
+#![tactic(auto)]
+
 ghost use Rattle.std.specs.Prelude.{◌+◌, ◌*◌, ◌≤◌, ◌<◌, ◌≡◌, ltb, length, get_or};
 ghost use Rattle.rows.specs.Sets.{most_rows};
 ghost use Rattle.rows.specs.Layout.{set_room, formed, written};

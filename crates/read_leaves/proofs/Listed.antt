@@ -1,12 +1,12 @@
 -- A name: read from certificates or, under our own key, as the definition that it stands for.
 use Prim.Native.Nat.{ℕ, ◌+◌, ◌≤◌, ◌<◌}
-use mathlib.Core.Path.{◌≡◌, refl, sym, ap, subst, ◌∙◌}
+use mathlib.Core.Path.{◌≡◌, refl, sym, ap, ◌∙◌}
 use mathlib.Core.Bool.{Bool, true, false}
 use mathlib.Core.List.{List, []}
 use native.Mathlib.Omega.{arith}
 use lib.Dec.{eqb}
 use lib.ListN.{length, get_or}
-use Rattle.rows.specs.Name.{Polarity, polarity_of, polarity_word}
+use Rattle.rows.specs.Name.{Polarity, polarity_of}
 use Rattle.rows.specs.Sets.{RowSet, only, has}
 use Rattle.rows.specs.Layout.{set_in, written}
 use Rattle.sets.proofs.Standing.{copied_stands}
@@ -17,9 +17,9 @@ use Rattle.policy_table.specs.Entries.{declared_in}
 use Rattle.policy_table.proofs.Declared.{own_within, not_fixed}
 use Rattle.meaning.specs.Values.{Values, value, row_of}
 use Rattle.meaning.specs.Reading.{Result, done, after, small, read_name}
-use Rattle.policy_places.specs.Places.{At, name_words, StandsName, SomeName}
+use Rattle.policy_places.specs.Places.{StandsName, SomeName}
 use Rattle.policy_places.proofs.Places.{at_word, at_next}
-use Rattle.read_values.specs.Answers.{Filled, set_read_is, tested_is, IfDone}
+use Rattle.read_values.specs.Answers.{set_read_is, tested_is, IfDone}
 use Rattle.read_values.specs.From.{From, sets_in, scope_in, names, sets}
 use Rattle.read_values.specs.declared.Read as Read
 use Rattle.read_values.specs.declared.Read.TheVariants.{Done}
@@ -27,7 +27,7 @@ use Rattle.read_values.specs.declared.Tested as Tested
 use Rattle.read_values.proofs.Answers.{stands_filled}
 use Rattle.read_steps.specs.Steps.{SayHas}
 use Rattle.read_names.specs.Names.{SayName, SayNameHas}
-use Rattle.read_names.proofs.Named.{polarity_back, NameHere, name_here}
+use Rattle.read_names.proofs.Named.{polarity_back, name_here}
 use Rattle.read_leaves.specs.Leaves.{SayDefinition, origin_if, SayOwn, AskOwn, SayOwnSet, AskName, SayListed, SayListedHas}
 
 -- ---- under our own key or not

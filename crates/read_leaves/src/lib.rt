@@ -1,5 +1,7 @@
 // The expressions that hold no other, read: the rows of a literal, an earlier definition, a name, a name whose issuer is looked up. A name under our own key
 // is the definition that it stands for. The readers of expressions call one function for all of them.
+#![tactic(auto)]
+
 ghost use Rattle.std.specs.Prelude.{ℕ, ◌+◌, ◌*◌, ◌≤◌, ◌<◌, ◌≡◌, length, get_or, take, drop};
 ghost use Rattle.rows.specs.Layout.{set_room};
 ghost use Rattle.read_values.specs.Values.{Bound};

@@ -1,4 +1,6 @@
 // The names that links reach from a name, itself included: document 02, N5. A name that is found lies in two words, its key and its number.
+#![tactic(auto)]
+
 ghost use Rattle.std.specs.Prelude.{◌+◌, ◌*◌, ◌≤◌, ◌<◌, ◌≡◌, true, length};
 ghost use Rattle.rows.specs.Records.{count_of};
 ghost use Rattle.certificates.specs.Link.{sound_links};

@@ -1,4 +1,6 @@
 // Reading a name: the rows that are certified at a minute for it and for the names that links reach from it, copied or looked up.
+#![tactic(auto)]
+
 mod reached;
 
 ghost use Rattle.std.specs.Prelude.{◌≡◌, true, ◌≤◌, length, take};

@@ -1,4 +1,6 @@
 // What the readers do in one step: rows drawn and matched, a row tested or gathered, two sets joined.
+#![tactic(auto)]
+
 ghost use Rattle.std.specs.Prelude.{◌+◌, ◌≤◌, ◌≡◌, length, get_or, take, drop};
 ghost use Rattle.rows.specs.Layout.{set_room, row_in, rows_in, five_at};
 ghost use Rattle.meaning.specs.Matching.{fits};

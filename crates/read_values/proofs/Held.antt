@@ -8,7 +8,6 @@ use native.Mathlib.Omega.{arith}
 use lib.Dec.{eqb}
 use lib.ListN.{take, get_or, length-take, get_or-eq_default}
 use lib.Seq.{get_or-take}
-use Rattle.policy.specs.Syntax.{Term}
 use Rattle.policy.specs.Held.{term_is}
 use Rattle.meaning.specs.Values.{Values, value}
 use Rattle.read_values.specs.Values.{passing}

@@ -1,5 +1,7 @@
 // What the terms and rows of terms that stand in the words come to. The values of the variables in scope are the first `count` of the sixteen that the
 // readers lend each other, variable 0 first.
+#![tactic(auto)]
+
 ghost use Rattle.std.specs.Prelude.{◌≡◌, take};
 ghost use Rattle.policy.specs.Held.{term_is};
 ghost use Rattle.meaning.specs.Reading.{tick};

@@ -1,4 +1,6 @@
 // Records kept in words, a count and then records of one width: read, searched and put in. Over any width.
+#![tactic(auto)]
+
 ghost use Rattle.std.specs.Prelude.{◌+◌, ◌*◌, ◌≤◌, ◌<◌, ◌≡◌, length, drop};
 ghost use Rattle.rows.specs.Ordered.{leading, PassFirst};
 ghost use Rattle.rows.specs.Records.{count_of, records_in, record_at, put_in, begins_before};

@@ -1,4 +1,6 @@
 // The refusal numbers. The table itself is `specs/RefusalTable.antt`.
+#![tactic(auto)]
+
 pub const BAD_HEADER: u32 = 1;
 
 pub const BAD_TABLE: u32 = 2;

@@ -1,4 +1,6 @@
 // Words written into an area, copied within it or compared; rows in words, and a row's place among them.
+#![tactic(auto)]
+
 pub mod row;
 pub mod search;
 

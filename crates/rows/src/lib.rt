@@ -1,4 +1,6 @@
 // Rows, their order, and sets of rows: no code, the definitions are in `specs/` and what is shown of them in `proofs/`.
+#![tactic(auto)]
+
 // What the code tests against:
 
 // "An atom is a word: below 2,147,483,648 a number, from there up a key."

@@ -1,5 +1,7 @@
 // Union and difference of two sets in one area that holds nothing else: the left set in its first 642 words, the right one in the others. The value is left in the
 // left's place. All words past its last row stay, the right set's too; where it does not fit, all stay.
+#![tactic(auto)]
+
 ghost use Rattle.std.specs.Prelude.{◌≡◌, true, false, ◌+◌, ◌*◌, ◌-◌, ◌≤◌, length, get_or, drop, leb};
 ghost use Rattle.rows.specs.Ordered.{join};
 ghost use Rattle.rows.specs.Row.{row_before};

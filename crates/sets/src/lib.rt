@@ -1,4 +1,6 @@
 // A set in words: form, count, then five words a row.
+#![tactic(auto)]
+
 ghost use Rattle.std.specs.Prelude.{◌≡◌, true, [], ◌∷◌, ◌++◌, ◌+◌, ◌*◌, ◌≤◌, ◌<◌, length, get_or, take, drop};
 ghost use Rattle.rows.specs.Sets.{has};
 ghost use Rattle.rows.specs.Ordered.{ascending};

@@ -1,4 +1,6 @@
 // Certificates and the store that holds them: document 01, "Store and filing". Links have a store of their own, filed into alike.
+#![tactic(auto)]
+
 mod links;
 
 ghost use Rattle.std.specs.Prelude.{◌-◌, ◌≤◌, ◌≡◌, true, length, take, drop};

@@ -1,4 +1,6 @@
 // The store's words, a count and then the records in order: tested and searched.
+#![tactic(auto)]
+
 pub mod record;
 
 ghost use Rattle.std.specs.Prelude.{◌+◌, ◌-◌, ◌*◌, ◌≤◌, ◌<◌, ◌≡◌, true, length};

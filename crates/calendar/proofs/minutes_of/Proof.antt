@@ -3,7 +3,6 @@ use borrow.Author.Rules.{rules}
 use native.Mathlib.Omega.{arith}
 use mathlib.Core.Path.{◌≡◌, sym, ◌∙◌}
 use mathlib.Core.Bool.{true}
-use borrow.Author.Tests.{not-true, not-false}
 use Rattle.calendar.specs.Converter.{date_of, Date, exists, minutes_of}
 use Rattle.calendar.specs.Reply.{minutes_is}
 use Rattle.calendar.proofs.Existing.{Existing, exists_opens, day_few}

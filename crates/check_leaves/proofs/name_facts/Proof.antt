@@ -1,6 +1,5 @@
 -- Each way out is a law of `LeafAnswers`.
 use mathlib.Core.Path.{sym, ◌∙◌}
-use borrow.Author.Tests.{not-true, not-false}
 use Rattle.rows.specs.Name.{polarity_of}
 use Rattle.policy.specs.Held.{term_is}
 use Rattle.check_polarity.specs.Earlier.{earlier_is}

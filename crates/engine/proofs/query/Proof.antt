@@ -1,7 +1,6 @@
 -- Each way out is a law of `Replying`.
 use mathlib.Core.Path.{◌≡◌, sym, ◌∙◌}
 use mathlib.Core.Bool.{true}
-use borrow.Author.Tests.{not-true, not-false}
 use borrow.Author.Rules.{rules}
 use Rattle.certificates.specs.Store.{sound_store}
 use Rattle.certificates.specs.Link.{sound_links}

@@ -6,7 +6,6 @@ use mathlib.Core.Bool.{true}
 use mathlib.Core.List.{List}
 use native.Mathlib.Omega.{arith}
 use borrow.Author.Count.{below_more}
-use borrow.Author.Tests.{not-true, not-false}
 use Rattle.rows.specs.Ordered.{words_before}
 use Rattle.rows.specs.Records.{record_at, behind_at}
 use Rattle.rows.proofs.Order.{words_order}

@@ -5,7 +5,6 @@ use mathlib.Core.Bool.{true}
 use mathlib.Core.List.{List}
 use native.Mathlib.Omega.{arith}
 use lib.ListN.{get_or}
-use borrow.Author.Tests.{not-true, not-false}
 use borrow.Author.Rules.{rules}
 use Rattle.policy.specs.Table.{entry_at, sound_header, sound_entry}
 use Rattle.policy_table.specs.Entries.{entry_place, entries_before}

@@ -2,7 +2,6 @@ use Prim.Native.Nat.{ℕ}
 use mathlib.Core.Path.{◌≡◌, sym, ◌∙◌, ap}
 use mathlib.Core.Bool.{true}
 use mathlib.Core.List.{List}
-use borrow.Author.Tests.{not-true, not-false}
 use Rattle.policy.specs.Format.{is_format, format_of}
 use Rattle.policy_table.specs.Entries.{entry_place}
 use Rattle.policy_table.proofs.TableAnswers.{short_header_unsound, long_header_unsound, other_format_unsound, many_definitions_unsound, header_sound_if_table_fits}

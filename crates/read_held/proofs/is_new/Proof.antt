@@ -4,7 +4,6 @@ use Prim.Native.Nat.{◌<◌}
 use mathlib.Core.Path.{◌≡◌, sym, ◌∙◌}
 use mathlib.Core.Bool.{true}
 use native.Mathlib.Omega.{arith}
-use borrow.Author.Tests.{not-true, not-false}
 use Rattle.certificates.specs.Certificate.{holds_at}
 use Rattle.certificates.specs.Steps.{record_in}
 use Rattle.read_held.proofs.Walking.{not_held_lem, none_yet, told_new}

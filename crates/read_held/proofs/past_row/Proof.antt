@@ -1,7 +1,6 @@
 -- The invariant: the rows from i up to j are record i's.
 use borrow.Author.Rules.{rules}
 use Prim.Native.Nat.{◌-◌}
-use borrow.Author.Tests.{not-true, not-false}
 use Rattle.read_held.proofs.Walking.{Passing, passing_start, passing_next, past_all, past_other}
 use Rattle.read_held.proofs.past_row.Statement.{statement}
 use Rattle.read_held.proofs.past_row.Tie as tie

@@ -1,7 +1,6 @@
 -- The invariant: the rows from j up to i are record i's.
 use borrow.Author.Rules.{rules}
 use native.Mathlib.Omega.{arith}
-use borrow.Author.Tests.{not-true, not-false}
 use Rattle.read_held.proofs.Walking.{Returning, returning_start, returning_next, starts_first, starts_here}
 use Rattle.read_held.proofs.row_start.Statement.{statement}
 use Rattle.read_held.proofs.row_start.Tie as tie

@@ -2,7 +2,6 @@
 use native.Mathlib.Omega.{arith}
 use Rattle.read_names.proofs.Named.{name_long}
 use Rattle.read_leaves.proofs.Listed.{no_atom, by_atom}
-use borrow.Author.Rules.{rules}
 use Rattle.read_leaves.proofs.is_own.Statement.{statement}
 use Rattle.read_leaves.proofs.is_own.Tie as tie
 

@@ -4,7 +4,6 @@ use mathlib.Core.Path.{sym, ◌∙◌}
 use native.Mathlib.Omega.{arith}
 use lib.ListN.{length, get_or}
 use borrow.Author.Rules.{rules}
-use borrow.Author.Tests.{not-true, not-false}
 use Rattle.policy.specs.declared.Slot.TheVariants.{Old, New}
 use Rattle.policy_places.specs.Places.{IsSlot}
 use Rattle.policy_places.proofs.Places.{pattern_width}

@@ -3,7 +3,6 @@ use Prim.Native.Nat.{ℕ}
 use mathlib.Core.Path.{sym, ◌∙◌, ap}
 use native.Mathlib.Omega.{arith}
 use lib.ListN.{drop}
-use borrow.Author.Tests.{not-true, not-false}
 use Rattle.rows.specs.Layout.{every, sound_row, pieces}
 use Rattle.rows.proofs.Case.{never}
 use Rattle.rows.proofs.LayoutLaws.{unsound, sound_order}

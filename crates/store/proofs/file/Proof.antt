@@ -5,7 +5,6 @@ use mathlib.Core.Path.{◌≡◌, sym, ◌∙◌}
 use mathlib.Core.Bool.{true, false}
 use mathlib.Core.List.{List}
 use native.Mathlib.Omega.{arith}
-use borrow.Author.Tests.{not-true, not-false}
 use Rattle.rows.specs.Records.{held_at}
 use Rattle.certificates.specs.Certificate.{record_words, sound_certificate, sound_record, record_before}
 use Rattle.certificates.specs.Store.{sound_store}

@@ -1,7 +1,6 @@
 -- An unsound store has no part, and a sound one that of `span_in`.
 use borrow.Author.Rules.{rules}
 use mathlib.Core.Path.{sym, ◌∙◌}
-use borrow.Author.Tests.{not-true, not-false}
 use Rattle.certificates.proofs.NameParts.{spans_none}
 use Rattle.store.proofs.span_of.Statement.{statement}
 use Rattle.store.proofs.span_of.Tie as tie

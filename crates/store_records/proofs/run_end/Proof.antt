@@ -4,7 +4,6 @@ use Prim.Native.Nat.{◌-◌}
 use mathlib.Core.Path.{◌≡◌, sym, ◌∙◌}
 use lib.ListN.{length}
 use native.Mathlib.Omega.{arith}
-use borrow.Author.Tests.{not-false}
 use Rattle.certificates.specs.Certificate.{record_words}
 use Rattle.store_records.proofs.Runs.{Going, slice_length, going_first, going_next}
 use Rattle.store_records.proofs.run_end.Statement.{statement}

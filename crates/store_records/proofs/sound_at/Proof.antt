@@ -2,7 +2,6 @@
 use borrow.Author.Rules.{rules}
 use mathlib.Core.Path.{sym, ◌∙◌}
 use native.Mathlib.Omega.{arith}
-use borrow.Author.Tests.{not-true, not-false}
 use Rattle.store_records.proofs.Words.{at_unsound, at_first, at_next}
 use Rattle.store_records.proofs.sound_at.Statement.{statement}
 use Rattle.store_records.proofs.sound_at.Tie as tie

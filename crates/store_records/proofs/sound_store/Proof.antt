@@ -4,7 +4,6 @@ use Prim.Native.Nat.{ℕ, ◌≤◌, ◌<◌, ◌-◌}
 use mathlib.Core.Path.{◌≡◌, sym, ◌∙◌}
 use mathlib.Core.Bool.{true}
 use native.Mathlib.Omega.{arith}
-use borrow.Author.Tests.{not-true, not-false}
 use Rattle.rows.proofs.Records.{too_short, too_many, sound_each, unsound_at}
 use Rattle.certificates.specs.Certificate.{record_words, sound_record}
 use Rattle.certificates.specs.Store.{capacity, sound_store}

@@ -2,7 +2,6 @@ use Prim.Native.Nat.{◌+◌, ◌≤◌}
 use mathlib.Core.Path.{◌≡◌, sym, ◌∙◌}
 use native.Mathlib.Omega.{arith}
 use lib.ListN.{length, get_or}
-use borrow.Author.Tests.{not-true, not-false}
 use Rattle.rows.specs.Name.{polarity_word}
 use Rattle.policy_places.proofs.Leaves.{name_inside}
 use Rattle.policy_rewriting.specs.Walks.{sign_of}

@@ -4,7 +4,6 @@ use mathlib.Core.Path.{◌≡◌, sym, ◌∙◌}
 use mathlib.Core.Bool.{false}
 use native.Mathlib.Omega.{arith}
 use lib.ListN.{get_or}
-use borrow.Author.Tests.{not-true}
 use Rattle.policy.specs.Decode.{is_node}
 use Rattle.policy_places.proofs.Places.{inside}
 use Rattle.read_values.proofs.Lent.{bound_after}

@@ -3,7 +3,6 @@ use borrow.Author.Rules.{rules}
 use native.Mathlib.Omega.{arith}
 use Prim.Native.Nat.{◌-◌, ◌≤◌}
 use mathlib.Core.Path.{◌∙◌}
-use borrow.Author.Tests.{not-true, not-false}
 use Rattle.read_links.specs.Reached.{names_in, name_in}
 use Rattle.read_names.specs.Reached.{HeldFor}
 use Rattle.read_names.proofs.Own.{part_records}

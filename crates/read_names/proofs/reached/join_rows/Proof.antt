@@ -4,7 +4,6 @@ use native.Mathlib.Omega.{arith}
 use Prim.Native.Nat.{◌-◌, ◌≤◌}
 use mathlib.Core.Path.{◌≡◌, sym, ◌∙◌}
 use mathlib.Core.Bool.{true}
-use borrow.Author.Tests.{not-true, not-false}
 use Rattle.rows.specs.Ordered.{◌∈◌}
 use Rattle.certificates.specs.Certificate.{holds_at}
 use Rattle.certificates.specs.Steps.{record_in}

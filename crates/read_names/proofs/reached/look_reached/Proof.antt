@@ -1,7 +1,6 @@
 -- The row is looked for among the records of all names reached; only where these are many are their rows joined.
 use borrow.Author.Rules.{rules}
 use native.Mathlib.Omega.{arith}
-use borrow.Author.Tests.{not-true, not-false}
 use Rattle.read_values.specs.Answers.{Empty}
 use Rattle.read_values.proofs.Answers.{cleared}
 use Rattle.read_names.proofs.Linked.{look_few, look_joined, look_too_many}

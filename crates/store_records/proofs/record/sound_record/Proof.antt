@@ -2,7 +2,6 @@
 use borrow.Author.Rules.{rules}
 use mathlib.Core.Path.{◌≡◌, sym, ◌∙◌}
 use mathlib.Core.Bool.{true}
-use borrow.Author.Tests.{not-true, not-false}
 use Rattle.certificates.specs.Certificate.{sound_certificate}
 use Rattle.certificates.proofs.Sound.{sound_ten}
 use Rattle.store_records.proofs.Words.{no_certificate, its_term}

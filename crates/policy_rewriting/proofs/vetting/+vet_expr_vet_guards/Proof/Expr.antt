@@ -5,7 +5,6 @@ use mathlib.Core.Bool.{true, false}
 use mathlib.Core.List.{[], ◌∷◌}
 use native.Mathlib.Omega.{arith}
 use lib.ListN.{get_or}
-use borrow.Author.Tests.{not-true, not-false}
 use Rattle.policy.specs.Decode.{is_node}
 use Rattle.policy_places.specs.Places.{SomeBody}
 use Rattle.policy_places.proofs.Places.{inside, inside_body}
