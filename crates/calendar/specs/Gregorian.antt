@@ -12,7 +12,7 @@ february_days false = 28
 
 -- the days of each month, January first, in a leap year and in any other
 unfoldable pub months : Bool → List ℕ
-months isLeap = 31 ∷ february_days isLeap ∷ 31 ∷ 30 ∷ 31 ∷ 30 ∷ 31 ∷ 31 ∷ 30 ∷ 31 ∷ 30 ∷ 31 ∷ []
+months is_leap = 31 ∷ february_days is_leap ∷ 31 ∷ 30 ∷ 31 ∷ 30 ∷ 31 ∷ 31 ∷ 30 ∷ 31 ∷ 30 ∷ 31 ∷ []
 
 -- the days of the first n of some months or years
 unfoldable pub days_of_first : ℕ → List ℕ → ℕ

@@ -19,7 +19,7 @@ pub record Theorem : Type 0 where
   -- so no two existing dates have the same minutes
   pub one_to_one : (c d : Date) → exists c ≡ true → exists d ≡ true → minutes_of c ≡ minutes_of d → c ≡ d
   -- the first minute and the last
-  pub first_minute_lem : minutes_reply (date_of 2000 1 1 0 0) ≡ converted 0
+  pub first_minute : minutes_reply (date_of 2000 1 1 0 0) ≡ converted 0
   pub last_minute : minutes_reply (date_of 2099 12 31 23 59) ≡ converted 52595999
   -- the rule of leap years
   pub leap_1900 : leap 1900 ≡ false

@@ -16,7 +16,7 @@ use Rattle.policy.specs.External.{Rewriting, rewritten, rewrite_into, area_after
 use Rattle.policy.specs.External as External
 use Rattle.policy_rewriting.specs.Output.{rewritten_for}
 use Rattle.policy_rewriting.specs.declared.Rewritten.{Rewritten}
-use Rattle.policy_rewriting.specs.declared.Rewritten.TheVariants as rewrittenReply
+use Rattle.policy_rewriting.specs.declared.Rewritten.TheVariants as rewritten_reply
 use Rattle.demands.specs.Query.{Outcome, answered, refused, Call, query_call, draws_of}
 use Rattle.engine.specs.Reply.{reply_for, Replied}
 use Rattle.engine.specs.declared.Reply.{Reply}
@@ -51,21 +51,21 @@ hands_refused_judgement (Judged.verdict w) r is n part e = impossible cc
 hands_refused_judgement (Judged.refused m p) r is n part e = cc
 
 -- rewriting
-length_handed : (o : Rewriting) (r : Rewritten) → r ≡ rewritten_for o → (n : ℕ) → r ≡ rewrittenReply.Length n → hand_rewriting o ≡ record { number = no_refusal; part = no_part; size = n }
+length_handed : (o : Rewriting) (r : Rewritten) → r ≡ rewritten_for o → (n : ℕ) → r ≡ rewritten_reply.Length n → hand_rewriting o ≡ record { number = no_refusal; part = no_part; size = n }
 unfolding rewritten_for hand_rewriting
 length_handed (rewritten out) r is n e = cc
 length_handed (External.refused m p) r is n e = impossible cc
 
-refusal_handed : (o : Rewriting) (r : Rewritten) → r ≡ rewritten_for o → (n part : ℕ) → r ≡ rewrittenReply.Refused n part → hand_rewriting o ≡ record { number = n; part = part; size = 0 }
+refusal_handed : (o : Rewriting) (r : Rewritten) → r ≡ rewritten_for o → (n part : ℕ) → r ≡ rewritten_reply.Refused n part → hand_rewriting o ≡ record { number = n; part = part; size = 0 }
 unfolding rewritten_for hand_rewriting
 refusal_handed (rewritten out) r is n part e = impossible cc
 refusal_handed (External.refused m p) r is n part e = cc
 
 module _ (ours : ℕ) (policy area : List ℕ) {r : Rewritten} {left : List ℕ} (h : (r ≡ rewritten_for (rewrite_into ours policy area)) × (left ≡ area_after (rewrite_into ours policy area) area)) where
-  pub hands_length : (n : ℕ) → r ≡ rewrittenReply.Length n → RewrittenInto ours policy area (record { number = no_refusal; part = no_part; size = n }) left
+  pub hands_length : (n : ℕ) → r ≡ rewritten_reply.Length n → RewrittenInto ours policy area (record { number = no_refusal; part = no_part; size = n }) left
   hands_length n e = record { reply = length_handed (rewrite_into ours policy area) r h.0 n e; words = h.1 }
 
-  pub hands_refused_rewriting : (n part : ℕ) → r ≡ rewrittenReply.Refused n part → RewrittenInto ours policy area (record { number = n; part = part; size = 0 }) left
+  pub hands_refused_rewriting : (n part : ℕ) → r ≡ rewritten_reply.Refused n part → RewrittenInto ours policy area (record { number = n; part = part; size = 0 }) left
   hands_refused_rewriting n part e = record { reply = refusal_handed (rewrite_into ours policy area) r h.0 n part e; words = h.1 }
 
 -- asking

@@ -23,7 +23,7 @@ fn filing_word(reply: Filing) -> u32
 // Files a certificate.
 #[unsafe(no_mangle)]
 pub extern "C" fn txb_file(store: &mut [u32], certificate: &[u32]) -> u32
-    ensures value { result ≡ filing_word (file_reply certificate_kind store.old certificate.now) }
+    ensures answer { result ≡ filing_word (file_reply certificate_kind store.old certificate.now) }
     ensures store_after { store.new ≡ store_after certificate_kind store.old certificate.now }
 {
     filing_word(file(store, certificate))
@@ -32,7 +32,7 @@ pub extern "C" fn txb_file(store: &mut [u32], certificate: &[u32]) -> u32
 // Files a link.
 #[unsafe(no_mangle)]
 pub extern "C" fn txb_file_link(links: &mut [u32], link: &[u32]) -> u32
-    ensures value { result ≡ filing_word (file_reply link_kind links.old link.now) }
+    ensures answer { result ≡ filing_word (file_reply link_kind links.old link.now) }
     ensures links_after { links.new ≡ store_after link_kind links.old link.now }
 {
     filing_word(file_link(links, link))

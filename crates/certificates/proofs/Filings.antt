@@ -142,13 +142,13 @@ module _ {kind : Kind} (laws : Lawful kind) where
     after_untouched : drop (1 + kind.words * length placed) after ≡ drop (1 + kind.words * length placed) first
     unfolding after
     after_untouched =
-        let split-past : 1 + kind.words * length placed ≡ (1 + kind.words * count_of now) + kind.words = omega (arith, ap (λ (n : ℕ). kind.words * n) (placed_length ∙ ap suc (sym k.count)), mul-suc kind.words (count_of now)) in
+        let split_past : 1 + kind.words * length placed ≡ (1 + kind.words * count_of now) + kind.words = omega (arith, ap (λ (n : ℕ). kind.words * n) (placed_length ∙ ap suc (sym k.count)), mul-suc kind.words (count_of now)) in
         with_past kind.words placed now placed_sized
-        ∙ ap (λ (n : ℕ). drop n now) split-past
+        ∙ ap (λ (n : ℕ). drop n now) split_past
         ∙ sym (drop-drop kind.words (1 + kind.words * count_of now) now)
         ∙ ap (drop kind.words) k.untouched
         ∙ drop-drop kind.words (1 + kind.words * count_of now) first
-        ∙ ap (λ (n : ℕ). drop n first) (sym split-past)
+        ∙ ap (λ (n : ℕ). drop n first) (sym split_past)
 
     after_keeps : Keeps kind first after (w ∷ rs)
     unfolding placed

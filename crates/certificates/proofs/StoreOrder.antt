@@ -30,9 +30,9 @@ by_name v w differ = decided words_order record_name v w (name_decides v w) (nam
 by_row : (v w : List ℕ) → record_name v ≡ record_name w → (record_row v ≡ record_row w → ⊥) → record_before v w ≡ row_before (record_row v) (record_row w)
 by_row v w named differ = decided row_order record_row v w (row_decides v w named) (row_denies v w named) (λ e. absurd (differ e))
 
-by_term_lem : (v w : List ℕ) → sound_record v ≡ true → sound_record w ≡ true → record_name v ≡ record_name w → record_row v ≡ record_row w → record_before v w ≡ words_before (record_term v) (record_term w)
-by_term_lem v w sound-v sound-w named alike = decided words_order record_term v w (term_decides v w named alike) (term_denies v w named alike)
-    (λ e. ap (record_before v) (sym (term_is_all v w sound-v sound-w named alike e)) ∙ record_order.irreflexive v)
+by_term : (v w : List ℕ) → sound_record v ≡ true → sound_record w ≡ true → record_name v ≡ record_name w → record_row v ≡ record_row w → record_before v w ≡ words_before (record_term v) (record_term w)
+by_term v w sound_v sound_w named alike = decided words_order record_term v w (term_decides v w named alike) (term_denies v w named alike)
+    (λ e. ap (record_before v) (sym (term_is_all v w sound_v sound_w named alike e)) ∙ record_order.irreflexive v)
 
 rows_shown : ascending record_before (map (in_list 0 1) example) ≡ true
 unfolding record_before first_by tied words_before row_before row_in row_words ascending
@@ -43,4 +43,4 @@ unfolding record_before first_by tied words_before row_before row_in row_words a
 terms_shown = refl
 
 pub holds : Theorem
-holds = record { by_name = by_name; by_row = by_row; by_term_lem = by_term_lem; rows_shown = rows_shown; terms_shown = terms_shown }
+holds = record { by_name = by_name; by_row = by_row; by_term = by_term; rows_shown = rows_shown; terms_shown = terms_shown }

@@ -36,11 +36,11 @@ module _ (kind : Kind) where
   -- the reply to words filed where these records are held
   unfoldable pub reply_given : List (List ℕ) → List ℕ → FilingReply
   unfolding lists tied
-  reply_given records-held w = elim (kind.sound w) [
+  reply_given records_held w = elim (kind.sound w) [
     | false ↦ refused (kind.bad_record w)
-    | true ↦ elim (lists kind.before records-held w) [
+    | true ↦ elim (lists kind.before records_held w) [
       | true ↦ held
-      | false ↦ elim (ltb (length records-held) kind.most) [ true ↦ filed | false ↦ refused kind.full ]
+      | false ↦ elim (ltb (length records_held) kind.most) [ true ↦ filed | false ↦ refused kind.full ]
     ]
   ]
 

@@ -21,7 +21,7 @@ pub record Theorem : Type 0 where
   -- "records within one name follow this order", that of rows
   pub by_row : (v w : List ℕ) → record_name v ≡ record_name w → (record_row v ≡ record_row w → ⊥) → record_before v w ≡ row_before (record_row v) (record_row w)
   -- "Records of one row ascend by first, then by end minute."
-  pub by_term_lem : (v w : List ℕ) → sound_record v ≡ true → sound_record w ≡ true → record_name v ≡ record_name w → record_row v ≡ record_row w →
+  pub by_term : (v w : List ℕ) → sound_record v ≡ true → sound_record w ≡ true → record_name v ≡ record_name w → record_row v ≡ record_row w →
       record_before v w ≡ words_before (record_term v) (record_term w)
   pub rows_shown : ascending record_before (map (in_list 0 1) example) ≡ true
   pub terms_shown : ascending record_before terms ≡ true

@@ -27,9 +27,9 @@ use Rattle.check_expressions.specs.Expressions.{inside, expr_facts, code_facts, 
 use Rattle.policy.specs.declared.Guard as GuardHeld
 use Rattle.policy.specs.declared.Guard.TheVariants.{Draw, Same, Different, Absent}
 use Rattle.check_terms.specs.declared.GuardRead as GuardRead
-use Rattle.check_terms.specs.declared.GuardRead.TheVariants as guardRead
+use Rattle.check_terms.specs.declared.GuardRead.TheVariants as guard_read
 use Rattle.check_terms.specs.declared.PatternRead as PatternRead
-use Rattle.check_terms.specs.declared.PatternRead.TheVariants as patternRead
+use Rattle.check_terms.specs.declared.PatternRead.TheVariants as pattern_read
 use Rattle.policy.proofs.LeafDecoding.{no_node, not_node, code_bounds, no_code}
 use Rattle.policy.specs.contracts.Guard.{the_type}
 use Rattle.check_terms.proofs.Answering.{Got, Lost, got_of, lost_of, tested_first, same_rule}
@@ -213,7 +213,7 @@ module _ {ws : List ℕ} {at : ℕ} (levels n k : ℕ) (known : Before) (left : 
       {x : Step Facts} → Answers ws next x y → Answers ws at x (body_facts known (inside known levels) left n (drop at ws) k)
   followed f e a = sooner (answers_as (opened levels n k known left some (drop at ws) ∙ read_then (body_facts_of known) _ (f.reads k) e) a) (omega (arith, f.onward))
 
-  module _ {r : GuardRead.GuardRead} (f : Follows ws at (guard_read_is r) (opening n)) {g : GuardHeld.Guard} {next : ℕ} (e : r ≡ guardRead.Found g next) where
+  module _ {r : GuardRead.GuardRead} (f : Follows ws at (guard_read_is r) (opening n)) {g : GuardHeld.Guard} {next : ℕ} (e : r ≡ guard_read.Found g next) where
     opens : (h : GuardHeld.Guard) → g ≡ h → Got ws at (opening n) (guard_is h) next
     opens h d = rw d at (guard_found f e)
 
@@ -244,11 +244,11 @@ module _ {ws : List ℕ} {at : ℕ} (levels n k : ℕ) (known : Before) (left : 
         go Absent d (inl p) = absurd (omega (arith, p))
         go Absent d (inr p) = absurd (omega (arith, p))
 
-pub pattern_found : {ws : List ℕ} {at c next : ℕ} {m : Reader ℕ} {r : PatternRead.PatternRead} → Follows ws at (pattern_read_is r) m → r ≡ patternRead.Found c next → Got ws at m c next
+pub pattern_found : {ws : List ℕ} {at c next : ℕ} {m : Reader ℕ} {r : PatternRead.PatternRead} → Follows ws at (pattern_read_is r) m → r ≡ pattern_read.Found c next → Got ws at m c next
 unfolding pattern_read_is
 pattern_found f e = got_of f (λ k. ap (λ r. pattern_read_is r k) e)
 
-pub pattern_lost : {ws : List ℕ} {at n : ℕ} {m : Reader ℕ} {r : PatternRead.PatternRead} → Follows ws at (pattern_read_is r) m → r ≡ patternRead.Refused n → Lost ws at m n
+pub pattern_lost : {ws : List ℕ} {at n : ℕ} {m : Reader ℕ} {r : PatternRead.PatternRead} → Follows ws at (pattern_read_is r) m → r ≡ pattern_read.Refused n → Lost ws at m n
 unfolding pattern_read_is
 pattern_lost f e = lost_of f (λ k. ap (λ r. pattern_read_is r k) e)
 

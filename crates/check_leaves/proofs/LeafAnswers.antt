@@ -19,7 +19,7 @@ use Rattle.policy.specs.declared.Term as TermHeld
 use Rattle.policy.specs.declared.Term.TheVariants.{Atom, Variable}
 use Rattle.check_terms.specs.Answers.{Answers, Follows, kept, keeping, nothing, between, term_read_is}
 use Rattle.check_terms.specs.declared.TermRead.{TermRead}
-use Rattle.check_terms.specs.declared.TermRead.TheVariants as termRead
+use Rattle.check_terms.specs.declared.TermRead.TheVariants as term_read
 use Rattle.check_polarity.specs.Earlier.{Before, scope_at, declared_by, known_at, earlier_is}
 use Rattle.check_polarity.specs.Facts.{facts_for, term_facts, difference_of}
 use Rattle.check_polarity.specs.declared.Facts.{Facts}
@@ -27,9 +27,9 @@ use Rattle.check_polarity.specs.declared.Earlier.{Earlier}
 use Rattle.check_leaves.specs.Checks.{checking_is, below, issued, name_read_is, is_own, facts_from, name_facts_for, leaf_facts}
 use Rattle.check_leaves.specs.declared.Checking.TheVariants as checking
 use Rattle.check_leaves.specs.declared.NameRead.{NameRead}
-use Rattle.check_leaves.specs.declared.NameRead.TheVariants as nameRead
+use Rattle.check_leaves.specs.declared.NameRead.TheVariants as name_read
 use Rattle.check_leaves.specs.declared.FactsRead.{FactsRead}
-use Rattle.check_leaves.specs.declared.FactsRead.TheVariants as factsRead
+use Rattle.check_leaves.specs.declared.FactsRead.TheVariants as facts_read
 use Rattle.policy.proofs.Basics.{impossible}
 use Rattle.check_terms.proofs.Answering.{Got, Lost, got_of, lost_of, shows_got, shows_lost, got_as, lost_as, first_lost, then_lost, then_got, then_gives, where_kept, same_rule}
 use Rattle.check_terms.proofs.TermAnswers.{term_found, term_refused}
@@ -138,24 +138,24 @@ issued_first {A} n rest us k = go (issuer n us k)
     go (refused m) = refl
 
 module _ {ws : List ℕ} {at : ℕ} (n : ℕ) {r : TermRead} (f : Follows ws at (term_read_is r) (issuer n)) where
-  pub unissued : {m : ℕ} → r ≡ termRead.Refused m → Follows ws at (name_read_is (nameRead.Refused m)) (issued n)
+  pub unissued : {m : ℕ} → r ≡ term_read.Refused m → Follows ws at (name_read_is (name_read.Refused m)) (issued n)
   unfolding issued name_read_is
   unissued e = shows_lost (first_lost _ (term_refused f e))
 
-  module _ {t : TermHeld.Term} {mid : ℕ} (e : r ≡ termRead.Found t mid) where
-    pub unnamed : {m : ℕ} → Lost ws mid (word_where bad_word (between 0 65535)) m → Follows ws at (name_read_is (nameRead.Refused m)) (issued n)
+  module _ {t : TermHeld.Term} {mid : ℕ} (e : r ≡ term_read.Found t mid) where
+    pub unnamed : {m : ℕ} → Lost ws mid (word_where bad_word (between 0 65535)) m → Follows ws at (name_read_is (name_read.Refused m)) (issued n)
     unfolding issued name_read_is
     unnamed l = shows_lost (then_lost _ (term_found f e) (first_lost _ (lost_as (at_most 65535) l)))
 
-    pub reads_name : {name : ℕ} → Got ws mid (word_where bad_word (between 0 65535)) name (mid + 1) → Follows ws at (name_read_is (nameRead.Found t name (mid + 1))) (issued n)
+    pub reads_name : {name : ℕ} → Got ws mid (word_where bad_word (between 0 65535)) name (mid + 1) → Follows ws at (name_read_is (name_read.Found t name (mid + 1))) (issued n)
     unfolding issued name_read_is
     reads_name g = shows_got (then_got _ (term_found f e) (then_gives _ (got_as (at_most 65535) g) (λ us k. refl)))
 
-pub name_read : {ws : List ℕ} {at name next : ℕ} {m : Reader (Term × ℕ)} {t : TermHeld.Term} {r : NameRead} → Follows ws at (name_read_is r) m → r ≡ nameRead.Found t name next → Got ws at m (term_is t, name) next
+pub name_got : {ws : List ℕ} {at name next : ℕ} {m : Reader (Term × ℕ)} {t : TermHeld.Term} {r : NameRead} → Follows ws at (name_read_is r) m → r ≡ name_read.Found t name next → Got ws at m (term_is t, name) next
 unfolding name_read_is
-name_read f e = got_of f (λ k. ap (λ r. name_read_is r k) e)
+name_got f e = got_of f (λ k. ap (λ r. name_read_is r k) e)
 
-pub name_lost : {ws : List ℕ} {at n : ℕ} {m : Reader (Term × ℕ)} {r : NameRead} → Follows ws at (name_read_is r) m → r ≡ nameRead.Refused n → Lost ws at m n
+pub name_lost : {ws : List ℕ} {at n : ℕ} {m : Reader (Term × ℕ)} {r : NameRead} → Follows ws at (name_read_is r) m → r ≡ name_read.Refused n → Lost ws at m n
 unfolding name_read_is
 name_lost f e = lost_of f (λ k. ap (λ r. name_read_is r k) e)
 
@@ -188,12 +188,12 @@ module _ (known : Before) (t : Term) (name : ℕ) (p : Polarity) where
 
 -- the facts of a name
 pub name_certified : (known : Before) (t : Term) (name w : ℕ) → is_own known.our_key t ≡ false →
-    factsRead.Found (record { plus = not (not (eqb w 0)); minus = not (eqb w 0); «open» = not (eqb w 0); draws_closed = true }) ≡ name_facts_for known t name (polarity_of w)
+    facts_read.Found (record { plus = not (not (eqb w 0)); minus = not (eqb w 0); «open» = not (eqb w 0); draws_closed = true }) ≡ name_facts_for known t name (polarity_of w)
 unfolding name_facts_for facts_from is_available facts_for has_polarity leaf_has name_has open_expr leaf_open name_open draws_closed
 name_certified known t name w e =
     let m = not (eqb w 0) in
     let s = sym (declared_by_lem w) in
-    sym (ap (facts_from known t name (polarity_of w)) (other_origin known t name (polarity_of w) e) ∙ ap factsRead.Found (facts_same
+    sym (ap (facts_from known t name (polarity_of w)) (other_origin known t name (polarity_of w) e) ∙ ap facts_read.Found (facts_same
     (ap (λ q. same_polarity q plus) s ∙ declared_plus m) (ap (λ q. same_polarity q minus) s ∙ declared_minus m) (ap (λ q. same_polarity q minus) s ∙ declared_minus m) refl))
 
 module _ (x : Earlier) (t : Term) (name : ℕ) (p : Polarity) (own : is_own x.our_key t ≡ true) {d : ℕ} (e : d ≡ definition_of (scope_at (earlier_is x)).available name p) where
@@ -201,34 +201,34 @@ module _ (x : Earlier) (t : Term) (name : ℕ) (p : Polarity) (own : is_own x.ou
   unfolding name_facts_for earlier_is
   by_definition_lem = ap (facts_from (earlier_is x) t name p) (own_origin (earlier_is x) t name p own ∙ ap by_definition (sym e))
 
-  pub own_undefined : x.count ≤ d → factsRead.Refused not_in_scope ≡ name_facts_for (earlier_is x) t name p
+  pub own_undefined : x.count ≤ d → facts_read.Refused not_in_scope ≡ name_facts_for (earlier_is x) t name p
   unfolding facts_from is_available
   own_undefined h = sym (by_definition_lem ∙ rw (le-ltb d (reach (scope_at (earlier_is x))) (omega (arith, available_count x)), facts_from))
 
-  pub own_defined : {f : Facts} → d < x.count → f ≡ leaf_facts_of (earlier_is x) (definition d) → factsRead.Found f ≡ name_facts_for (earlier_is x) t name p
+  pub own_defined : {f : Facts} → d < x.count → f ≡ leaf_facts_of (earlier_is x) (definition d) → facts_read.Found f ≡ name_facts_for (earlier_is x) t name p
   unfolding facts_from is_available facts_for has_polarity leaf_has name_has open_expr leaf_open name_open draws_closed
-  own_defined h g = sym (by_definition_lem ∙ rw (lt-ltb d (reach (scope_at (earlier_is x))) (omega (arith, available_count x)), facts_from) (ap factsRead.Found (sym g)))
+  own_defined h g = sym (by_definition_lem ∙ rw (lt-ltb d (reach (scope_at (earlier_is x))) (omega (arith, available_count x)), facts_from) (ap facts_read.Found (sym g)))
 
 -- what the decoder then has
 module _ (known : Before) (t : Term) (name : ℕ) (p : Polarity) where
   abbrev from : Origin
   from = origin_of (scope_at known) t name p
 
-  pub from_found : {f : Facts} → factsRead.Found f ≡ name_facts_for known t name p →
+  pub from_found : {f : Facts} → facts_read.Found f ≡ name_facts_for known t name p →
       ((us : List ℕ) (k : ℕ) → origin (scope_at known) t name p us k ≡ got from us k) × (leaf_facts_of known (listed t name p from) ≡ f)
   unfolding name_facts_for facts_from origin
   from_found {f} e = go (is_available (scope_at known) from) e
     where
-      go : (b : Bool) → factsRead.Found f ≡ elim b as (λ c. FactsRead) [ true ↦ factsRead.Found (leaf_facts_of known (listed t name p from)) | false ↦ factsRead.Refused not_in_scope ] →
+      go : (b : Bool) → facts_read.Found f ≡ elim b as (λ c. FactsRead) [ true ↦ facts_read.Found (leaf_facts_of known (listed t name p from)) | false ↦ facts_read.Refused not_in_scope ] →
           ((us : List ℕ) (k : ℕ) → after (need not_in_scope b us k) (λ u. give from) ≡ got from us k) × (leaf_facts_of known (listed t name p from) ≡ f)
       go true e = (λ us k. refl, cc)
       go false e = impossible cc
 
-  pub from_refused : {m : ℕ} → factsRead.Refused m ≡ name_facts_for known t name p → (us : List ℕ) (k : ℕ) → origin (scope_at known) t name p us k ≡ refused m
+  pub from_refused : {m : ℕ} → facts_read.Refused m ≡ name_facts_for known t name p → (us : List ℕ) (k : ℕ) → origin (scope_at known) t name p us k ≡ refused m
   unfolding name_facts_for facts_from origin
   from_refused {m} e us k = go (is_available (scope_at known) from) e
     where
-      go : (b : Bool) → factsRead.Refused m ≡ elim b as (λ c. FactsRead) [ true ↦ factsRead.Found (leaf_facts_of known (listed t name p from)) | false ↦ factsRead.Refused not_in_scope ] →
+      go : (b : Bool) → facts_read.Refused m ≡ elim b as (λ c. FactsRead) [ true ↦ facts_read.Found (leaf_facts_of known (listed t name p from)) | false ↦ facts_read.Refused not_in_scope ] →
           after (need not_in_scope b us k) (λ u. give from) ≡ refused m
       go true e = impossible cc
       go false e = let q : not_in_scope ≡ m = cc in ap refused q
@@ -266,10 +266,10 @@ module _ {ws : List ℕ} {at : ℕ} (n k : ℕ) (known : Before) where
     name_unpolarized l = refusal_answers (after_polarity (l.reads k) refl)
 
     module _ {w : ℕ} (g : Got ws mid (word_where bad_word (between 0 1)) w (mid + 1)) {r : FactsRead} (e : r ≡ name_facts_for known t name (polarity_of w)) where
-      pub name_undefined : {m : ℕ} → r ≡ factsRead.Refused m → Answers ws at (checking_is (checking.Refused m)) (leaf_facts known n 4 (drop at ws) k)
+      pub name_undefined : {m : ℕ} → r ≡ facts_read.Refused m → Answers ws at (checking_is (checking.Refused m)) (leaf_facts known n 4 (drop at ws) k)
       name_undefined d = refusal_answers (after_polarity (g.reads k) (read_refused (leaf_facts_of known) _ (from_refused known t name (polarity_of w) (sym d ∙ e) (drop (mid + 1) ws) k)))
 
-      pub name_found : {x : Facts} → r ≡ factsRead.Found x → Answers ws at (checking_is (checking.Found x (mid + 1) k)) (leaf_facts known n 4 (drop at ws) k)
+      pub name_found : {x : Facts} → r ≡ facts_read.Found x → Answers ws at (checking_is (checking.Found x (mid + 1) k)) (leaf_facts known n 4 (drop at ws) k)
       unfolding kept
       name_found d =
           let o = from_found known t name (polarity_of w) (sym d ∙ e) in
@@ -314,10 +314,10 @@ module _ {ws : List ℕ} {at : ℕ} (n k : ℕ) (x : Earlier) where
       positive h = named 8 n k (earlier_is x) (vetted_rest x) (vetted_begins n k x) f
           (read_then (leaf_facts_of (earlier_is x)) _ (same_rule bad_word (λ w. eqb w 0) (between 0 0) is_plus (drop mid ws) k ∙ g.reads k) h)
 
-      pub vetted_undefined : {m : ℕ} → r ≡ factsRead.Refused m → Answers ws at (checking_is (checking.Refused m)) (leaf_facts (earlier_is x) n 8 (drop at ws) k)
+      pub vetted_undefined : {m : ℕ} → r ≡ facts_read.Refused m → Answers ws at (checking_is (checking.Refused m)) (leaf_facts (earlier_is x) n 8 (drop at ws) k)
       vetted_undefined d = refusal_answers (positive (read_refused (leaf_facts_of (earlier_is x)) _ (from_refused (earlier_is x) t name plus (sym d ∙ e) (drop (mid + 1) ws) k)))
 
-      module _ {a : Facts} (d : r ≡ factsRead.Found a) where
+      module _ {a : Facts} (d : r ≡ facts_read.Found a) where
         -- the name has its facts, and the definition comes
         guarded : {y : Read Facts} →
             ((o : Origin) → leaf_facts_of (earlier_is x) (listed t name plus o) ≡ a → kept (leaf_facts_of (earlier_is x)) (after (word_where not_in_scope (below x.count) (drop (mid + 1) ws) k) (λ d. give (vetted t name o d))) ≡ y) →

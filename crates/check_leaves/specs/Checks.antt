@@ -14,9 +14,9 @@ use Rattle.check_polarity.specs.declared.Facts.{Facts}
 use Rattle.check_leaves.specs.declared.Checking.{Checking}
 use Rattle.check_leaves.specs.declared.Checking.TheVariants as checking
 use Rattle.check_leaves.specs.declared.NameRead.{NameRead}
-use Rattle.check_leaves.specs.declared.NameRead.TheVariants as nameRead
+use Rattle.check_leaves.specs.declared.NameRead.TheVariants as name_read
 use Rattle.check_leaves.specs.declared.FactsRead.{FactsRead}
-use Rattle.check_leaves.specs.declared.FactsRead.TheVariants as factsRead
+use Rattle.check_leaves.specs.declared.FactsRead.TheVariants as facts_read
 
 unfoldable pub checking_is : Checking → Step Facts
 checking_is (checking.Found f next k) = found f next k
@@ -40,8 +40,8 @@ issued n = do
 
 unfoldable pub name_read_is : NameRead → ℕ → Step (Term × ℕ)
 unfolding term_is
-name_read_is (nameRead.Found t name next) k = found (term_is t, name) next k
-name_read_is (nameRead.Refused n) k = refused n
+name_read_is (name_read.Found t name next) k = found (term_is t, name) next k
+name_read_is (name_read.Refused n) k = refused n
 
 -- the issuer of an own name: our key, fixed
 unfoldable pub is_own : ℕ → Term → Bool
@@ -51,7 +51,7 @@ is_own ours (var i) = false
 -- the facts of a name whose rows come from there, or the refusal
 unfoldable pub facts_from : Before → Term → ℕ → Polarity → Origin → FactsRead
 unfolding is_available facts_for
-facts_from b t name p o = elim (is_available (scope_at b) o) [ true ↦ factsRead.Found (facts_for b (leaf (listed t name p o))) | false ↦ factsRead.Refused not_in_scope ]
+facts_from b t name p o = elim (is_available (scope_at b) o) [ true ↦ facts_read.Found (facts_for b (leaf (listed t name p o))) | false ↦ facts_read.Refused not_in_scope ]
 
 unfoldable pub name_facts_for : Before → Term → ℕ → Polarity → FactsRead
 unfolding origin_of facts_from

@@ -16,7 +16,7 @@ use Rattle.policy.specs.Decode.{Read, got, refused, Reader, after, give, need, w
 use Rattle.check_terms.specs.Answers.{Step, found, outcome, Onward, Answers, Follows, kept, keeping, between, next, word_read_is}
 use Rattle.check_terms.specs.Answers as Steps
 use Rattle.check_terms.specs.declared.WordRead as WordRead
-use Rattle.check_terms.specs.declared.WordRead.TheVariants as wordRead
+use Rattle.check_terms.specs.declared.WordRead.TheVariants as word_read
 use Rattle.policy.proofs.Basics.{impossible}
 
 -- the words from `at` on
@@ -81,11 +81,11 @@ module _ (n : ℕ) (rule : ℕ → Bool) (w : ℕ) (us : List ℕ) (k : ℕ) whe
   where_fails e = ap (λ b. after (need n b us k) (λ t. give w)) e
 
 module _ (ws : List ℕ) (at n : ℕ) (rule : ℕ → Bool) where
-  pub word_none : length ws ≤ at → Follows ws at (word_read_is at (wordRead.Refused bad_word)) (word_where n rule)
+  pub word_none : length ws ≤ at → Follows ws at (word_read_is at (word_read.Refused bad_word)) (word_where n rule)
   unfolding word_read_is word_where
   word_none h = shows_lost (record { reads = λ k. at_end (word_where n rule) ws at k h })
 
-  pub word_kept : at < length ws → rule (get_or ws at 0) ≡ true → Follows ws at (word_read_is at (wordRead.Found (get_or ws at 0))) (word_where n rule)
+  pub word_kept : at < length ws → rule (get_or ws at 0) ≡ true → Follows ws at (word_read_is at (word_read.Found (get_or ws at 0))) (word_where n rule)
   unfolding word_read_is
   word_kept h e = shows_got (record {
     reads = λ k. here (word_where n rule) ws at k h ∙ where_passes n rule (get_or ws at 0) (drop (at + 1) ws) k e;
@@ -93,15 +93,15 @@ module _ (ws : List ℕ) (at n : ℕ) (rule : ℕ → Bool) where
     within = omega arith;
   })
 
-  pub word_broken : at < length ws → rule (get_or ws at 0) ≡ false → Follows ws at (word_read_is at (wordRead.Refused n)) (word_where n rule)
+  pub word_broken : at < length ws → rule (get_or ws at 0) ≡ false → Follows ws at (word_read_is at (word_read.Refused n)) (word_where n rule)
   unfolding word_read_is
   word_broken h e = shows_lost (record { reads = λ k. here (word_where n rule) ws at k h ∙ where_fails n rule (get_or ws at 0) (drop (at + 1) ws) k e })
 
-pub word_found : {ws : List ℕ} {at w : ℕ} {m : Reader ℕ} {r : WordRead.WordRead} → Follows ws at (word_read_is at r) m → r ≡ wordRead.Found w → Got ws at m w (at + 1)
+pub word_found : {ws : List ℕ} {at w : ℕ} {m : Reader ℕ} {r : WordRead.WordRead} → Follows ws at (word_read_is at r) m → r ≡ word_read.Found w → Got ws at m w (at + 1)
 unfolding word_read_is
 word_found {at} f e = got_of f (λ k. ap (λ r. word_read_is at r k) e)
 
-pub word_refused : {ws : List ℕ} {at n : ℕ} {m : Reader ℕ} {r : WordRead.WordRead} → Follows ws at (word_read_is at r) m → r ≡ wordRead.Refused n → Lost ws at m n
+pub word_refused : {ws : List ℕ} {at n : ℕ} {m : Reader ℕ} {r : WordRead.WordRead} → Follows ws at (word_read_is at r) m → r ≡ word_read.Refused n → Lost ws at m n
 unfolding word_read_is
 word_refused {at} f e = lost_of f (λ k. ap (λ r. word_read_is at r k) e)
 

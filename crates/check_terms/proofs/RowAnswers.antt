@@ -13,13 +13,13 @@ use Rattle.policy.specs.Decode.{Read, got, refused, Reader, after, give, word_wh
 use Rattle.policy.specs.Held.{slot_is}
 use Rattle.check_terms.specs.Answers.{Follows, kept, keeping, nothing, between, word_read_is, passed_is, slot_for, slot, scope_after, pattern, scope, pattern_read_is}
 use Rattle.check_terms.specs.declared.WordRead as WordRead
-use Rattle.check_terms.specs.declared.WordRead.TheVariants as wordRead
+use Rattle.check_terms.specs.declared.WordRead.TheVariants as word_read
 use Rattle.policy.specs.declared.Term as TermHeld
 use Rattle.policy.specs.declared.Slot as SlotHeld
 use Rattle.policy.specs.declared.Slot.TheVariants.{Old, New}
 use Rattle.check_terms.specs.declared.Passed as Passed
 use Rattle.check_terms.specs.declared.Passed.TheVariants as passed
-use Rattle.check_terms.specs.declared.PatternRead.TheVariants as patternRead
+use Rattle.check_terms.specs.declared.PatternRead.TheVariants as pattern_read
 use Rattle.policy.proofs.Basics.{impossible}
 use Rattle.check_terms.proofs.Answering.{Got, Lost, got_of, lost_of, shows_got, shows_lost, word_found, word_refused, first_lost, keeps_lost, same_rule}
 use Rattle.check_terms.proofs.TermAnswers.{new_few}
@@ -98,17 +98,17 @@ at_most c = rw (le-leb 0 c (omega arith))
 
 -- how a row and the rows of a literal begin
 module _ (ws : List ℕ) (at n : ℕ) {r : WordRead.WordRead} where
-  pub row_starts : {w : ℕ} → Follows ws at (word_read_is at r) (word_where bad_word (between 1 4)) → r ≡ wordRead.Found w → Going ws at (term n) (keeping nothing (row n)) w (at + 1)
+  pub row_starts : {w : ℕ} → Follows ws at (word_read_is at r) (word_where bad_word (between 1 4)) → r ≡ word_read.Found w → Going ws at (term n) (keeping nothing (row n)) w (at + 1)
   unfolding keeping row width between
   row_starts f e =
       let g = word_found f e in
       record { rest = λ k. ap (λ x. kept nothing (after x (λ w. times w (term n)))) (g.reads k); onward = g.onward; within = g.within }
 
-  pub row_refused : {m : ℕ} → Follows ws at (word_read_is at r) (word_where bad_word (between 1 4)) → r ≡ wordRead.Refused m → Lost ws at (keeping nothing (row n)) m
+  pub row_refused : {m : ℕ} → Follows ws at (word_read_is at r) (word_where bad_word (between 1 4)) → r ≡ word_read.Refused m → Lost ws at (keeping nothing (row n)) m
   unfolding row width between
   row_refused f e = keeps_lost nothing (first_lost (λ w. times w (term n)) (word_refused f e))
 
-  pub rows_start : {w : ℕ} → Follows ws at (word_read_is at r) (word_where bad_word (between 0 128)) → r ≡ wordRead.Found w → Going ws at (row n) (keeping nothing (rows n)) w (at + 1)
+  pub rows_start : {w : ℕ} → Follows ws at (word_read_is at r) (word_where bad_word (between 0 128)) → r ≡ word_read.Found w → Going ws at (row n) (keeping nothing (rows n)) w (at + 1)
   unfolding keeping rows
   rows_start f e =
       let g = word_found f e in
@@ -118,7 +118,7 @@ module _ (ws : List ℕ) (at n : ℕ) {r : WordRead.WordRead} where
         within = g.within;
       }
 
-  pub rows_refused : {m : ℕ} → Follows ws at (word_read_is at r) (word_where bad_word (between 0 128)) → r ≡ wordRead.Refused m → Lost ws at (keeping nothing (rows n)) m
+  pub rows_refused : {m : ℕ} → Follows ws at (word_read_is at r) (word_where bad_word (between 0 128)) → r ≡ word_read.Refused m → Lost ws at (keeping nothing (rows n)) m
   unfolding keeping rows kept
   rows_refused f e = record {
     reads = λ k. ap (λ x. kept nothing (after x (λ c. times c (row n)))) (same_rule bad_word (λ c. leb c 128) (between 0 128) at_most (drop at ws) k ∙ (word_refused f e).reads k);
@@ -144,17 +144,17 @@ pub record Matching (ws : List ℕ) (at n left next count : ℕ) : Type 0 where
   pub within : next ≤ length ws
 
 module _ (ws : List ℕ) (at n : ℕ) where
-  pub pattern_starts : {w : ℕ} {r : WordRead.WordRead} → Follows ws at (word_read_is at r) (word_where bad_word (between 1 4)) → r ≡ wordRead.Found w → Matching ws at n w (at + 1) n
+  pub pattern_starts : {w : ℕ} {r : WordRead.WordRead} → Follows ws at (word_read_is at r) (word_where bad_word (between 1 4)) → r ≡ word_read.Found w → Matching ws at n w (at + 1) n
   unfolding keeping pattern width between
   pattern_starts f e =
       let g = word_found f e in
       record { rest = λ k. ap (λ x. kept scope (after x (λ w. slots w n))) (g.reads k); onward = g.onward; within = g.within }
 
-  pub pattern_refused : {m : ℕ} {r : WordRead.WordRead} → Follows ws at (word_read_is at r) (word_where bad_word (between 1 4)) → r ≡ wordRead.Refused m → Follows ws at (pattern_read_is (patternRead.Refused m)) (keeping scope (pattern n))
+  pub pattern_refused : {m : ℕ} {r : WordRead.WordRead} → Follows ws at (word_read_is at r) (word_where bad_word (between 1 4)) → r ≡ word_read.Refused m → Follows ws at (pattern_read_is (pattern_read.Refused m)) (keeping scope (pattern n))
   unfolding pattern width between pattern_read_is
   pattern_refused f e = shows_lost (keeps_lost scope (first_lost (λ w. slots w n) (word_refused f e)))
 
-  pub pattern_done : {left next count : ℕ} → Matching ws at n left next count → left ≤ 0 → Follows ws at (pattern_read_is (patternRead.Found count next)) (keeping scope (pattern n))
+  pub pattern_done : {left next count : ℕ} → Matching ws at n left next count → left ≤ 0 → Follows ws at (pattern_read_is (pattern_read.Found count next)) (keeping scope (pattern n))
   unfolding slots kept pattern_read_is
   pattern_done {left = zero} g h = shows_got (record { reads = g.rest; onward = g.onward; within = g.within })
   pattern_done {left = suc l} g h = absurd (omega arith)
@@ -166,7 +166,7 @@ module _ (ws : List ℕ) (at n : ℕ) where
         let e : suc (left - 1) ≡ left = omega arith in
         g.rest k ∙ ap (kept scope) (rw e at (slots_slot (left - 1) count (drop next ws) k))
 
-    pub matching_lost : {m : ℕ} → Lost ws next (slot count) m → Follows ws at (pattern_read_is (patternRead.Refused m)) (keeping scope (pattern n))
+    pub matching_lost : {m : ℕ} → Lost ws next (slot count) m → Follows ws at (pattern_read_is (pattern_read.Refused m)) (keeping scope (pattern n))
     unfolding pattern_read_is kept
     matching_lost l = shows_lost (record { reads = λ k. one_more k ∙ ap (λ x. kept scope (after x (λ s vs j. after (slots (left - 1) (scope_after count s) vs j) (λ p. give (push_slot s p))))) (l.reads k) })
 

@@ -16,17 +16,17 @@ use Rattle.check_terms.specs.Answers.{Follows, between, next, word_read_is, term
 use Rattle.policy.specs.declared.Term as TermHeld
 use Rattle.policy.specs.declared.Term.TheVariants.{Atom, Variable}
 use Rattle.check_terms.specs.declared.TermRead as TermRead
-use Rattle.check_terms.specs.declared.TermRead.TheVariants as termRead
+use Rattle.check_terms.specs.declared.TermRead.TheVariants as term_read
 use Rattle.check_terms.specs.declared.WordRead as WordRead
-use Rattle.check_terms.specs.declared.WordRead.TheVariants as wordRead
+use Rattle.check_terms.specs.declared.WordRead.TheVariants as word_read
 use Rattle.policy.specs.declared.Slot as SlotHeld
 use Rattle.policy.specs.declared.Slot.TheVariants.{Old, New}
 use Rattle.check_terms.specs.declared.SlotRead as SlotRead
-use Rattle.check_terms.specs.declared.SlotRead.TheVariants as slotRead
+use Rattle.check_terms.specs.declared.SlotRead.TheVariants as slot_read
 use Rattle.policy.specs.declared.Guard as GuardHeld
 use Rattle.policy.specs.declared.Guard.TheVariants.{Draw, Same, Different, Absent}
 use Rattle.check_terms.specs.declared.GuardRead as GuardRead
-use Rattle.check_terms.specs.declared.GuardRead.TheVariants as guardRead
+use Rattle.check_terms.specs.declared.GuardRead.TheVariants as guard_read
 use Rattle.rows.proofs.Case.{and_true}
 use Rattle.policy.proofs.Basics.{impossible}
 use Rattle.check_terms.proofs.Answering.{Got, Lost, got_of, lost_of, shows_got, shows_lost, here, at_end, where_passes, where_fails, word_found, word_refused, word_bounds, got_as, lost_as, first_lost, then_lost, then_got, then_gives, tested_first}
@@ -48,7 +48,7 @@ tag_alone rule n k (suc (suc zero)) = refl
 tag_alone rule n k (suc (suc (suc w))) = refl
 
 module _ (ws : List ℕ) (at n : ℕ) where
-  pub term_none : length ws ≤ at → Follows ws at (term_read_is (termRead.Refused bad_word)) (term n)
+  pub term_none : length ws ≤ at → Follows ws at (term_read_is (term_read.Refused bad_word)) (term n)
   unfolding term_read_is term
   term_none h = shows_lost (record { reads = λ k. at_end (term n) ws at k h })
 
@@ -58,11 +58,11 @@ module _ (ws : List ℕ) (at n : ℕ) where
     unfolding term
     tagged k = here (term n) ws at k h
 
-    pub term_tag : 1 < get_or ws at 0 → Follows ws at (term_read_is (termRead.Refused bad_word)) (term n)
+    pub term_tag : 1 < get_or ws at 0 → Follows ws at (term_read_is (term_read.Refused bad_word)) (term n)
     unfolding term_read_is
     term_tag t = shows_lost (record { reads = λ k. tagged k ∙ tag_over any_atom n (drop (at + 1) ws) k (get_or ws at 0) t })
 
-    pub term_cut : length ws ≤ at + 1 → Follows ws at (term_read_is (termRead.Refused bad_word)) (term n)
+    pub term_cut : length ws ≤ at + 1 → Follows ws at (term_read_is (term_read.Refused bad_word)) (term n)
     unfolding term_read_is
     term_cut l = shows_lost (record { reads = λ k. tagged k ∙ (at_end (term_as any_atom n (tag_of (get_or ws at 0))) ws (at + 1) k l ∙ tag_alone any_atom n k (get_or ws at 0)) })
 
@@ -74,7 +74,7 @@ module _ (ws : List ℕ) (at n : ℕ) where
     past : at + 1 + 1 ≡ at + 2
     past = omega arith
 
-    pub term_atom : get_or ws at 0 ≡ 0 → Follows ws at (term_read_is (termRead.Found (Atom (get_or ws (at + 1) 0)) (at + 2))) (term n)
+    pub term_atom : get_or ws at 0 ≡ 0 → Follows ws at (term_read_is (term_read.Found (Atom (get_or ws (at + 1) 0)) (at + 2))) (term n)
     unfolding term_read_is term_is term_as tag_of word_where any_atom
     term_atom t = shows_got (record { reads = λ k. with_tag k 0 t ∙ rw past refl; onward = omega arith; within = omega arith })
 
@@ -82,7 +82,7 @@ module _ (ws : List ℕ) (at n : ℕ) where
       one : get_or ws at 0 ≡ 1
       one = omega arith
 
-      pub term_variable : get_or ws (at + 1) 0 < n → Follows ws at (term_read_is (termRead.Found (Variable (get_or ws (at + 1) 0)) (at + 2))) (term n)
+      pub term_variable : get_or ws (at + 1) 0 < n → Follows ws at (term_read_is (term_read.Found (Variable (get_or ws (at + 1) 0)) (at + 2))) (term n)
       unfolding term_read_is term_is term_as tag_of
       term_variable v = shows_got (record {
         reads = λ k. with_tag k 1 one ∙ (ap (λ r. after r (λ i. give (var i))) (where_passes not_in_scope (λ i. ltb i n) (get_or ws (at + 1) 0) (drop (at + 1 + 1) ws) k (lt-ltb _ _ v)) ∙ rw past refl);
@@ -90,17 +90,17 @@ module _ (ws : List ℕ) (at n : ℕ) where
         within = omega arith;
       })
 
-      pub term_unscoped : n ≤ get_or ws (at + 1) 0 → Follows ws at (term_read_is (termRead.Refused not_in_scope)) (term n)
+      pub term_unscoped : n ≤ get_or ws (at + 1) 0 → Follows ws at (term_read_is (term_read.Refused not_in_scope)) (term n)
       unfolding term_read_is term_as tag_of
       term_unscoped v = shows_lost (record {
         reads = λ k. with_tag k 1 one ∙ ap (λ r. after r (λ i. give (var i))) (where_fails not_in_scope (λ i. ltb i n) (get_or ws (at + 1) 0) (drop (at + 1 + 1) ws) k (le-ltb _ _ v));
       })
 
-pub term_found : {ws : List ℕ} {at next : ℕ} {m : Reader Term} {t : TermHeld.Term} {r : TermRead.TermRead} → Follows ws at (term_read_is r) m → r ≡ termRead.Found t next → Got ws at m (term_is t) next
+pub term_found : {ws : List ℕ} {at next : ℕ} {m : Reader Term} {t : TermHeld.Term} {r : TermRead.TermRead} → Follows ws at (term_read_is r) m → r ≡ term_read.Found t next → Got ws at m (term_is t) next
 unfolding term_read_is
 term_found f e = got_of f (λ k. ap (λ r. term_read_is r k) e)
 
-pub term_refused : {ws : List ℕ} {at n : ℕ} {m : Reader Term} {r : TermRead.TermRead} → Follows ws at (term_read_is r) m → r ≡ termRead.Refused n → Lost ws at m n
+pub term_refused : {ws : List ℕ} {at n : ℕ} {m : Reader Term} {r : TermRead.TermRead} → Follows ws at (term_read_is r) m → r ≡ term_read.Refused n → Lost ws at m n
 unfolding term_read_is
 term_refused f e = lost_of f (λ k. ap (λ r. term_read_is r k) e)
 
@@ -129,26 +129,26 @@ issuer_term n (suc (suc zero) ∷ us) k = refl
 issuer_term n (suc (suc (suc w)) ∷ us) k = refl
 
 module _ (ws : List ℕ) (at n : ℕ) {r : TermRead.TermRead} (f : Follows ws at (term_read_is r) (term n)) where
-  pub issuer_refused : {m : ℕ} → r ≡ termRead.Refused m → Follows ws at (term_read_is (termRead.Refused m)) (issuer n)
+  pub issuer_refused : {m : ℕ} → r ≡ term_read.Refused m → Follows ws at (term_read_is (term_read.Refused m)) (issuer n)
   unfolding term_read_is keyed
   issuer_refused e = shows_lost (record { reads = λ k. issuer_term n (drop at ws) k ∙ ap keyed ((term_refused f e).reads k) })
 
-  module _ {t : TermHeld.Term} {next : ℕ} (e : r ≡ termRead.Found t next) where
+  module _ {t : TermHeld.Term} {next : ℕ} (e : r ≡ term_read.Found t next) where
     held : Got ws at (term n) (term_is t) next
     held = term_found f e
 
     tested : (k : ℕ) → issuer n (drop at ws) k ≡ keyed (got (term_is t) (drop next ws) k)
     tested k = issuer_term n (drop at ws) k ∙ ap keyed (held.reads k)
 
-    pub issuer_key : {a : ℕ} → t ≡ Atom a → 2147483648 ≤ a → Follows ws at (term_read_is (termRead.Found (Atom a) next)) (issuer n)
+    pub issuer_key : {a : ℕ} → t ≡ Atom a → 2147483648 ≤ a → Follows ws at (term_read_is (term_read.Found (Atom a) next)) (issuer n)
     unfolding term_read_is keyed term_is
     issuer_key {a} d h = shows_got (record { reads = λ k. tested k ∙ rw (d, le-leb 2147483648 a h, keyed); onward = held.onward; within = held.within })
 
-    pub issuer_number : {a : ℕ} → t ≡ Atom a → a < 2147483648 → Follows ws at (term_read_is (termRead.Refused bad_word)) (issuer n)
+    pub issuer_number : {a : ℕ} → t ≡ Atom a → a < 2147483648 → Follows ws at (term_read_is (term_read.Refused bad_word)) (issuer n)
     unfolding term_read_is keyed term_is
     issuer_number {a} d h = shows_lost (record { reads = λ k. tested k ∙ rw (d, lt-leb 2147483648 a h, keyed) })
 
-    pub issuer_variable : {i : ℕ} → t ≡ Variable i → Follows ws at (term_read_is (termRead.Found t next)) (issuer n)
+    pub issuer_variable : {i : ℕ} → t ≡ Variable i → Follows ws at (term_read_is (term_read.Found t next)) (issuer n)
     unfolding term_read_is keyed term_is
     issuer_variable d = shows_got (record { reads = λ k. tested k ∙ rw d; onward = held.onward; within = held.within })
 
@@ -188,25 +188,25 @@ slot_old n (u ∷ us) k w vs j e h = go (between 0 2 u) refl
         impossible cc
 
 module _ (ws : List ℕ) (at n : ℕ) where
-  pub slot_untagged : {m : ℕ} {r : WordRead.WordRead} → Follows ws at (word_read_is at r) (word_where bad_word (between 0 2)) → r ≡ wordRead.Refused m → Follows ws at (slot_read_is (slotRead.Refused m)) (slot n)
+  pub slot_untagged : {m : ℕ} {r : WordRead.WordRead} → Follows ws at (word_read_is at r) (word_where bad_word (between 0 2)) → r ≡ word_read.Refused m → Follows ws at (slot_read_is (slot_read.Refused m)) (slot n)
   unfolding slot_read_is
   slot_untagged f e = shows_lost (lost_as (slot_tested n) (first_lost _ (word_refused f e)))
 
   -- the tag is 0 to 2
-  module _ {w : ℕ} {r : WordRead.WordRead} (f : Follows ws at (word_read_is at r) (word_where bad_word (between 0 2))) (e : r ≡ wordRead.Found w) where
+  module _ {w : ℕ} {r : WordRead.WordRead} (f : Follows ws at (word_read_is at r) (word_where bad_word (between 0 2))) (e : r ≡ word_read.Found w) where
     module _ (t : w ≡ 2) where
       new_tagged : (us : List ℕ) (k : ℕ) → slot_for n (tag_of w) us k ≡ after (word_where not_in_scope (next n) us k) (λ v. give new)
       unfolding slot_for tag_of
       new_tagged us k = ap (λ w. slot_for n (tag_of w) us k) t
 
       module _ {s : WordRead.WordRead} (g : Follows ws (at + 1) (word_read_is (at + 1) s) (word_where not_in_scope (next n))) where
-        pub slot_new : {v : ℕ} → s ≡ wordRead.Found v → Follows ws at (slot_read_is (slotRead.Found New (at + 2))) (slot n)
+        pub slot_new : {v : ℕ} → s ≡ word_read.Found v → Follows ws at (slot_read_is (slot_read.Found New (at + 2))) (slot n)
         unfolding slot_read_is slot_is
         slot_new d =
             let h : at + 1 + 1 ≡ at + 2 = omega arith in
             rw h at (shows_got (got_as (slot_tested n) (then_got _ (word_found f e) (got_as new_tagged (then_gives _ (word_found g d) (λ us k. refl))))))
 
-        pub slot_misnumbered : {m : ℕ} → s ≡ wordRead.Refused m → Follows ws at (slot_read_is (slotRead.Refused m)) (slot n)
+        pub slot_misnumbered : {m : ℕ} → s ≡ word_read.Refused m → Follows ws at (slot_read_is (slot_read.Refused m)) (slot n)
         unfolding slot_read_is
         slot_misnumbered d = shows_lost (lost_as (slot_tested n) (then_lost _ (word_found f e) (lost_as new_tagged (first_lost _ (word_refused g d)))))
 
@@ -215,21 +215,21 @@ module _ (ws : List ℕ) (at n : ℕ) where
       old_tagged k = slot_old n (drop at ws) k w _ _ ((word_found f e).reads k) t
 
       module _ {s : TermRead.TermRead} (g : Follows ws at (term_read_is s) (term n)) where
-        pub slot_held : {x : TermHeld.Term} {next : ℕ} → s ≡ termRead.Found x next → Follows ws at (slot_read_is (slotRead.Found (Old x) next)) (slot n)
+        pub slot_held : {x : TermHeld.Term} {next : ℕ} → s ≡ term_read.Found x next → Follows ws at (slot_read_is (slot_read.Found (Old x) next)) (slot n)
         unfolding slot_read_is slot_is
         slot_held d =
             let h = term_found g d in
             shows_got (record { reads = λ k. old_tagged k ∙ ap (λ r. after r (λ t. give (old t))) (h.reads k); onward = h.onward; within = h.within })
 
-        pub slot_refused : {m : ℕ} → s ≡ termRead.Refused m → Follows ws at (slot_read_is (slotRead.Refused m)) (slot n)
+        pub slot_refused : {m : ℕ} → s ≡ term_read.Refused m → Follows ws at (slot_read_is (slot_read.Refused m)) (slot n)
         unfolding slot_read_is
         slot_refused d = shows_lost (record { reads = λ k. old_tagged k ∙ ap (λ r. after r (λ t. give (old t))) ((term_refused g d).reads k) })
 
-pub slot_found : {ws : List ℕ} {at next : ℕ} {m : Reader Slot} {s : SlotHeld.Slot} {r : SlotRead.SlotRead} → Follows ws at (slot_read_is r) m → r ≡ slotRead.Found s next → Got ws at m (slot_is s) next
+pub slot_found : {ws : List ℕ} {at next : ℕ} {m : Reader Slot} {s : SlotHeld.Slot} {r : SlotRead.SlotRead} → Follows ws at (slot_read_is r) m → r ≡ slot_read.Found s next → Got ws at m (slot_is s) next
 unfolding slot_read_is
 slot_found f e = got_of f (λ k. ap (λ r. slot_read_is r k) e)
 
-pub slot_lost : {ws : List ℕ} {at n : ℕ} {m : Reader Slot} {r : SlotRead.SlotRead} → Follows ws at (slot_read_is r) m → r ≡ slotRead.Refused n → Lost ws at m n
+pub slot_lost : {ws : List ℕ} {at n : ℕ} {m : Reader Slot} {r : SlotRead.SlotRead} → Follows ws at (slot_read_is r) m → r ≡ slot_read.Refused n → Lost ws at m n
 unfolding slot_read_is
 slot_lost f e = lost_of f (λ k. ap (λ r. slot_read_is r k) e)
 
@@ -292,19 +292,19 @@ two_terms n (suc (suc (suc (suc zero)))) p q a b us k = absurd (q refl)
 two_terms n (suc (suc (suc (suc (suc w))))) p q a b us k = absurd (omega arith)
 
 module _ (ws : List ℕ) (at n : ℕ) {r : WordRead.WordRead} (f : Follows ws at (word_read_is at r) (word_where bad_word (between 1 4))) where
-  pub guard_uncoded : {m : ℕ} → r ≡ wordRead.Refused m → Follows ws at (guard_read_is (guardRead.Refused m)) (opening n)
+  pub guard_uncoded : {m : ℕ} → r ≡ word_read.Refused m → Follows ws at (guard_read_is (guard_read.Refused m)) (opening n)
   unfolding guard_read_is
   guard_uncoded e = shows_lost (lost_as (guard_tested n) (first_lost _ (word_refused f e)))
 
-  module _ {w : ℕ} (e : r ≡ wordRead.Found w) where
+  module _ {w : ℕ} (e : r ≡ word_read.Found w) where
     coded : (c : ℕ) → w ≡ c → (us : List ℕ) (k : ℕ) → opening_for n (guard_of w) us k ≡ opening_for n (guard_of c) us k
     coded c t us k = ap (λ w. opening_for n (guard_of w) us k) t
 
-    pub guard_draw : w ≡ 1 → Follows ws at (guard_read_is (guardRead.Found Draw (at + 1))) (opening n)
+    pub guard_draw : w ≡ 1 → Follows ws at (guard_read_is (guard_read.Found Draw (at + 1))) (opening n)
     unfolding guard_read_is guard_is opening_for guard_of
     guard_draw t = shows_got (got_as (guard_tested n) (then_gives _ (word_found f e) (coded 1 t)))
 
-    pub guard_absent : w ≡ 4 → Follows ws at (guard_read_is (guardRead.Found Absent (at + 1))) (opening n)
+    pub guard_absent : w ≡ 4 → Follows ws at (guard_read_is (guard_read.Found Absent (at + 1))) (opening n)
     unfolding guard_read_is guard_is opening_for guard_of
     guard_absent t = shows_got (got_as (guard_tested n) (then_gives _ (word_found f e) (coded 4 t)))
 
@@ -314,30 +314,30 @@ module _ (ws : List ℕ) (at n : ℕ) {r : WordRead.WordRead} (f : Follows ws at
       terms = two_terms n w no_draw no_absent (word_bounds bad_word 1 4 (word_found f e)).0 (word_bounds bad_word 1 4 (word_found f e)).1
 
       module _ {x : TermRead.TermRead} (g : Follows ws (at + 1) (term_read_is x) (term n)) where
-        pub guard_first : {m : ℕ} → x ≡ termRead.Refused m → Follows ws at (guard_read_is (guardRead.Refused m)) (opening n)
+        pub guard_first : {m : ℕ} → x ≡ term_read.Refused m → Follows ws at (guard_read_is (guard_read.Refused m)) (opening n)
         unfolding guard_read_is
         guard_first d = shows_lost (lost_as (guard_tested n) (then_lost _ (word_found f e) (lost_as terms (first_lost _ (term_refused g d)))))
 
-        module _ {a : TermHeld.Term} {mid : ℕ} (d : x ≡ termRead.Found a mid) {y : TermRead.TermRead} (h : Follows ws mid (term_read_is y) (term n)) where
-          pub guard_second : {m : ℕ} → y ≡ termRead.Refused m → Follows ws at (guard_read_is (guardRead.Refused m)) (opening n)
+        module _ {a : TermHeld.Term} {mid : ℕ} (d : x ≡ term_read.Found a mid) {y : TermRead.TermRead} (h : Follows ws mid (term_read_is y) (term n)) where
+          pub guard_second : {m : ℕ} → y ≡ term_read.Refused m → Follows ws at (guard_read_is (guard_read.Refused m)) (opening n)
           unfolding guard_read_is
           guard_second i = shows_lost (lost_as (guard_tested n) (then_lost _ (word_found f e) (lost_as terms (then_lost _ (term_found g d) (first_lost _ (term_refused h i))))))
 
-          both : {b : TermHeld.Term} {next : ℕ} → y ≡ termRead.Found b next → Got ws at (opening n) (compared w (term_is a) (term_is b)) next
+          both : {b : TermHeld.Term} {next : ℕ} → y ≡ term_read.Found b next → Got ws at (opening n) (compared w (term_is a) (term_is b)) next
           both i = got_as (guard_tested n) (then_got _ (word_found f e) (got_as terms (then_got _ (term_found g d) (then_gives _ (term_found h i) (λ us k. refl)))))
 
-          pub guard_same : {b : TermHeld.Term} {next : ℕ} → y ≡ termRead.Found b next → w ≡ 2 → Follows ws at (guard_read_is (guardRead.Found (Same a b) next)) (opening n)
+          pub guard_same : {b : TermHeld.Term} {next : ℕ} → y ≡ term_read.Found b next → w ≡ 2 → Follows ws at (guard_read_is (guard_read.Found (Same a b) next)) (opening n)
           unfolding guard_read_is guard_is
           guard_same {b} i t = shows_got (rw (compared_same w t (term_is a) (term_is b)) at (both i))
 
-          pub guard_different : {b : TermHeld.Term} {next : ℕ} → y ≡ termRead.Found b next → (w ≡ 2 → ⊥) → Follows ws at (guard_read_is (guardRead.Found (Different a b) next)) (opening n)
+          pub guard_different : {b : TermHeld.Term} {next : ℕ} → y ≡ term_read.Found b next → (w ≡ 2 → ⊥) → Follows ws at (guard_read_is (guard_read.Found (Different a b) next)) (opening n)
           unfolding guard_read_is guard_is
           guard_different {b} i t = shows_got (rw (compared_different w t (term_is a) (term_is b)) at (both i))
 
-pub guard_found : {ws : List ℕ} {at next : ℕ} {m : Reader Opening} {g : GuardHeld.Guard} {r : GuardRead.GuardRead} → Follows ws at (guard_read_is r) m → r ≡ guardRead.Found g next → Got ws at m (guard_is g) next
+pub guard_found : {ws : List ℕ} {at next : ℕ} {m : Reader Opening} {g : GuardHeld.Guard} {r : GuardRead.GuardRead} → Follows ws at (guard_read_is r) m → r ≡ guard_read.Found g next → Got ws at m (guard_is g) next
 unfolding guard_read_is
 guard_found f e = got_of f (λ k. ap (λ r. guard_read_is r k) e)
 
-pub guard_refused : {ws : List ℕ} {at n : ℕ} {m : Reader Opening} {r : GuardRead.GuardRead} → Follows ws at (guard_read_is r) m → r ≡ guardRead.Refused n → Lost ws at m n
+pub guard_refused : {ws : List ℕ} {at n : ℕ} {m : Reader Opening} {r : GuardRead.GuardRead} → Follows ws at (guard_read_is r) m → r ≡ guard_read.Refused n → Lost ws at m n
 unfolding guard_read_is
 guard_refused f e = lost_of f (λ k. ap (λ r. guard_read_is r k) e)

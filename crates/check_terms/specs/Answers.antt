@@ -7,17 +7,17 @@ use Rattle.policy.specs.Decode.{Read, got, Reader, ◌>>=◌, give, refuse, word
 use Rattle.policy.specs.Decode as Decode
 use Rattle.policy.specs.Held.{term_is, slot_is, Opening, draw_opens, absent_opens, same_opens, different_opens, guard_is}
 use Rattle.check_terms.specs.declared.WordRead as WordRead
-use Rattle.check_terms.specs.declared.WordRead.TheVariants as wordRead
+use Rattle.check_terms.specs.declared.WordRead.TheVariants as word_read
 use Rattle.check_terms.specs.declared.TermRead as TermRead
-use Rattle.check_terms.specs.declared.TermRead.TheVariants as termRead
+use Rattle.check_terms.specs.declared.TermRead.TheVariants as term_read
 use Rattle.check_terms.specs.declared.SlotRead as SlotRead
-use Rattle.check_terms.specs.declared.SlotRead.TheVariants as slotRead
+use Rattle.check_terms.specs.declared.SlotRead.TheVariants as slot_read
 use Rattle.check_terms.specs.declared.GuardRead as GuardRead
-use Rattle.check_terms.specs.declared.GuardRead.TheVariants as guardRead
+use Rattle.check_terms.specs.declared.GuardRead.TheVariants as guard_read
 use Rattle.check_terms.specs.declared.Passed as Passed
 use Rattle.check_terms.specs.declared.Passed.TheVariants as passed
 use Rattle.check_terms.specs.declared.PatternRead as PatternRead
-use Rattle.check_terms.specs.declared.PatternRead.TheVariants as patternRead
+use Rattle.check_terms.specs.declared.PatternRead.TheVariants as pattern_read
 
 -- a value, the place of the next word and the draws met so far; or a refusal's number
 pub data Step (A : Type 0) : Type 0 where
@@ -63,13 +63,13 @@ unfoldable pub next : ℕ → ℕ → Bool
 next n v = eqb v n && leb v 15
 
 unfoldable pub word_read_is : ℕ → WordRead.WordRead → ℕ → Step ℕ
-word_read_is at (wordRead.Found w) k = found w (at + 1) k
-word_read_is at (wordRead.Refused n) k = refused n
+word_read_is at (word_read.Found w) k = found w (at + 1) k
+word_read_is at (word_read.Refused n) k = refused n
 
 unfoldable pub term_read_is : TermRead.TermRead → ℕ → Step Term
 unfolding term_is
-term_read_is (termRead.Found t next) k = found (term_is t) next k
-term_read_is (termRead.Refused n) k = refused n
+term_read_is (term_read.Found t next) k = found (term_is t) next k
+term_read_is (term_read.Refused n) k = refused n
 
 unfoldable pub passed_is : Passed.Passed → ℕ → Step (Unit {0})
 passed_is (passed.To next) k = found tt next k
@@ -101,8 +101,8 @@ scope_after n new = n + 1
 
 unfoldable pub slot_read_is : SlotRead.SlotRead → ℕ → Step Slot
 unfolding slot_is
-slot_read_is (slotRead.Found s next) k = found (slot_is s) next k
-slot_read_is (slotRead.Refused n) k = refused n
+slot_read_is (slot_read.Found s next) k = found (slot_is s) next k
+slot_read_is (slot_read.Refused n) k = refused n
 
 -- a whole pattern; of it the count of variables in scope is kept
 unfoldable pub pattern : ℕ → Reader Pattern
@@ -115,8 +115,8 @@ abbrev pub scope : Pattern → ℕ
 scope p = p.1
 
 unfoldable pub pattern_read_is : PatternRead.PatternRead → ℕ → Step ℕ
-pattern_read_is (patternRead.Found n next) k = found n next k
-pattern_read_is (patternRead.Refused n) k = refused n
+pattern_read_is (pattern_read.Found n next) k = found n next k
+pattern_read_is (pattern_read.Refused n) k = refused n
 
 -- a guard as far as its expression
 unfoldable pub opening_for : ℕ → Guard → Reader Opening
@@ -141,5 +141,5 @@ opening n = do
 
 unfoldable pub guard_read_is : GuardRead.GuardRead → ℕ → Step Opening
 unfolding guard_is
-guard_read_is (guardRead.Found g next) k = found (guard_is g) next k
-guard_read_is (guardRead.Refused n) k = refused n
+guard_read_is (guard_read.Found g next) k = found (guard_is g) next k
+guard_read_is (guard_read.Refused n) k = refused n

@@ -68,10 +68,10 @@ lower_rows_lem ours policy entries source known c d S a W allowed r i h =
     let m = theorem ours policy a.out a.rewrites in
     let all = demand_3 a.stores a.empty a.filings in
     let read = (all.answer a.point a.call lower a.draws S a.answer).is_read in
-    let inQuery = ((all.bounds a.filed a.point a.call a.words lower a.draws S a.answer).lower_rows refl r i).0 h W allowed in
+    let belongs = ((all.bounds a.filed a.point a.call a.words lower a.draws S a.answer).lower_rows refl r i).0 h W allowed in
     let passes : check_policy a.call.our_key a.call.policy ≡ passed m.places m.target m.known = rw (a.policy_is, a.key_is) m.passes in
     let belongs = asks_definition a.call d a.query_is m.places m.target m.known passes
-    read.0 read.1 lower read.2 W r inQuery in
+    read.0 read.1 lower read.2 W r belongs in
     let e = passed_once ours policy m.checks c in
     let format = format_of policy in
     subst (λ (xs : List Entry). get_or (transformed format W xs source) d (λ x. ⊥) r) e.0

@@ -81,9 +81,9 @@ module _ (s : Stores) (empty : EmptyStores s) (filings : List AnyFiling) where
 
     grows_at : (c d : Call) → CallWords c → c.policy ≡ d.policy → c.query ≡ d.query → c.our_key ≡ d.our_key →
         (v v' : Verdict) (k k' : ℕ) (S S' : RowSet) → AnsweredBy (names_held first) c v k S → AnsweredBy (names_held second) d v' k' S' → Grows v v' S S'
-    grows_at c d w same-policy same-query same_key v v' k k' S S' a b =
+    grows_at c d w same_policy same_query same_key v v' k k' S S' a b =
         let both : checked a.es a.q v ≡ checked b.es b.q v' =
-        sym a.passes ∙ ap (λ (x : ℕ). check x c.policy c.query) same_key ∙ ap (λ (x : List ℕ). check d.our_key x c.query) same-policy ∙ ap (λ (x : List ℕ). check d.our_key d.policy x) same-query ∙ b.passes in
+        sym a.passes ∙ ap (λ (x : ℕ). check x c.policy c.query) same_key ∙ ap (λ (x : List ℕ). check d.our_key x c.query) same_policy ∙ ap (λ (x : List ℕ). check d.our_key d.policy x) same_query ∙ b.passes in
         let es : b.es ≡ a.es = cc in
         let qs : b.q ≡ a.q = cc in
         let vs : v' ≡ v = cc in
@@ -92,7 +92,7 @@ module _ (s : Stores) (empty : EmptyStores s) (filings : List AnyFiling) where
         subst (λ (u : Verdict). read_from format (names_held second) a.es a.q u [] 0 ≡ answered v' k' S') vs
         (subst (λ (x : Expr). read_from format (names_held second) a.es x v' [] 0 ≡ answered v' k' S') qs
         (subst (λ (xs : List Expr). read_from format (names_held second) xs b.q v' [] 0 ≡ answered v' k' S') es
-        (subst (λ (policy : List ℕ). read_from (format_of policy) (names_held second) b.es b.q v' [] 0 ≡ answered v' k' S') (sym same-policy) b.reads))) in
+        (subst (λ (policy : List ℕ). read_from (format_of policy) (names_held second) b.es b.q v' [] 0 ≡ answered v' k' S') (sym same_policy) b.reads))) in
         record {
           same_verdict = sym vs;
           lower_grows = lower_grows_lem c w a.es a.q v a.passes first second (about words m p) (about words m q) (still_held m p q e) v v' k k' S S' a.reads later;
@@ -114,7 +114,7 @@ demand_3 s empty filings = record {
   bounds = λ words p c w v k S h.
       let a = answer_at s empty filings p c v k S h in
       bounds c w a.es a.q v a.passes (held_after c.minute p.passed) (about s empty filings words c.minute p) v k S a.reads;
-  later = λ words p q e c d w same-policy same-query same_key same-minute v v' k k' S S' h h'.
-      grows_at s empty filings words p q e c.minute c d w same-policy same-query same_key v v' k k' S S' (answer_at s empty filings p c v k S h)
-      (subst (λ (m : ℕ). AnsweredBy (names_held (held_after m q.passed)) d v' k' S') (sym same-minute) (answer_at s empty filings q d v' k' S' h'));
+  later = λ words p q e c d w same_policy same_query same_key same_minute v v' k k' S S' h h'.
+      grows_at s empty filings words p q e c.minute c d w same_policy same_query same_key v v' k k' S S' (answer_at s empty filings p c v k S h)
+      (subst (λ (m : ℕ). AnsweredBy (names_held (held_after m q.passed)) d v' k' S') (sym same_minute) (answer_at s empty filings q d v' k' S' h'));
 }

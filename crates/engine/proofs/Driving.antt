@@ -213,16 +213,16 @@ module _ {count : ℕ} {f : From} {draws : ℕ} (before : ReadSoFar count f draw
           definitions ≡ put (642 * f.known) (set_words (set_in scratch)) f.defs →
           ReadSoFar count (with_sets f definitions (f.known + 1)) total
       unfolding set_read_is
-      next_read {total} is-done room fits e = subst (λ (z : List ℕ). ReadSoFar count (with_sets f z (f.known + 1)) total) (sym e) (record {
+      next_read {total} is_done room fits e = subst (λ (z : List ℕ). ReadSoFar count (with_sets f z (f.known + 1)) total) (sym e) (record {
         few = omega arith;
-        sound = sound_more before.sound (done_filled said is-done) room fits;
+        sound = sound_more before.sound (done_filled said is_done) room fits;
         means = λ query es q v h.
             let n = next_means query es q v h in
             record {
               rest = n.1;
               left = n.4;
-              goes = n.2 ∙ read_done f n.0 n.1 q v draws (n.3 ∙ ap (λ (x : Read). set_read_is x scratch) is-done)
-                  ∙ ap (λ (ss : List RowSet). read_from f.format (names f) n.1 q v ss total) (sym (sets_more before.sound (done_filled said is-done) room fits));
+              goes = n.2 ∙ read_done f n.0 n.1 q v draws (n.3 ∙ ap (λ (x : Read). set_read_is x scratch) is_done)
+                  ∙ ap (λ (ss : List RowSet). read_from f.format (names f) n.1 q v ss total) (sym (sets_more before.sound (done_filled said is_done) room fits));
             };
       })
 
@@ -258,13 +258,13 @@ module _ {f : From} {progress : Progress} (said : ReadDefinitions f progress) wh
         (ap reply_for (sym o), ap (λ (x : Outcome). answer_area x area) (sym o));
   }
 
-  module _ {before : ℕ} (is-done : progress ≡ Done before) (counted : get_or f.policy 1 0 ≡ f.known) where
+  module _ {before : ℕ} (is_done : progress ≡ Done before) (counted : get_or f.policy 1 0 ≡ f.known) where
     pub query_asked : {query definitions₀ scratch₀ scratch : List ℕ} → Ready f.stores f.our_key f.policy query definitions₀ scratch₀ → length scratch ≡ length scratch₀ → AskWhole f query scratch
     unfolding SoundIf
     query_asked {query} ready size =
         let space = ready.space in
         record {
-          sound = subst (SoundIf f) is-done said.sound;
+          sound = subst (SoundIf f) is_done said.sound;
           e = ready.q;
           parses = query_parses f.our_key f.policy query counted ready.passes;
           long = omega arith;
@@ -273,7 +273,7 @@ module _ {f : From} {progress : Progress} (said : ReadDefinitions f progress) wh
     module _ {query : List ℕ} {r : Read} {scratch : List ℕ} (answer : SayWhole f query before r scratch) where
       goes : (es : List Expr) (q : Expr) (v : Verdict) → check f.our_key f.policy query ≡ checked es q v → read_from f.format (names f) es q v [] 0 ≡ read_from f.format (names f) [] q v (sets f) before
       unfolding left_to_read
-      goes es q v h = said.means query es q v h ∙ ap (left_to_read f q v) is-done
+      goes es q v h = said.means query es q v h ∙ ap (left_to_read f q v) is_done
 
       reads : {es : List Expr} {q : Expr} {v : Verdict} → check f.our_key f.policy query ≡ checked es q v → reading f q [] before ≡ set_read_is r scratch
       reads {q = q} h = answer.means q (query_parses f.our_key f.policy query counted h)

@@ -43,7 +43,7 @@ fn read_definitions(
     scratch: &mut [u32],
 ) -> Progress
     requires { ReadyPolicy (record { store = store.now; links = links.now }) our_key policy.now count definitions.old scratch.old }
-    ensures { ReadDefinitions (record { minute = minute; format = format; our_key = our_key; policy = policy.now; stores = record { store = store.entry.now; links = links.now }; defs = definitions.new; known = count }) result }
+    ensures { ReadDefinitions (record { minute = minute; format = format; our_key = our_key; policy = policy.now; stores = record { store = store.now; links = links.now }; defs = definitions.new; known = count }) result }
 {
     let mut draws: u32 = 0;
     let mut d: usize = 0;
@@ -93,7 +93,7 @@ pub fn read_all(
     scratch: &mut [u32],
 ) -> Reply
     requires { Ready (record { store = store.now; links = links.now }) our_key policy.now query.now definitions.old scratch.old × (set_room ≤ length answer.old) }
-    ensures { ReadAll our_key (format_of policy.now) (names_held (held_in minute (record { store = store.entry.now; links = links.now }))) policy.now query.now verdict answer.old result answer.new }
+    ensures { ReadAll our_key (format_of policy.now) (names_held (held_in minute (record { store = store.now; links = links.now }))) policy.now query.now verdict answer.old result answer.new }
 {
     let format = policy[0];
     let count = policy[1] as usize;

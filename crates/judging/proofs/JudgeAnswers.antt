@@ -22,7 +22,7 @@ use Rattle.policy.specs.Judgement.{JudgementReply, reply_of, judge}
 use Rattle.policy.proofs.Basics.{impossible}
 use Rattle.policy_table.specs.Entries.{entry_place, entries_from, table_is}
 use Rattle.policy_table.specs.declared.TableRead.{TableRead}
-use Rattle.policy_table.specs.declared.TableRead.TheVariants as tableRead
+use Rattle.policy_table.specs.declared.TableRead.TheVariants as table_read
 use Rattle.check_polarity.specs.Facts.{facts_for}
 use Rattle.check_polarity.specs.Earlier.{Before, none_before, and_then, earlier_is, known_as}
 use Rattle.check_polarity.specs.declared.Facts.{Facts}
@@ -32,7 +32,7 @@ use Rattle.check_polarity.specs.declared.Whole.TheVariants as whole
 use Rattle.check_polarity.proofs.EarlierAnswers.{known_count}
 use Rattle.judging.specs.Whole.{whole_for, definition_parsed, definition_at, query_at}
 use Rattle.judging.specs.Reply.{JudgedAs, judgement_for}
-use Rattle.judging.specs.declared.PolicyJudgement.TheVariants as policyJudgement
+use Rattle.judging.specs.declared.PolicyJudgement.TheVariants as policy_judgement
 use Rattle.judging.specs.declared.PolicyJudged.{PolicyJudged}
 use Rattle.judging.specs.declared.Judgement.TheVariants as judgement
 
@@ -73,7 +73,7 @@ pub record Judging (ours : ℕ) (p : List ℕ) (n d : ℕ) (x : Earlier) : Type 
 of_table : ℕ → List ℕ → Table → PolicyChecked
 of_table ours p t = elim t [ table xs ↦ definitions_from ours p xs [] | Tables.refused n ↦ Definitions.refused n no_part ]
 
-pub table_refused : (ours : ℕ) (p : List ℕ) {m : ℕ} {t : TableRead} (r : PolicyJudged) → table_is p t ≡ read_table p → t ≡ tableRead.Refused m → JudgedAs ours (Definitions.refused m no_part) r →
+pub table_refused : (ours : ℕ) (p : List ℕ) {m : ℕ} {t : TableRead} (r : PolicyJudged) → table_is p t ≡ read_table p → t ≡ table_read.Refused m → JudgedAs ours (Definitions.refused m no_part) r →
     JudgedAs ours (check_table ours p) r
 unfolding table_is check_table of_table
 table_refused ours p r f e j = subst (λ t. JudgedAs ours (of_table ours p t) r) (sym (ap (table_is p) e) ∙ f) j
@@ -131,7 +131,7 @@ module _ (ours : ℕ) (p : List ℕ) (n d : ℕ) (x : Earlier) (j : Judging ours
       comes : w ≡ whole_for (earlier_is x) (check_definition ours p (earlier_is x).known (entry_at p (entry_place d)))
       comes = g ∙ ap (λ (o : ℕ). whole_for (earlier_is x) (check_definition o p (earlier_is x).known (entry_at p (entry_place d)))) j.key
 
-      pub judging_refused : {m : ℕ} (r : PolicyJudged) → w ≡ whole.Refused m → r.judgement ≡ policyJudgement.Refused m d → JudgedAs ours (check_table ours p) r
+      pub judging_refused : {m : ℕ} (r : PolicyJudged) → w ≡ whole.Refused m → r.judgement ≡ policy_judgement.Refused m d → JudgedAs ours (check_table ours p) r
       unfolding JudgedAs this ks from_here
       judging_refused {m} r e h =
           let l : length (earlier_is x).known ≡ d = known_count x ∙ j.count in
@@ -152,7 +152,7 @@ module _ (ours : ℕ) (p : List ℕ) (n d : ℕ) (x : Earlier) (j : Judging ours
             few = omega arith;
           }
 
-  pub all_judged : (r : PolicyJudged) → n ≤ d → n ≤ 16 → r.judgement ≡ policyJudgement.Passed → r.earlier ≡ x → JudgedAs ours (check_table ours p) r
+  pub all_judged : (r : PolicyJudged) → n ≤ d → n ≤ 16 → r.judgement ≡ policy_judgement.Passed → r.earlier ≡ x → JudgedAs ours (check_table ours p) r
   unfolding entries_from definitions_from JudgedAs
   all_judged r done few h e =
       let z : 0 ≡ n - d = omega arith in
@@ -175,7 +175,7 @@ pub record Passing (ours : ℕ) (p : List ℕ) (r : PolicyJudged) : Type 0 where
   pub few : r.earlier.count ≤ 16
 
 module _ (ours : ℕ) (p : List ℕ) (r : PolicyJudged) (h : JudgedAs ours (check_policy ours p) r) where
-  pub policy_passes : r.judgement ≡ policyJudgement.Passed → Passing ours p r
+  pub policy_passes : r.judgement ≡ policy_judgement.Passed → Passing ours p r
   unfolding JudgedAs
   policy_passes e = go (check_policy ours p) refl h
     where
@@ -183,7 +183,7 @@ module _ (ours : ℕ) (p : List ℕ) (r : PolicyJudged) (h : JudgedAs ours (chec
       go (passed xs es ks) c t = record { entries = xs; exprs = es; passes = rw t.known c; key = ap (λ b. b.our_key) t.known; few = t.few }
       go (Definitions.refused n part) c t = impossible cc
 
-  pub policy_refuses : {n part : ℕ} → r.judgement ≡ policyJudgement.Refused n part → check_policy ours p ≡ Definitions.refused n part
+  pub policy_refuses : {n part : ℕ} → r.judgement ≡ policy_judgement.Refused n part → check_policy ours p ≡ Definitions.refused n part
   unfolding JudgedAs
   policy_refuses {n} {part} e = go (check_policy ours p) h
     where
@@ -192,11 +192,11 @@ module _ (ours : ℕ) (p : List ℕ) (r : PolicyJudged) (h : JudgedAs ours (chec
       go (Definitions.refused m k) t = let a : m ≡ n = cc in let b : k ≡ part = cc in rw (a, b) refl
 
 module _ (ours : ℕ) (p q : List ℕ) (r : PolicyJudged) (h : JudgedAs ours (check_policy ours p) r) where
-  pub policy_refused : {n part : ℕ} → r.judgement ≡ policyJudgement.Refused n part → judgement.Refused n part ≡ judgement_for (judge ours p q)
+  pub policy_refused : {n part : ℕ} → r.judgement ≡ policy_judgement.Refused n part → judgement.Refused n part ≡ judgement_for (judge ours p q)
   unfolding judge check reply_of judgement_for with_query
   policy_refused e = sym (ap (λ (c : PolicyChecked). judgement_for (with_query ours q c)) (policy_refuses ours p r h e))
 
-  module _ (e : r.judgement ≡ policyJudgement.Passed) where
+  module _ (e : r.judgement ≡ policy_judgement.Passed) where
     pub known_few : r.earlier.count ≤ 16
     known_few = (policy_passes ours p r h e).few
 

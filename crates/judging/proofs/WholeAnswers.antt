@@ -27,7 +27,7 @@ use Rattle.check_polarity.specs.declared.Whole.TheVariants as whole
 use Rattle.check_leaves.specs.Checks.{checking_is}
 use Rattle.check_leaves.specs.declared.Checking.{Checking}
 use Rattle.check_leaves.specs.declared.Checking.TheVariants as checking
-use Rattle.check_leaves.proofs.CheckAnswers as check-answers
+use Rattle.check_leaves.proofs.CheckAnswers as check_answers
 use Rattle.check_expressions.specs.Expressions.{expr_facts}
 use Rattle.judging.specs.Whole.{whole_for, definition_parsed, query_at}
 
@@ -53,16 +53,16 @@ module _ (b : Before) where
 module _ (b : Before) (ws : List ℕ) {r : Checking} (f : Answers ws 0 (checking_is r) (expr_facts b 15 0 (drop 0 ws) 0)) where
   pub parse_refused : {n : ℕ} → r ≡ checking.Refused n → whole.Refused n ≡ whole_for b (parse (scope_at b) ws)
   unfolding expr_facts keeping parse
-  parse_refused {n} e = sym (whole_refused b n (expr (scope_at b) 15 0 ws 0) (check-answers.refusal_answered f e))
+  parse_refused {n} e = sym (whole_refused b n (expr (scope_at b) 15 0 ws 0) (check_answers.refusal_answered f e))
 
   module _ {a : Facts} {next k : ℕ} (e : r ≡ checking.Found a next k) where
     pub parse_left_over : next < length ws → whole.Refused bad_word ≡ whole_for b (parse (scope_at b) ws)
     unfolding expr_facts keeping parse
-    parse_left_over h = sym (left_over_lem b a (drop next ws) k (get_or ws next 0) (drop (next + 1) ws) (expr (scope_at b) 15 0 ws 0) (check-answers.facts_answered f e).comes (word_here ws next h))
+    parse_left_over h = sym (left_over_lem b a (drop next ws) k (get_or ws next 0) (drop (next + 1) ws) (expr (scope_at b) 15 0 ws 0) (check_answers.facts_answered f e).comes (word_here ws next h))
 
     pub parse_whole : length ws ≤ next → whole.Checked a ≡ whole_for b (parse (scope_at b) ws)
     unfolding expr_facts keeping parse
-    parse_whole h = sym (whole_read b a (drop next ws) k (expr (scope_at b) 15 0 ws 0) (check-answers.facts_answered f e).comes (no_word ws next h))
+    parse_whole h = sym (whole_read b a (drop next ws) k (expr (scope_at b) 15 0 ws 0) (check_answers.facts_answered f e).comes (no_word ws next h))
 
 admitted : (b : Before) (e : Expr) (had closed : Bool) → draws_closed e b.known ≡ closed → whole_for b (polarized had (draws_closed e b.known) e) ≡ admit_of (facts_for b e) had
 unfolding whole_for polarized admit_of facts_for

@@ -87,11 +87,11 @@ module _ (format : ℕ) (rest : Values → List Row → Reading (List Row)) (fin
   draw_each_not p vs (x ∷ xs) acc =
       after_not tick _ tick_not (λ k u j q. after_not (on_match rest acc (match format p vs x)) _ (on_match_not acc (match format p vs x)) (λ k' more j' q'. draw_each_not p vs xs more))
 
-module _ (format : ℕ) (names : Evidence) (finiteNames : FiniteNames names) (sets : List RowSet) (ks : List Known)
-    (finiteSets : FiniteSets ks sets) where
+module _ (format : ℕ) (names : Evidence) (finite_names : FiniteNames names) (sets : List RowSet) (ks : List Known)
+    (finite_sets : FiniteSets ks sets) where
   pub closed_finite : (e : Expr) → ReadFinite format names sets ks e
   unfolding open_expr read IsFinite
-  closed_finite (leaf x) t vs k s j q = leaf_finite names finiteNames sets ks finiteSets x t vs k s j q
+  closed_finite (leaf x) t vs k s j q = leaf_finite names finite_names sets ks finite_sets x t vs k s j q
   closed_finite (union a b) t vs k s j q =
       let x = after_done (read format names sets a vs k) _ s j q in
       let y = after_done (read format names sets b vs x.draws) _ s j x.rest in

@@ -103,8 +103,8 @@ none_first : (xs : List Row) (r : Row) (A : Type 0) → (r ∈ xs) ↔ ((r ∈ [
 unfolding ◌∈◌
 none_first xs r A h = h then (λ t. elim t [ inl a ↦ absurd a | inr b ↦ b ], λ b. inr b)
 
-module _ (format : ℕ) (names : Evidence) (W : World) (shows : Shows names W) (properNames : ProperNames names)
-    (sets : List RowSet) (D : Meanings) (agree : Agree sets D) (tidySets : TidySets sets) where
+module _ (format : ℕ) (names : Evidence) (W : World) (shows : Shows names W) (proper_names : ProperNames names)
+    (sets : List RowSet) (D : Meanings) (agree : Agree sets D) (tidy_sets : TidySets sets) where
   -- what a draw finds is what passes
   drawn_iff : (e : Expr) (p : List Slot) (rest : Body) (vs : Values) (xs : List Row) → All IsRow xs → JustThose format W D e vs (only xs) → (r : Row) →
       Drawn format (Passes format W D rest) p vs xs r ↔ Passes format W D (draw e p rest) vs r
@@ -155,7 +155,7 @@ module _ (format : ℕ) (names : Evidence) (W : World) (shows : Shows names W) (
         let v = all_left IsWord (expr_words e n) _ t.1 in
         let u = all_right IsWord (expr_words e n) _ t.1 in
         let h : JustThose format W D e vs (only y.value) = subst (JustThose format W D e vs) g (λ z l. read_rows e m n f.0 v vs w k x.value x.draws x.first z l) in
-        let o : Tidy (only y.value) = subst Tidy g (read_tidy format names sets properNames tidySets e m n f.0 v vs w k x.value x.draws x.first) in
+        let o : Tidy (only y.value) = subst Tidy g (read_tidy format names sets proper_names tidy_sets e m n f.0 v vs w k x.value x.draws x.first) in
         draws_add format (λ ws more. gather format names sets rest ws more) (Passes format W D rest)
         (λ ws v' acc' k' found' j' q' r' i'. gather_rows rest m (n + fresh p) f.2 (all_right IsWord (slot_words n p) _ u.1) ws v' acc' k' found' j' q' r' i')
         p vs w y.value o.proper.rows acc y.draws found j y.rest r i

@@ -59,10 +59,10 @@ leaf_tidy names sets a b (vetted i l o d) m n f t vs w k s j q =
     (name_tidy names sets a b (value vs i) l plus o k) q
 
 -- the rows written in a literal
-rowsOf-∈ : (vs : Values) (rs : List (List Term)) (r : Row) → (r ∈ rows_of vs rs) ↔ (r ∈ map (row_of vs) rs)
+rows_of-∈ : (vs : Values) (rs : List (List Term)) (r : Row) → (r ∈ rows_of vs rs) ↔ (r ∈ map (row_of vs) rs)
 unfolding rows_of ◌∈◌
-rowsOf-∈ vs [] r = iff_refl
-rowsOf-∈ vs (x ∷ rs) r = insert-∈ row_before row_order (row_of vs x) (rows_of vs rs) r then both_or iff_refl (rowsOf-∈ vs rs r)
+rows_of-∈ vs [] r = iff_refl
+rows_of-∈ vs (x ∷ rs) r = insert-∈ row_before row_order (row_of vs x) (rows_of vs rs) r then both_or iff_refl (rows_of-∈ vs rs r)
 
 -- the one-atom row of an issuer
 issuer_row : (i : Term) (ws : List ℕ) → Words (term_words i ++ ws) → (vs : Values) → Words vs → IsRow (value vs i ∷ [])
@@ -86,8 +86,8 @@ module _ (names : Evidence) (W : World) (shows : Shows names W) (sets : List Row
   pub leaf_rows : (x : Leaf) (m : Scope) (n : ℕ) → FitLeaf m n x → Words (leaf_words x) → (vs : Values) → Words vs → (k : ℕ) (s : RowSet) (j : ℕ) → read_leaf names sets x vs k ≡ done s j →
       (r : Row) → IsRow r → T (has s r) ↔ BelongsLeaf (InName W) D x vs r
   unfolding read_leaf BelongsLeaf leaf_words All
-  leaf_rows (finite rs) m n f t vs w k s j q r i = has_by (only (rows_of vs rs)) s r _ (small_done _ s k j q).value (only_iff (rows_of vs rs) r then rowsOf-∈ vs rs r)
-  leaf_rows (cofinite rs) m n f t vs w k s j q r i = has_by (all_but (rows_of vs rs)) s r _ (small_done _ s k j q).value (all_but_iff (rows_of vs rs) r then both_not (rowsOf-∈ vs rs r))
+  leaf_rows (finite rs) m n f t vs w k s j q r i = has_by (only (rows_of vs rs)) s r _ (small_done _ s k j q).value (only_iff (rows_of vs rs) r then rows_of-∈ vs rs r)
+  leaf_rows (cofinite rs) m n f t vs w k s j q r i = has_by (all_but (rows_of vs rs)) s r _ (small_done _ s k j q).value (all_but_iff (rows_of vs rs) r then both_not (rows_of-∈ vs rs r))
   leaf_rows (definition d) m n f t vs w k s j q r i = has_by (get_or sets d (only [])) s r _ (done_value q) (agree d r i)
   leaf_rows (listed u l p o) m n f t vs w k s j q r i = name_rows_lem (value vs u) l p o k r i q
   leaf_rows (vetted u l o d) m n f t vs w k s j q r i =

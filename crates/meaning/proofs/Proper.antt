@@ -59,12 +59,12 @@ module _ (format : ℕ) (rest : Values → List Row → Reading (List Row)) (kee
       draw_each_tidy p vs w xs i.1 m.value m.draws found j
       (on_match_tidy (match format p vs x) (λ ws q. match_words format p vs x ws w i.0.words q) acc t.draws m.value m.draws a m.first) m.rest
 
-module _ (format : ℕ) (names : Evidence) (sets : List RowSet) (properNames : ProperNames names) (tidySets : TidySets sets) where
+module _ (format : ℕ) (names : Evidence) (sets : List RowSet) (proper_names : ProperNames names) (tidy_sets : TidySets sets) where
   mutual
     unfolding read Fit expr_words body_words listing All
 
     pub read_tidy : (e : Expr) → WheneverRead format names sets e (λ vs s. Tidy s)
-    read_tidy (leaf x) m n f t vs w k s j q = leaf_tidy names sets properNames tidySets x m n f t vs w k s j q
+    read_tidy (leaf x) m n f t vs w k s j q = leaf_tidy names sets proper_names tidy_sets x m n f t vs w k s j q
     read_tidy (union a b) m n f t vs w k s j q =
         let x = after_done (read format names sets a vs k) _ s j q in
         let y = after_done (read format names sets b vs x.draws) _ s j x.rest in

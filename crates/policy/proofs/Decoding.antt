@@ -59,24 +59,24 @@ count_reads = record {
         record { words = []; draws = 1; front = l; count = omega arith; few = omega (arith, ltb-true k 8 h); so = made tt }
     taking ws k t rest j false h e = impossible cc
 
-module _ (scope : Scope) (levels : ℕ) (inner : ℕ → Reader Expr) (inner-reads : (m : ℕ) → Reads (inner m) (expression scope levels m)) where
+module _ (scope : Scope) (levels : ℕ) (inner : ℕ → Reader Expr) (inner_reads : (m : ℕ) → Reads (inner m) (expression scope levels m)) where
   -- a guard, and c more after it
-  module _ (c n : ℕ) (rest : ℕ → Reader Body) (rest-reads : (m : ℕ) → Reads (rest m) (guards scope levels c m)) where
+  module _ (c n : ℕ) (rest : ℕ → Reader Body) (rest_reads : (m : ℕ) → Reads (rest m) (guards scope levels c m)) where
     -- same and different: two terms
     terms_take : (make : Term → Term → Body → Body) (Q : Body → List ℕ → ℕ → Type 0) →
         ((x y : Term) (b : Body) → FitTerm n x → FitTerm n y → FitGuards scope levels c n b → Q (make x y b) (term_words x ++ (term_words y ++ body_words b n)) (0 + (0 + body_draws b))) →
         Takes (λ ws k. after (term n ws k) (λ x us i. after (term n us i) (λ y vs j. after (rest n vs j) (λ b. give (make x y b))))) Q
-    terms_take make Q q = then_takes (term_reads n) (λ x f. then_takes (term_reads n) (λ y g. last_takes (make x y) (rest-reads n) (λ b h. q x y b f g h)))
+    terms_take make Q q = then_takes (term_reads n) (λ x f. then_takes (term_reads n) (λ y g. last_takes (make x y) (rest_reads n) (λ b h. q x y b f g h)))
 
     guard_as_takes : (w : ℕ) → Takes (guard_as inner n rest (guard_of w)) (λ b u d. Made (guards scope levels (suc c) n) b (w ∷ u) d)
     unfolding guard_as guard_of body_words body_depth body_draws guard_count FitBody
     guard_as_takes zero = refuse_takes bad_word
     guard_as_takes (suc zero) =
         then_takes count_reads (λ t o.
-        then_takes (inner-reads n) (λ e f.
+        then_takes (inner_reads n) (λ e f.
         then_takes width_reads (λ w g.
         then_takes (slots_reads w n) (λ p h.
-        last_takes (draw e p.0) (rest-reads p.1) (λ b i. record {
+        last_takes (draw e p.0) (rest_reads p.1) (λ b i. record {
           spelled = rw (h.size, h.scope);
           met = omega arith;
           good = record { fit = (f.fit, record { some = omega (arith, h.size); few = omega (arith, h.size); slots = h.slots }, rw h.scope at i.fit); shallow = omega arith; guards = ap suc i.guards };
@@ -86,8 +86,8 @@ module _ (scope : Scope) (levels : ℕ) (inner : ℕ → Reader Expr) (inner-rea
         terms_take different _ (λ x y b f g h. record { spelled = refl; met = omega arith; good = record { fit = (f, g, h.fit); shallow = h.shallow; guards = ap suc h.guards } })
     guard_as_takes (suc (suc (suc (suc zero)))) =
         then_takes (row_reads n) (λ r f.
-        then_takes (inner-reads n) (λ e g.
-        last_takes (absent r e) (rest-reads n) (λ b h. record {
+        then_takes (inner_reads n) (λ e g.
+        last_takes (absent r e) (rest_reads n) (λ b h. record {
           spelled = refl;
           met = omega arith;
           good = record { fit = (f, g.fit, h.fit); shallow = omega arith; guards = ap suc h.guards };
@@ -98,7 +98,7 @@ module _ (scope : Scope) (levels : ℕ) (inner : ℕ → Reader Expr) (inner-rea
         Returns (λ ws k. after (term n ws k) (λ x us i. after (term n us i) (λ y vs j. after (rest n vs j) (λ b. give (make x y b))))) (make x y b)
         (term_words x ++ (term_words y ++ body_words b n)) (body_draws b)
     terms_return make x y b f g h =
-        returns_as (then_returns _ (term_reads n) x f (then_returns _ (term_reads n) y g (last_returns (make x y) (rest-reads n) b h))) (omega arith)
+        returns_as (then_returns _ (term_reads n) x f (then_returns _ (term_reads n) y g (last_returns (make x y) (rest_reads n) b h))) (omega arith)
 
     guard_returns : (b : Body) → FitGuards scope levels (suc c) n b → Returns (λ ws k. after (word ws k) (λ t. guard_as inner n rest (guard_of t))) b (body_words b n) (body_draws b)
     unfolding guard_as guard_of body_words body_depth body_draws guard_count FitBody
@@ -106,18 +106,18 @@ module _ (scope : Scope) (levels : ℕ) (inner : ℕ → Reader Expr) (inner-rea
     guard_returns (draw e p b) f =
         word_returns 1 (returns_as
         (then_returns _ count_reads tt tt
-        (then_returns _ (inner-reads n) e (record { fit = f.fit.0; shallow = omega (arith, f.shallow) })
+        (then_returns _ (inner_reads n) e (record { fit = f.fit.0; shallow = omega (arith, f.shallow) })
         (then_returns _ width_reads (length p) (f.fit.1.some, f.fit.1.few)
         (then_returns _ (slots_reads (length p) n) (p, n + fresh p) (record { slots = f.fit.1.slots; size = refl; scope = refl })
-        (last_returns (draw e p) (rest-reads (n + fresh p)) b (record { fit = f.fit.2; shallow = omega (arith, f.shallow); guards = omega (arith, f.guards) })))))) (omega arith))
+        (last_returns (draw e p) (rest_reads (n + fresh p)) b (record { fit = f.fit.2; shallow = omega (arith, f.shallow); guards = omega (arith, f.guards) })))))) (omega arith))
     guard_returns (same x y b) f = word_returns 2 (terms_return same x y b f.fit.0 f.fit.1 (record { fit = f.fit.2; shallow = f.shallow; guards = omega (arith, f.guards) }))
     guard_returns (different x y b) f =
         word_returns 3 (terms_return different x y b f.fit.0 f.fit.1 (record { fit = f.fit.2; shallow = f.shallow; guards = omega (arith, f.guards) }))
     guard_returns (absent r e b) f =
         word_returns 4 (returns_as
         (then_returns _ (row_reads n) r f.fit.0
-        (then_returns _ (inner-reads n) e (record { fit = f.fit.1; shallow = omega (arith, f.shallow) })
-        (last_returns (absent r e) (rest-reads n) b (record { fit = f.fit.2; shallow = omega (arith, f.shallow); guards = omega (arith, f.guards) })))) (omega arith))
+        (then_returns _ (inner_reads n) e (record { fit = f.fit.1; shallow = omega (arith, f.shallow) })
+        (last_returns (absent r e) (rest_reads n) b (record { fit = f.fit.2; shallow = omega (arith, f.shallow); guards = omega (arith, f.guards) })))) (omega arith))
 
   head_reads : (n : ℕ) → Reads (body inner zero n) (guards scope levels zero n)
   unfolding body body_words body_depth body_draws guard_count FitBody
@@ -149,11 +149,11 @@ module _ (scope : Scope) (levels : ℕ) (inner : ℕ → Reader Expr) (inner-rea
     parts_take : (make : Expr → Expr → Expr) (Q : Expr → List ℕ → ℕ → Type 0) →
         ((a b : Expr) → FitExpr scope levels n a → FitExpr scope levels n b → Q (make a b) (expr_words a n ++ expr_words b n) (draw_count a + draw_count b)) →
         Takes (λ ws k. after (inner n ws k) (λ a us i. after (inner n us i) (λ b. give (make a b)))) Q
-    parts_take make Q q = then_takes (inner-reads n) (λ a f. last_takes (make a) (inner-reads n) (λ b g. q a b f g))
+    parts_take make Q q = then_takes (inner_reads n) (λ a f. last_takes (make a) (inner_reads n) (λ b g. q a b f g))
 
     parts_return : (make : Expr → Expr → Expr) (a b : Expr) → FitExpr scope levels n a → FitExpr scope levels n b →
         Returns (λ ws k. after (inner n ws k) (λ a us i. after (inner n us i) (λ b. give (make a b)))) (make a b) (expr_words a n ++ expr_words b n) (draw_count a + draw_count b)
-    parts_return make a b f g = then_returns _ (inner-reads n) a f (last_returns (make a) (inner-reads n) b g)
+    parts_return make a b f g = then_returns _ (inner_reads n) a f (last_returns (make a) (inner_reads n) b g)
 
     -- a leaf, its code being w
     leaf_takes : (w : ℕ) → Takes (λ ws k. after (leaf_as scope n (leaf_of w) ws k) (λ x. give (leaf x))) (λ e u d. Made (expression scope (suc levels) n) e (w ∷ u) d)

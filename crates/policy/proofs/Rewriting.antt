@@ -46,12 +46,12 @@ later_passes : (ours : ℕ) (policy out : List ℕ) (ks : List Known) (x : Entry
     (get_or ks 0 unknown).declared ≡ minus → x.polarity ≡ 0 → T (external_expr plus e) → drop due out ≡ parts (vet e ∷ es) →
     AcceptedDefinition ours out ks (moved x due (length (expr_words (vet e) 0))) (vet e)
 unfolding known_of polarity_of
-later_passes ours policy out ks x e due es a some keys isPlus t h =
+later_passes ours policy out ks x e due es a some keys is_plus t h =
     let formed = ((parse_iff (scope_of ours ks) (entry_words policy x) e).0 a.parses).1 in
     record {
       parses = (parse_iff (scope_of ours ks) _ (vet e)).1 (entry_part out x due (vet e) es h, vet_formed (scope_of ours ks) (omega (arith, length-map ks declaration)) e formed);
-      has = subst (λ (w : ℕ). T (has_polarity (vet e) ks (polarity_of w))) (sym isPlus)
-          (vet_has ks keys e t (subst (λ (w : ℕ). T (has_polarity e ks (polarity_of w))) isPlus a.has));
+      has = subst (λ (w : ℕ). T (has_polarity (vet e) ks (polarity_of w))) (sym is_plus)
+          (vet_has ks keys e t (subst (λ (w : ℕ). T (has_polarity e ks (polarity_of w))) is_plus a.has));
       closed = subst T (sym (vet_closed ks e)) a.closed;
     }
 
@@ -62,9 +62,9 @@ all_pass ours policy out none some keys t due h = none
 all_pass ours policy out (one {x = x} {xs = xs} {ks = ks} {ls = ls} {e = e} {es = es} a rest) some keys t due h =
     let size = length (expr_words (vet e) 0) in
     let u = T_left (eqb x.polarity 0 && external_expr plus e) (all_plus xs es) t in
-    let isPlus = eqb-true x.polarity 0 (true_T _ (T_left (eqb x.polarity 0) (external_expr plus e) u)) in
+    let is_plus = eqb-true x.polarity 0 (true_T _ (T_left (eqb x.polarity 0) (external_expr plus e) u)) in
     let l : length (ks ++ (known_of x e ks ∷ [])) ≡ suc (length ks) = length_snoc ks (known_of x e ks) in
-    one (later_passes ours policy out ks x e due (vet_all es) a some keys isPlus (T_right (eqb x.polarity 0) (external_expr plus e) u) h)
+    one (later_passes ours policy out ks x e due (vet_all es) a some keys is_plus (T_right (eqb x.polarity 0) (external_expr plus e) u) h)
     (subst (λ (k : Known). Accepted ours out (placed (due + size) xs (vet_all es)) (ks ++ (k ∷ [])) (vet_all es) ls) (vet_known x due size e ks)
     (all_pass ours policy out rest (omega arith) (ap (λ (k : Known). k.declared) (get_or-append ks (known_of x e ks ∷ []) unknown 0 some) ∙ keys)
     (T_right (eqb x.polarity 0 && external_expr plus e) (all_plus xs es) t) (due + size) (next_part out due (vet e) (vet_all es) h)))
@@ -95,9 +95,9 @@ first_passes : (ours : ℕ) (policy out : List ℕ) (xs : List Entry) (es : List
 unfolding keys_listed placed vet_later known_of polarity_of
 first_passes ours policy out [] es ls none k t due h = none
 first_passes ours policy out (x ∷ xs) (e ∷ es) ls (one a rest) k t due h =
-    let isMinus : x.polarity ≡ 1 = eqb-true x.polarity 1 (true_T _ (T_right (eqb x.name 0) (eqb x.polarity 1) k)) in
+    let is_minus : x.polarity ≡ 1 = eqb-true x.polarity 1 (true_T _ (T_right (eqb x.name 0) (eqb x.polarity 1) k)) in
     one (record { parses = ap (parse (scope_of ours [])) (entry_part out x due e (vet_all es) h ∙ sym ((parse_iff (scope_of ours []) (entry_words policy x) e).0 a.parses).0) ∙ a.parses; has = a.has; closed = a.closed })
-    (all_pass ours policy out rest (omega arith) (ap polarity_of isMinus) (later_plus x xs e es k t) _ (next_part out due e (vet_all es) h))
+    (all_pass ours policy out rest (omega arith) (ap polarity_of is_minus) (later_plus x xs e es k t) _ (next_part out due e (vet_all es) h))
 first_passes ours policy out (x ∷ xs) [] ls x6 k t due h = elim x6 [ ]
 
 -- "The resulting program .. satisfies our polarity discipline": it passes 1 to 7

@@ -29,7 +29,7 @@ check_query ours ks query = elim (leb 1 (length query) && leb (length query) 102
 unfoldable pub verdict_of : Bool → Bool → Verdict
 verdict_of true true = exact
 verdict_of true false = lower
-verdict_of false hasMinus = upper
+verdict_of false has_minus = upper
 
 -- a query after these definitions
 unfoldable pub check_after : ℕ → List Expr → List Known → List ℕ → Checked

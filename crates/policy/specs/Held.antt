@@ -1,18 +1,18 @@
 -- What the terms, slots and guards that the code holds are.
 use Rattle.policy.specs.Terms.{Term, atom, var}
 use Rattle.policy.specs.Syntax.{Slot, old, new, Body, head, draw, same, different, absent}
-use Rattle.policy.specs.declared.Term as Held-term
+use Rattle.policy.specs.declared.Term as HeldTerm
 use Rattle.policy.specs.declared.Term.TheVariants.{Atom, Variable}
-use Rattle.policy.specs.declared.Slot as Held-slot
+use Rattle.policy.specs.declared.Slot as HeldSlot
 use Rattle.policy.specs.declared.Slot.TheVariants.{Old, New}
-use Rattle.policy.specs.declared.Guard as Held-guard
+use Rattle.policy.specs.declared.Guard as HeldGuard
 use Rattle.policy.specs.declared.Guard.TheVariants.{Draw, Same, Different, Absent}
 
-unfoldable pub term_is : Held-term.Term → Term
+unfoldable pub term_is : HeldTerm.Term → Term
 term_is (Atom a) = atom a
 term_is (Variable i) = var i
 
-unfoldable pub slot_is : Held-slot.Slot → Slot
+unfoldable pub slot_is : HeldSlot.Slot → Slot
 unfolding term_is
 slot_is (Old t) = old (term_is t)
 slot_is New = new
@@ -22,7 +22,7 @@ pub data Opening : Type 0 where
   draw_opens absent_opens : Opening
   same_opens different_opens : Term → Term → Opening
 
-unfoldable pub guard_is : Held-guard.Guard → Opening
+unfoldable pub guard_is : HeldGuard.Guard → Opening
 unfolding term_is
 guard_is Draw = draw_opens
 guard_is (Same x y) = same_opens (term_is x) (term_is y)

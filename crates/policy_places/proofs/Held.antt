@@ -9,11 +9,11 @@ use Rattle.policy.specs.Words.{term_words, slot_words, guard_count, expr_words, 
 use Rattle.policy.specs.Held.{term_is, slot_is, guard_is, opens}
 use Rattle.policy_places.specs.Places.{At, SomeGuard, IsTerm, IsSlot, IsGuard}
 use Rattle.policy_places.proofs.Places.{at_word, at_next, at_front, at_long, body_some, two_terms}
-use Rattle.policy.specs.declared.Term as Held-term
+use Rattle.policy.specs.declared.Term as HeldTerm
 use Rattle.policy.specs.declared.Term.TheVariants.{Atom, Variable}
-use Rattle.policy.specs.declared.Slot as Held-slot
+use Rattle.policy.specs.declared.Slot as HeldSlot
 use Rattle.policy.specs.declared.Slot.TheVariants.{Old, New}
-use Rattle.policy.specs.declared.Guard as Held-guard
+use Rattle.policy.specs.declared.Guard as HeldGuard
 use Rattle.policy.specs.declared.Guard.TheVariants.{Draw, Same, Different, Absent}
 
 module _ {ws : List ℕ} {at : ℕ} where
@@ -47,7 +47,7 @@ module _ {ws : List ℕ} {at : ℕ} where
       go n (old t) p h = absurd (omega (arith, old_tag t (slot_words n p) h))
       go n new p h = refl
 
-  pub is_old : (get_or ws at 0 ≡ 2 → ⊥) → (x : Held-term.Term) → IsTerm ws at x → IsSlot ws at (Old x)
+  pub is_old : (get_or ws at 0 ≡ 2 → ⊥) → (x : HeldTerm.Term) → IsTerm ws at x → IsSlot ws at (Old x)
   unfolding slot_words slot_is
   is_old z x i = record { is = λ n s p h. go n s p h }
     where
@@ -55,10 +55,10 @@ module _ {ws : List ℕ} {at : ℕ} where
       go n (old t) p h = ap old (i.is t (at_front (term_words t) (slot_words n p) h))
       go n new p h = absurd (z (at_word h))
 
-  pub slot_told : {s t : Held-slot.Slot} → IsSlot ws at s → s ≡ t → IsSlot ws at t
+  pub slot_told : {s t : HeldSlot.Slot} → IsSlot ws at s → s ≡ t → IsSlot ws at t
   slot_told i e = subst (IsSlot ws at) e i
 
-  pub guard_told : {g h : Held-guard.Guard} → IsGuard ws at g → g ≡ h → IsGuard ws at h
+  pub guard_told : {g h : HeldGuard.Guard} → IsGuard ws at g → g ≡ h → IsGuard ws at h
   guard_told i e = subst (IsGuard ws at) e i
 
   pub guard_inside : SomeGuard ws at → at < length ws
@@ -98,7 +98,7 @@ module _ {ws : List ℕ} {at : ℕ} where
       go n (different x y b) z h = absurd (omega (arith, at_word h))
       go n (absent r e b) z h = refl
 
-  module _ {x y : Held-term.Term} (first : IsTerm ws (at + 1) x) (second : IsTerm ws (at + 3) y) where
+  module _ {x y : HeldTerm.Term} (first : IsTerm ws (at + 1) x) (second : IsTerm ws (at + 3) y) where
     pub is_same_lem : get_or ws at 0 ≡ 2 → IsGuard ws at (Same x y)
     unfolding expr_words guard_count guard_is opens
     is_same_lem t = record { is = λ n b z h. go n b z h }

@@ -21,8 +21,8 @@ use Rattle.policy.proofs.LeafDecoding.{leaf_coded, no_node}
 use Rattle.policy.proofs.Decoding.{parse_words, parse_fits}
 use Rattle.policy.specs.Held.{term_is, Opening, draw_opens, absent_opens, same_opens, different_opens, guard_is, opens}
 use Rattle.policy_places.specs.Places.{At, pattern_words, StandsRow, StandsPattern, StandsLeaf, Stands, StandsBody, StandsTwo, StandsDraw, StandsAbsent, SomeRow, SomePattern, IsGuard}
-use Rattle.policy.specs.declared.Term as Held-term
-use Rattle.policy.specs.declared.Guard as Held-guard
+use Rattle.policy.specs.declared.Term as HeldTerm
+use Rattle.policy.specs.declared.Guard as HeldGuard
 use Rattle.policy.specs.declared.Guard.TheVariants.{Draw, Same, Different, Absent}
 
 -- ---- words one after the other
@@ -269,18 +269,18 @@ module _ {scope : Scope} {n : ℕ} {ws : List ℕ} {at left : ℕ} {b : Body} (P
     some : 1 ≤ guard_count b
     some = let c = s.count in let h : (guard_count b ≡ 0 → ⊥) = λ e. z (sym c ∙ e) in omega arith
 
-    on_guard : (held : Held-guard.Guard) → IsGuard ws at held → Begun P (guard_is held) → P b
+    on_guard : (held : HeldGuard.Guard) → IsGuard ws at held → Begun P (guard_is held) → P b
     on_guard held i g = by_opening P b some (subst (Begun P) (i.is n b some s.words) g)
 
     pub on_draw : IsGuard ws at Draw → ((e : Expr) (p : List Slot) (c : Body) → P (draw e p c)) → P b
     unfolding Begun guard_is
     on_draw i g = on_guard Draw i g
 
-    pub on_same : (x y : Held-term.Term) → IsGuard ws at (Same x y) → ((c : Body) → P (same (term_is x) (term_is y) c)) → P b
+    pub on_same : (x y : HeldTerm.Term) → IsGuard ws at (Same x y) → ((c : Body) → P (same (term_is x) (term_is y) c)) → P b
     unfolding Begun guard_is
     on_same x y i g = on_guard (Same x y) i g
 
-    pub on_different : (x y : Held-term.Term) → IsGuard ws at (Different x y) → ((c : Body) → P (different (term_is x) (term_is y) c)) → P b
+    pub on_different : (x y : HeldTerm.Term) → IsGuard ws at (Different x y) → ((c : Body) → P (different (term_is x) (term_is y) c)) → P b
     unfolding Begun guard_is
     on_different x y i g = on_guard (Different x y) i g
 

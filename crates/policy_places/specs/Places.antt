@@ -7,9 +7,9 @@ use Rattle.policy.specs.Syntax.{Term, Slot, Expr, Body}
 use Rattle.policy.specs.Words.{term_words, each, term_row_words, slot_words, fresh, guard_count, expr_words, body_words}
 use Rattle.policy.specs.WellFormed.{FitRow, FitRows, FitPattern, Fit, FitBody}
 use Rattle.policy.specs.Held.{term_is, slot_is, guard_is, opens}
-use Rattle.policy.specs.declared.Term as Held-term
-use Rattle.policy.specs.declared.Slot as Held-slot
-use Rattle.policy.specs.declared.Guard as Held-guard
+use Rattle.policy.specs.declared.Term as HeldTerm
+use Rattle.policy.specs.declared.Slot as HeldSlot
+use Rattle.policy.specs.declared.Guard as HeldGuard
 
 -- these words stand there
 pub record At (ws : List ℕ) (at : ℕ) (u : List ℕ) : Type 0 where
@@ -144,11 +144,11 @@ pub record PastBody (ws : List ℕ) (at left r : ℕ) : Type 0 where
 
 -- ---- the term, slot or guard that stands there is the one held
 
-pub record IsTerm (ws : List ℕ) (at : ℕ) (held : Held-term.Term) : Type 0 where
+pub record IsTerm (ws : List ℕ) (at : ℕ) (held : HeldTerm.Term) : Type 0 where
   pub is : (t : Term) → At ws at (term_words t) → term_is held ≡ t
 
-pub record IsSlot (ws : List ℕ) (at : ℕ) (held : Held-slot.Slot) : Type 0 where
+pub record IsSlot (ws : List ℕ) (at : ℕ) (held : HeldSlot.Slot) : Type 0 where
   pub is : (n : ℕ) (s : Slot) (p : List Slot) → At ws at (slot_words n (s ∷ p)) → slot_is held ≡ s
 
-pub record IsGuard (ws : List ℕ) (at : ℕ) (held : Held-guard.Guard) : Type 0 where
+pub record IsGuard (ws : List ℕ) (at : ℕ) (held : HeldGuard.Guard) : Type 0 where
   pub is : (n : ℕ) (b : Body) → 1 ≤ guard_count b → At ws at (body_words b n) → guard_is held ≡ opens b

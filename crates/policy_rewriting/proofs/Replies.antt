@@ -14,7 +14,7 @@ use Rattle.policy.specs.Definitions as Definitions
 use Rattle.policy.specs.External.{is_external, output, Rewriting, rewritten, refused, rewrite, rewrite_into, area_after}
 use Rattle.check_polarity.specs.Earlier.{earlier_is}
 use Rattle.judging.specs.Reply.{JudgedAs}
-use Rattle.judging.specs.declared.PolicyJudgement.TheVariants as policyJudgement
+use Rattle.judging.specs.declared.PolicyJudgement.TheVariants as policy_judgement
 use Rattle.judging.specs.declared.PolicyJudged.{PolicyJudged}
 use Rattle.judging.proofs.JudgeAnswers.{policy_passes, policy_refuses}
 use Rattle.policy_rewriting.specs.Output.{Passing, MeasuredAs, SayWords, rewritten_for, RepliedAs, SayReply}
@@ -100,16 +100,16 @@ module _ (policy area : List ℕ) (g : Passing policy) where
           go Broken d = never (measured w e).0 d
 
 -- passed 20 and 1 to 7
-pub policy_passing : (ours : ℕ) {policy : List ℕ} (r : PolicyJudged) → JudgedAs ours (check_policy ours policy) r → r.judgement ≡ policyJudgement.Passed → Passing policy
+pub policy_passing : (ours : ℕ) {policy : List ℕ} (r : PolicyJudged) → JudgedAs ours (check_policy ours policy) r → r.judgement ≡ policy_judgement.Passed → Passing policy
 policy_passing ours {policy} r h e = let g = policy_passes ours policy r h e in record { ours = ours; entries = g.entries; exprs = g.exprs; known = (earlier_is r.earlier).known; passes = g.passes }
 
-pub passed_replied : (ours : ℕ) {policy area : List ℕ} (j : PolicyJudged) {r : Rewritten} {after : List ℕ} → JudgedAs ours (check_policy ours policy) j → j.judgement ≡ policyJudgement.Passed →
+pub passed_replied : (ours : ℕ) {policy area : List ℕ} (j : PolicyJudged) {r : Rewritten} {after : List ℕ} → JudgedAs ours (check_policy ours policy) j → j.judgement ≡ policy_judgement.Passed →
     SayReply policy area r after → RepliedAs ours policy area r after
 unfolding policy_passing
 passed_replied ours j h e s = s.says (policy_passing ours j h e)
 
 -- refused with one of them
-pub refusal_passed_on : (ours : ℕ) (policy area : List ℕ) (r : PolicyJudged) {n part : ℕ} → JudgedAs ours (check_policy ours policy) r → r.judgement ≡ policyJudgement.Refused n part →
+pub refusal_passed_on : (ours : ℕ) (policy area : List ℕ) (r : PolicyJudged) {n part : ℕ} → JudgedAs ours (check_policy ours policy) r → r.judgement ≡ policy_judgement.Refused n part →
     RepliedAs ours policy area (reply.Refused n part) area
 unfolding rewritten_for area_after
 refusal_passed_on ours policy area r {n} {part} h e =

@@ -15,7 +15,7 @@ use Rattle.policy.specs.Part as Part
 use Rattle.policy_table.specs.Entries.{entry_place, entries_from, table_is}
 use Rattle.policy_table.specs.Spans.{part_span_is}
 use Rattle.policy_table.specs.declared.TableRead.{TableRead}
-use Rattle.policy_table.specs.declared.TableRead.TheVariants as tableRead
+use Rattle.policy_table.specs.declared.TableRead.TheVariants as table_read
 use Rattle.policy_table.specs.declared.parts.PartSpan as Held
 use Rattle.policy_table.specs.declared.parts.PartSpan.TheVariants as span
 use Rattle.policy.proofs.Basics.{impossible}
@@ -146,13 +146,13 @@ policy_part policy query number start size e =
     ap (λ (n : ℕ). take n (drop start policy)) (let m : start + size - start ≡ size = omega arith in m) ∙ ap (words_at policy query) e
 
 -- a table in hand
-pub table_refused : (policy : List ℕ) (r : TableRead) (n : ℕ) → table_is policy r ≡ read_table policy → r ≡ tableRead.Refused n → refused n ≡ read_table policy
+pub table_refused : (policy : List ℕ) (r : TableRead) (n : ℕ) → table_is policy r ≡ read_table policy → r ≡ table_read.Refused n → refused n ≡ read_table policy
 unfolding table_is
 table_refused policy r n e is = ap (table_is policy) (sym is) ∙ e
 
-pub table_read : (policy : List ℕ) (r : TableRead) (n : ℕ) → table_is policy r ≡ read_table policy → r ≡ tableRead.Sound n → table (entries_from n policy 2) ≡ read_table policy
+pub table_got : (policy : List ℕ) (r : TableRead) (n : ℕ) → table_is policy r ≡ read_table policy → r ≡ table_read.Sound n → table (entries_from n policy 2) ≡ read_table policy
 unfolding table_is
-table_read policy r n e is = ap (table_is policy) (sym is) ∙ e
+table_got policy r n e is = ap (table_is policy) (sym is) ∙ e
 
 -- a span in hand
 pub span_held : (p : Part.PartSpan) (r : Held.PartSpan) (start size : ℕ) → part_span_is r ≡ p → r ≡ span.InPolicy start size → in_policy start size ≡ p

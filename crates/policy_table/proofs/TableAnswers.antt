@@ -13,7 +13,7 @@ use Rattle.policy.specs.Format.{is_format, format_of}
 use Rattle.policy.specs.Table.{Entry, entry_at, entry_words, Table, table, refused, named, sound_entry, push_entry, entries, sound_header, read_table}
 use Rattle.policy.proofs.SoundTable.{header_of_lem, sound_of}
 use Rattle.policy_table.specs.Entries.{entry_place, entries_from, entries_before, Polarized, table_is}
-use Rattle.policy_table.specs.declared.TableRead.TheVariants as tableRead
+use Rattle.policy_table.specs.declared.TableRead.TheVariants as table_read
 
 -- the header
 module _ (p : List ℕ) where
@@ -99,7 +99,7 @@ pub record Reading (p : List ℕ) (i due : ℕ) : Type 0 where
   pub within : due ≤ length p
   pub few : i ≤ get_or p 1 0
 
-pub unsound_header_refused : (p : List ℕ) → sound_header p ≡ false → table_is p (tableRead.Refused bad_header) ≡ read_table p
+pub unsound_header_refused : (p : List ℕ) → sound_header p ≡ false → table_is p (table_read.Refused bad_header) ≡ read_table p
 unfolding table_is read_table
 unsound_header_refused p e = sym (ap (λ b. elim b as (λ c. Table) [ true ↦ entries (get_or p 1 0) p 2 (2 + 4 * get_or p 1 0) [] | false ↦ refused bad_header ]) e)
 
@@ -130,7 +130,7 @@ module _ (p : List ℕ) (i due : ℕ) (r : Reading p i due) (more : i < get_or p
         | false ↦ refused bad_table
       ])) e)
 
-  pub unsound_entry_refused : sound_entry p due (entries_before p i) (entry_at p (entry_place i)) ≡ false → table_is p (tableRead.Refused bad_table) ≡ read_table p
+  pub unsound_entry_refused : sound_entry p due (entries_before p i) (entry_at p (entry_place i)) ≡ false → table_is p (table_read.Refused bad_table) ≡ read_table p
   unfolding table_is next
   unsound_entry_refused e = sym (one_entry false e ∙ back_refused (entries_before p i) bad_table)
 
@@ -155,13 +155,13 @@ module _ (p : List ℕ) (i due : ℕ) (r : Reading p i due) (done : get_or p 1 0
       let f : get_or p 1 0 - i ≡ 0 = omega arith in
       r.rest ∙ (ap (λ n. put_back (entries_before p i) (entries n p (entry_place i) due (entries_before p i))) f ∙ ap (λ b. put_back (entries_before p i) (elim b as (λ c. Table) [ true ↦ table [] | false ↦ refused bad_table ])) e)
 
-  pub table_ends : due ≡ length p → table_is p (tableRead.Sound (get_or p 1 0)) ≡ read_table p
+  pub table_ends : due ≡ length p → table_is p (table_read.Sound (get_or p 1 0)) ≡ read_table p
   unfolding table_is entries_from
   table_ends e =
       let f : i + 0 ≡ get_or p 1 0 = omega (arith, r.few) in
       sym (at_last true (eq-eqb due (length p) e) ∙ (back_table p i 0 ∙ ap (λ n. table (entries_from n p 2)) f))
 
-  pub table_left_over : (due ≡ length p → ⊥) → table_is p (tableRead.Refused bad_table) ≡ read_table p
+  pub table_left_over : (due ≡ length p → ⊥) → table_is p (table_read.Refused bad_table) ≡ read_table p
   unfolding table_is
   table_left_over e = sym (at_last false (ne_eqb due (length p) e) ∙ back_refused (entries_before p i) bad_table)
 

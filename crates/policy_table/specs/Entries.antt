@@ -4,7 +4,7 @@ use Rattle.rows.specs.Name.{polarity_of}
 use Rattle.policy.specs.OwnKey.{Declared}
 use Rattle.policy.specs.Table.{Entry, entry_at, Table, table, refused}
 use Rattle.policy_table.specs.declared.TableRead.{TableRead}
-use Rattle.policy_table.specs.declared.TableRead.TheVariants as tableRead
+use Rattle.policy_table.specs.declared.TableRead.TheVariants as table_read
 
 -- the word at which entry i begins
 abbrev pub entry_place : ℕ → ℕ
@@ -36,5 +36,5 @@ declared_in policy n = map declared_as (entries_from n policy 2)
 
 unfoldable pub table_is : List ℕ → TableRead → Table
 unfolding entries_from
-table_is policy (tableRead.Sound n) = table (entries_from n policy 2)
-table_is policy (tableRead.Refused m) = refused m
+table_is policy (table_read.Sound n) = table (entries_from n policy 2)
+table_is policy (table_read.Refused m) = refused m

@@ -35,8 +35,8 @@ use Rattle.read_expressions.proofs.Exprs.{done_means, done_filled, some_room}
 use Rattle.read_values.specs.declared.Read.{Read}
 use Rattle.read_values.specs.declared.Read.TheVariants.{Done, Refused}
 use Rattle.read_values.specs.declared.Tested as Tested
-use Rattle.policy.specs.declared.Term as Held-term
-use Rattle.policy.specs.declared.Guard as Held-guard
+use Rattle.policy.specs.declared.Term as HeldTerm
+use Rattle.policy.specs.declared.Guard as HeldGuard
 use Rattle.policy.specs.declared.Guard.TheVariants.{Draw, Same, Different, Absent}
 
 -- ---- a step that is one of two
@@ -57,18 +57,18 @@ turned false m n k = refl
 -- ---- a comparison
 
 -- the guard is one of the two comparisons, as the `match` on it tells
-abbrev pub Compares : Held-guard.Guard → Type 0
-Compares g = ((x : Held-term.Term) × (y : Held-term.Term) × (g ≡ Same x y)) ⊎ ((x : Held-term.Term) × (y : Held-term.Term) × (g ≡ Different x y))
+abbrev pub Compares : HeldGuard.Guard → Type 0
+Compares g = ((x : HeldTerm.Term) × (y : HeldTerm.Term) × (g ≡ Same x y)) ⊎ ((x : HeldTerm.Term) × (y : HeldTerm.Term) × (g ≡ Different x y))
 
 -- the guards after a comparison, and what is gathered: it goes by whether the comparison passes
-record Compared (f : From) (ws : List ℕ) (at left count : ℕ) (vs : Values) (g : Held-guard.Guard) (b : Body) : Type 0 where
+record Compared (f : From) (ws : List ℕ) (at left count : ℕ) (vs : Values) (g : HeldGuard.Guard) (b : Body) : Type 0 where
   pub rest : Body
   pub here : StandsBody (scope_in f) count ws (at + 5) (left - 1) rest
   pub room : body_room rest ≡ body_room b
   pub gathers : (found : List Row) (k : ℕ) → gathering f b vs found k ≡ either (passing vs g) (gathering f rest vs found) (λ j. done found j) k
 
 module _ (f : From) {ws : List ℕ} {at left count : ℕ} (vs : Values) (z : left ≡ 0 → ⊥) where
-  compared_same : {x y : Held-term.Term} → IsGuard ws at (Same x y) → {b : Body} → StandsBody (scope_in f) count ws at left b → Compared f ws at left count vs (Same x y) b
+  compared_same : {x y : HeldTerm.Term} → IsGuard ws at (Same x y) → {b : Body} → StandsBody (scope_in f) count ws at left b → Compared f ws at left count vs (Same x y) b
   unfolding read room_of
   compared_same {x} {y} i s =
       on_same (λ c. StandsBody (scope_in f) count ws at left c → Compared f ws at left count vs (Same x y) c) s z x y i
@@ -80,7 +80,7 @@ module _ (f : From) {ws : List ℕ} {at left count : ℕ} (vs : Values) (z : lef
             ap (λ (o : Bool). either o (gathering f c vs found) (λ j. done found j) k) (same_passes vs refl refl refl);
       }) s
 
-  compared_different : {x y : Held-term.Term} → IsGuard ws at (Different x y) → {b : Body} → StandsBody (scope_in f) count ws at left b → Compared f ws at left count vs (Different x y) b
+  compared_different : {x y : HeldTerm.Term} → IsGuard ws at (Different x y) → {b : Body} → StandsBody (scope_in f) count ws at left b → Compared f ws at left count vs (Different x y) b
   unfolding read room_of
   compared_different {x} {y} i s =
       on_different (λ c. StandsBody (scope_in f) count ws at left c → Compared f ws at left count vs (Different x y) c) s z x y i
@@ -93,13 +93,13 @@ module _ (f : From) {ws : List ℕ} {at left count : ℕ} (vs : Values) (z : lef
             ∙ ap (λ (o : Bool). either o (gathering f c vs found) (λ j. done found j) k) (different_passes vs refl refl refl);
       }) s
 
-  compared_as_same : {g : Held-guard.Guard} {x y : Held-term.Term} → g ≡ Same x y → IsGuard ws at g → {b : Body} → StandsBody (scope_in f) count ws at left b → Compared f ws at left count vs g b
-  compared_as_same {g} {x} {y} e i {b} s = subst (λ (h : Held-guard.Guard). Compared f ws at left count vs h b) (sym e) (compared_same {x = x} {y = y} (subst (λ (h : Held-guard.Guard). IsGuard ws at h) e i) s)
+  compared_as_same : {g : HeldGuard.Guard} {x y : HeldTerm.Term} → g ≡ Same x y → IsGuard ws at g → {b : Body} → StandsBody (scope_in f) count ws at left b → Compared f ws at left count vs g b
+  compared_as_same {g} {x} {y} e i {b} s = subst (λ (h : HeldGuard.Guard). Compared f ws at left count vs h b) (sym e) (compared_same {x = x} {y = y} (subst (λ (h : HeldGuard.Guard). IsGuard ws at h) e i) s)
 
-  compared_as_different : {g : Held-guard.Guard} {x y : Held-term.Term} → g ≡ Different x y → IsGuard ws at g → {b : Body} → StandsBody (scope_in f) count ws at left b → Compared f ws at left count vs g b
-  compared_as_different {g} {x} {y} e i {b} s = subst (λ (h : Held-guard.Guard). Compared f ws at left count vs h b) (sym e) (compared_different {x = x} {y = y} (subst (λ (h : Held-guard.Guard). IsGuard ws at h) e i) s)
+  compared_as_different : {g : HeldGuard.Guard} {x y : HeldTerm.Term} → g ≡ Different x y → IsGuard ws at g → {b : Body} → StandsBody (scope_in f) count ws at left b → Compared f ws at left count vs g b
+  compared_as_different {g} {x} {y} e i {b} s = subst (λ (h : HeldGuard.Guard). Compared f ws at left count vs h b) (sym e) (compared_different {x = x} {y = y} (subst (λ (h : HeldGuard.Guard). IsGuard ws at h) e i) s)
 
-  compared : {g : Held-guard.Guard} → Compares g → IsGuard ws at g → {b : Body} → StandsBody (scope_in f) count ws at left b → Compared f ws at left count vs g b
+  compared : {g : HeldGuard.Guard} → Compares g → IsGuard ws at g → {b : Body} → StandsBody (scope_in f) count ws at left b → Compared f ws at left count vs g b
   compared (inl (x, y, e)) i s = compared_as_same e i s
   compared (inr (x, y, e)) i s = compared_as_different e i s
 
@@ -128,7 +128,7 @@ module _ {f : From} {ws : List ℕ} {at left : ℕ} {values : List ℕ} {count :
         on_absent (λ b. StandsBody (scope_in f) count ws at left b → free + 642 * body_room b ≤ length area → AskAbsent f ws (at + 1) (left - 1) values count area free) q.here z i
         (λ r e b s h. record { ask = q.ask; r = r; e = e; b = b; here = in_absent s; room = omega arith; rest = omega arith }) q.here q.room
 
-    pub ask_compared : {g : Held-guard.Guard} → Compares g → IsGuard ws at g → AskBody f ws (at + 5) (left - 1) values count area free
+    pub ask_compared : {g : HeldGuard.Guard} → Compares g → IsGuard ws at g → AskBody f ws (at + 5) (left - 1) values count area free
     ask_compared t i =
         let c = compared f (take count values) z t i q.here in
         let e = c.room in
@@ -173,7 +173,7 @@ module _ {f : From} {ws : List ℕ} {at left : ℕ} {values : List ℕ} {count k
       };
     }
 
-    pub say_passes : {g : Held-guard.Guard} → Compares g → IsGuard ws at g → passing (take count values) g ≡ true →
+    pub say_passes : {g : HeldGuard.Guard} → Compares g → IsGuard ws at g → passing (take count values) g ≡ true →
         SayBody f ws (at + 5) (left - 1) values count k free entry r later area → SayBody f ws at left values count k free entry r later area
     say_passes {g} t i e s = record {
       unchanged = s.unchanged;
@@ -189,7 +189,7 @@ module _ {f : From} {ws : List ℕ} {at left : ℕ} {values : List ℕ} {count k
     }
 
 -- a comparison that fails: the rows found so far are left as they are
-pub say_fails : {f : From} {ws : List ℕ} {at left : ℕ} {values : List ℕ} {count k free : ℕ} {area : List ℕ} → (left ≡ 0 → ⊥) → Gathering area → {g : Held-guard.Guard} → Compares g → IsGuard ws at g →
+pub say_fails : {f : From} {ws : List ℕ} {at left : ℕ} {values : List ℕ} {count k free : ℕ} {area : List ℕ} → (left ≡ 0 → ⊥) → Gathering area → {g : HeldGuard.Guard} → Compares g → IsGuard ws at g →
     passing (take count values) g ≡ false → SayBody f ws at left values count k free area (Done k) values area
 unfolding IfDone rows_read_is
 say_fails {f} {values} {count} {k} {area} z gathered {g} t i e = record {

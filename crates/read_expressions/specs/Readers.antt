@@ -37,8 +37,8 @@ pub record AskExpr (f : From) (ws : List ℕ) (at : ℕ) (values : List ℕ) (co
   pub here : Stands (scope_in f) count ws at e
   pub room : set_room * room_of e ≤ length area
 
-pub record SayExpr (f : From) (ws : List ℕ) (at : ℕ) (values : List ℕ) (count k : ℕ) (r : Read) (valuesNow area : List ℕ) : Type 0 where
-  pub unchanged : Unchanged count values valuesNow
+pub record SayExpr (f : From) (ws : List ℕ) (at : ℕ) (values : List ℕ) (count k : ℕ) (r : Read) (values_now area : List ℕ) : Type 0 where
+  pub unchanged : Unchanged count values values_now
   pub filled : IfDone Filled r area
   pub means : Means f ws at count (take count values) k (set_read_is r area)
 
@@ -52,8 +52,8 @@ pub record AskHas (f : From) (ws : List ℕ) (at row : ℕ) (values : List ℕ) 
   pub ts : List Term
   pub tested : StandsRow count ws row ts
 
-pub record SayExprHas (f : From) (ws : List ℕ) (at row : ℕ) (values : List ℕ) (count k : ℕ) (r : Tested) (valuesNow : List ℕ) : Type 0 where
-  pub unchanged : Unchanged count values valuesNow
+pub record SayExprHas (f : From) (ws : List ℕ) (at row : ℕ) (values : List ℕ) (count k : ℕ) (r : Tested) (values_now : List ℕ) : Type 0 where
+  pub unchanged : Unchanged count values values_now
   pub means : MeansHas f ws at row count (take count values) k (tested_is r)
 
 -- ---- a union or a difference
@@ -71,8 +71,8 @@ pub record AskTwo (f : From) (ws : List ℕ) (at : ℕ) (values : List ℕ) (cou
   pub left : set_room * room_of x ≤ length area
   pub right : set_room + set_room * room_of y ≤ length area
 
-pub record SayTwo (f : From) (ws : List ℕ) (at : ℕ) (minus : Bool) (values : List ℕ) (count k : ℕ) (r : Read) (valuesNow area : List ℕ) : Type 0 where
-  pub unchanged : Unchanged count values valuesNow
+pub record SayTwo (f : From) (ws : List ℕ) (at : ℕ) (minus : Bool) (values : List ℕ) (count k : ℕ) (r : Read) (values_now area : List ℕ) : Type 0 where
+  pub unchanged : Unchanged count values values_now
   pub filled : IfDone Filled r area
   pub means : MeansTwo f ws at minus count (take count values) k (set_read_is r area)
 
@@ -134,8 +134,8 @@ pub record AskAbsent (f : From) (ws : List ℕ) (at left : ℕ) (values : List �
   pub rest : free + set_room * body_room b ≤ length area
 
 -- what all four say, M being what is gathered
-pub record SayGuards (M : Result (List Row) → Type 0) (values : List ℕ) (count free : ℕ) (entry : List ℕ) (r : Read) (valuesNow area : List ℕ) : Type 0 where
-  pub unchanged : Unchanged count values valuesNow
+pub record SayGuards (M : Result (List Row) → Type 0) (values : List ℕ) (count free : ℕ) (entry : List ℕ) (r : Read) (values_now area : List ℕ) : Type 0 where
+  pub unchanged : Unchanged count values values_now
   pub gathering : IfDone Gathering r area
   pub kept : Kept free entry area
   pub means : M (rows_read_is r area)

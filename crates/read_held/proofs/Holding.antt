@@ -15,7 +15,7 @@ use Rattle.rows.specs.Layout.{pieces}
 use Rattle.rows.proofs.Case.{Case, is_true, is_false, split, never}
 use Rattle.rows.proofs.Order.{row_order}
 use Rattle.rows.proofs.Ordered.{Ascending, keep_append, insert-∈, join_ascending}
-use Rattle.rows.proofs.Place.{gap_insert, getD-∈}
+use Rattle.rows.proofs.Place.{gap_insert, get_or-∈}
 use Rattle.rows.proofs.Joining.{join_longer, join_one_more, insert_shorter}
 use Rattle.rows.proofs.LayoutLaws.{length_pieces, piece_at}
 use Rattle.rows.proofs.Pieces.{pieces_take}
@@ -143,7 +143,7 @@ module _ (minute : ℕ) (rs : List ℕ) where
       rows_hold i e ∙ gap_insert row_before row_order [] xs (row_at rs i) (length xs) (record {
         order = omega arith;
         end = omega arith;
-        below = λ k h. above (get_or xs k []) (getD-∈ xs k [] h);
+        below = λ k h. above (get_or xs k []) (get_or-∈ xs k [] h);
         above = λ k h l. absurd (omega arith);
       })
       ∙ ends xs

@@ -9,7 +9,7 @@ use Rattle.rows.specs.Ordered.{◌∈◌, insert, join}
 use Rattle.rows.specs.Row.{Row, row_before}
 use Rattle.rows.specs.Layout.{rows_in, formed, set_in}
 use Rattle.row_words.specs.Values as held
-use Rattle.row_words.specs.declared.row.Row as Held-row
+use Rattle.row_words.specs.declared.row.Row as HeldRow
 use Rattle.rows.proofs.Case.{◌then◌, iff_refl, iff_sym, both_or}
 use Rattle.rows.proofs.Order.{row_order}
 use Rattle.rows.proofs.Ordered.{Ascending, insert-∈, insert_ascending, join_ascending, ascending_unique}
@@ -88,7 +88,7 @@ module _ {ws : List ℕ} {at form : ℕ} {vs : Values} {area : List ℕ} {next i
   pub filling_row : i < get_or ws at 0 → SomeRow ws next
   filling_row h = record { n = iv.n; ts = _; here = (rows_next (omega arith) iv.left).row }
 
-  pub filling_next : {r : Held-row.Row} {now : List ℕ} {after : ℕ} → i < get_or ws at 0 → SayRow ws next vs r → Listed area (held.row_is r) now → PastRow ws next after → Filling ws at form vs now after (i + 1)
+  pub filling_next : {r : HeldRow.Row} {now : List ℕ} {after : ℕ} → i < get_or ws at 0 → SayRow ws next vs r → Listed area (held.row_is r) now → PastRow ws next after → Filling ws at form vs now after (i + 1)
   unfolding join
   filling_next {r} {now} {after} h s l q =
       let e : get_or ws at 0 - i - 1 ≡ get_or ws at 0 - (i + 1) = omega arith in

@@ -16,7 +16,7 @@ use Rattle.policy.specs.Leaf.{Leaf, vetted}
 use Rattle.policy.specs.Syntax.{Term}
 use Rattle.policy.specs.Words.{term_words}
 use Rattle.policy.specs.Held.{term_is}
-use Rattle.policy.specs.declared.Term as Held-term
+use Rattle.policy.specs.declared.Term as HeldTerm
 use Rattle.meaning.specs.Values.{Values, value, row_of}
 use Rattle.meaning.specs.Reading.{Result, done, after, read_name, read_leaf}
 use Rattle.meaning.proofs.Steps.{either}
@@ -51,7 +51,7 @@ one_atom_lem : (key : ℕ) → row_is (record { width = 1; atoms = key ∷ 0 ∷
 unfolding row_is five_is row_in
 one_atom_lem key = refl
 
-pub looks_up : {known : ℕ} {defs ws : List ℕ} {at e : ℕ} (vs : Values) {x : Held-term.Term} {key : ℕ} {set : List ℕ} {r : Bool} → IsTerm ws (at + 1) x → key ≡ value vs (term_is x) →
+pub looks_up : {known : ℕ} {defs ws : List ℕ} {at e : ℕ} (vs : Values) {x : HeldTerm.Term} {key : ℕ} {set : List ℕ} {r : Bool} → IsTerm ws (at + 1) x → key ≡ value vs (term_is x) →
     e ≡ get_or ws (at + 5) 0 → SayDefinition known e defs set → r ≡ has (set_in set) (row_is (record { width = 1; atoms = key ∷ 0 ∷ 0 ∷ 0 ∷ [] })) → SayAmong known defs ws at vs r
 looks_up {known} {defs} {ws} {at} vs {x} {key} {set} {r} i v number s e = record {
   means = λ scope n t m o d g.

@@ -11,7 +11,7 @@ use lib.Seq.{get_or-drop, get_or-set_same, get_or-set_other, ext_get_or}
 use borrow.Author.Tests.{ltb-true, ltb-false}
 use Rattle.rows.specs.Ordered.{◌∈◌}
 use Rattle.rows.proofs.Case.{Case, is_true, is_false, split, never}
-use Rattle.rows.proofs.Place.{getD-∈, at-∈}
+use Rattle.rows.proofs.Place.{get_or-∈, at-∈}
 use Rattle.certificates.specs.Link.{Named}
 use Rattle.meaning.specs.Evidence.{named}
 use Rattle.read_links.specs.Reached.{names_in, name_in, SayFound, RoomFor, Adding, known, new, Added, Grows}
@@ -43,7 +43,7 @@ abbrev nobody : Named
 nobody = named 0 0
 
 pub name-∈ : (n : ℕ) (ws : List ℕ) (i : ℕ) → i < n → name_in ws i ∈ names_in n ws
-name-∈ n ws i h = subst (λ (x : Named). x ∈ names_in n ws) (names_at n ws i nobody h) (getD-∈ (names_in n ws) i nobody (omega (arith, names_length n ws)))
+name-∈ n ws i h = subst (λ (x : Named). x ∈ names_in n ws) (names_at n ws i nobody h) (get_or-∈ (names_in n ws) i nobody (omega (arith, names_length n ws)))
 
 pub ∈-name : (n : ℕ) (ws : List ℕ) (x : Named) → x ∈ names_in n ws → (i : ℕ) × (i < n) × (x ≡ name_in ws i)
 ∈-name n ws x m =

@@ -14,7 +14,7 @@ use Rattle.rows.specs.Records.{count_of, record_at, begins_before}
 use Rattle.rows.proofs.Case.{Case, is_true, is_false, split, never}
 use Rattle.rows.proofs.Order.{words_order}
 use Rattle.rows.proofs.Lists.{map-∈}
-use Rattle.rows.proofs.Place.{getD-∈, at-∈, ascending_at}
+use Rattle.rows.proofs.Place.{get_or-∈, at-∈, ascending_at}
 use Rattle.rows.proofs.Leading.{leading_stops, leading_past}
 use Rattle.rows.proofs.Fronts.{fronts_ascend}
 use Rattle.rows.proofs.Records.{records_length, record_at_lem, record_sound_at}
@@ -51,7 +51,7 @@ module _ (links : List ℕ) (sound : sound_links links ≡ true) where
   pub link_held : (i : ℕ) → i < count_of links → link_in links i ∈ links_of links
   unfolding links_said
   link_held i h =
-      let there : get_or (link_records links) i [] ∈ link_records links = getD-∈ (link_records links) i [] (omega (arith, records_length link_words links)) in
+      let there : get_or (link_records links) i [] ∈ link_records links = get_or-∈ (link_records links) i [] (omega (arith, records_length link_words links)) in
       (map-∈ link_of (link_records links) (link_in links i)).1 (get_or (link_records links) i [], there, ap link_of (sym (record_at_lem link_words links i h)))
 
   pub held_link : (l : Link) → l ∈ links_of links → (i : ℕ) × (i < count_of links) × (l ≡ link_in links i)

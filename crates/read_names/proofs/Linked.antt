@@ -13,7 +13,7 @@ use Rattle.rows.specs.Row.{Row, row_before}
 use Rattle.rows.specs.Name.{polarity_of}
 use Rattle.rows.specs.Layout.{row_in, five_at, rows_in, formed, set_in, written}
 use Rattle.row_words.specs.Values.{five_is, row_is}
-use Rattle.row_words.specs.declared.row.Row as Held-row
+use Rattle.row_words.specs.declared.row.Row as HeldRow
 use Rattle.rows.proofs.Case.{never, T_true, same_test, true_T, ◌then◌, iff_refl, iff_sym}
 use Rattle.rows.proofs.Order.{row_order}
 use Rattle.rows.proofs.Ordered.{Ascending, ascending_true, true_ascending, ascending_unique, insert-∈, insert_ascending, join-∈, join_ascending, lists_iff}
@@ -121,13 +121,13 @@ module _ {before : List ℕ} where
     }
 
 -- the row of a record, loaded
-pub record Loaded (rs : List ℕ) (i : ℕ) (r : Held-row.Row) : Type 0 where
+pub record Loaded (rs : List ℕ) (i : ℕ) (r : HeldRow.Row) : Type 0 where
   pub is : row_is r ≡ row_at rs i
   pub some : 1 ≤ r.width
   pub few : r.width ≤ 4
   pub wide : Width (row_is r)
 
-pub loaded : {rs : List ℕ} {count i : ℕ} → Records rs count → i < count → {r : Held-row.Row} → five_is r ≡ five_at rs (10 * i + 3) → Loaded rs i r
+pub loaded : {rs : List ℕ} {count i : ℕ} → Records rs count → i < count → {r : HeldRow.Row} → five_is r ≡ five_at rs (10 * i + 3) → Loaded rs i r
 unfolding five_is row_is
 loaded {rs} {i} records h {r} e =
     let five : five_is r ≡ five_at (record_in rs i) 3 = e ∙ sym (five_in rs i) in

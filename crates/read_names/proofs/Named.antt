@@ -12,7 +12,7 @@ use Rattle.rows.specs.Name.{Polarity, plus, minus, polarity_of, polarity_word}
 use Rattle.rows.specs.Sets.{RowSet, listing, has}
 use Rattle.rows.specs.Layout.{rows_in, formed, set_in}
 use Rattle.row_words.specs.Values.{row_is}
-use Rattle.row_words.specs.declared.row.Row as Held-row
+use Rattle.row_words.specs.declared.row.Row as HeldRow
 use Rattle.rows.proofs.LayoutLaws.{formed_listing}
 use Rattle.certificates.specs.Stores.{Stores, Held, held_in}
 use Rattle.policy.specs.Syntax.{Term}
@@ -31,7 +31,7 @@ use Rattle.policy_places.proofs.Places.{at_word, at_next, at_skip, at_front, at_
 use Rattle.read_values.proofs.Answers.{small_few, small_many}
 use Rattle.read_values.specs.declared.Read.TheVariants.{Done, Refused}
 use Rattle.read_values.specs.declared.Tested as Tested
-use Rattle.policy.specs.declared.Term as Held-term
+use Rattle.policy.specs.declared.Term as HeldTerm
 use Rattle.read_names.specs.declared.Lookup.{Lookup}
 use Rattle.read_names.specs.declared.Lookup.TheVariants.{Listed, TooMany}
 
@@ -106,7 +106,7 @@ module _ {ws : List ℕ} {at : ℕ} (some : SomeName ws at) where
   pub name_form : get_or ws (at + 3) 0 ≤ 1
   name_form = let n = name_here some.t some.m some.p some.words in omega (arith, n.polarity, polarity_small some.p)
 
-module _ {ws : List ℕ} {at : ℕ} (vs : Values) {x : Held-term.Term} {key : ℕ} (issuer : IsTerm ws at x) (is : key ≡ value vs (term_is x)) where
+module _ {ws : List ℕ} {at : ℕ} (vs : Values) {x : HeldTerm.Term} {key : ℕ} (issuer : IsTerm ws at x) (is : key ≡ value vs (term_is x)) where
   key_is_lem : {t : Term} {m : ℕ} {p : Polarity} → NameHere ws at t m p → value vs t ≡ key
   key_is_lem {t} h = sym (ap (value vs) (issuer.is t h.issuer)) ∙ sym is
 
@@ -175,7 +175,7 @@ module _ {ws : List ℕ} {at : ℕ} (vs : Values) {x : Held-term.Term} {key : �
         means = λ t n p w. ap (λ (z : RowSet). small z k) (held (name_here t n p w)) ∙ small_many (formed (get_or ws (at + 3) 0) rows) k (many_listed (says.many e));
       }
 
-    module _ {row k : ℕ} {z : Held-row.Row} (sought : SayRow ws row vs z) where
+    module _ {row k : ℕ} {z : HeldRow.Row} (sought : SayRow ws row vs z) where
       pub many_refused : {l : Lookup} → SayLookup rows (row_is z) l → l ≡ TooMany → SayNameHas (names_held evidence) ws at row vs k (Tested.TheVariants.Refused 13)
       unfolding tested_is LookedUp
       many_refused says e = record {

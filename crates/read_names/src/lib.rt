@@ -98,7 +98,7 @@ pub fn read_name(
     links: &[u32],
 ) -> Read
     requires { Bound values.now count × SomeName words.now at × (sound_store store.now ≡ true) × (sound_links links.now ≡ true) × (set_room ≤ length area.old) }
-    ensures { SayName (names_held (held_in minute (record { store = store.entry.now; links = links.now }))) words.now at (take count values.now) draws result area.new }
+    ensures { SayName (names_held (held_in minute (record { store = store.now; links = links.now }))) words.now at (take count values.now) draws result area.new }
 {
     let issuer = term_at(words, at);
     let key = value_of(values, count, issuer);
@@ -135,7 +135,7 @@ pub fn name_has(
     row: usize,
 ) -> Tested
     requires { Bound values.now count × SomeName words.now at × SomeRow words.now row × (sound_store store.now ≡ true) × (sound_links links.now ≡ true) × (set_room ≤ length area.old) }
-    ensures { SayNameHas (names_held (held_in minute (record { store = store.entry.now; links = links.now }))) words.now at row (take count values.now) draws result }
+    ensures { SayNameHas (names_held (held_in minute (record { store = store.now; links = links.now }))) words.now at row (take count values.now) draws result }
 {
     let issuer = term_at(words, at);
     let key = value_of(values, count, issuer);

@@ -12,7 +12,7 @@ use Rattle.rows.specs.Sets.{has}
 use Rattle.rows.specs.Layout.{rows_in, set_in}
 use Rattle.row_words.specs.Values as held
 use Rattle.sets.specs.Values.{inserted_for, after_insert}
-use Rattle.row_words.specs.declared.row.Row as Held-row
+use Rattle.row_words.specs.declared.row.Row as HeldRow
 use Rattle.sets.specs.declared.Inserted as Inserted
 use Rattle.sets.specs.declared.Inserted.TheVariants.{New, Known, Full}
 use Rattle.rows.proofs.Order.{row_order}
@@ -30,7 +30,7 @@ use Rattle.read_values.proofs.Answers.{stands_filled}
 use Rattle.read_steps.proofs.Areas.{kept_self, written_kept}
 use Rattle.read_values.specs.declared.Read.TheVariants.{Done, Refused}
 
-pub row_is_wide : {ws : List ℕ} {at : ℕ} {vs : Values} {r : Held-row.Row} → length r.atoms ≡ 4 → SayRow ws at vs r → Width (held.row_is r)
+pub row_is_wide : {ws : List ℕ} {at : ℕ} {vs : Values} {r : HeldRow.Row} → length r.atoms ≡ 4 → SayRow ws at vs r → Width (held.row_is r)
 row_is_wide {r} four s = let l = held_length r four s.few in let a = s.some in let b = s.few in record { some = omega arith; few = omega arith }
 
 -- ---- a row inserted into a sound set
@@ -87,7 +87,7 @@ within_many : (xs : List Row) (k : ℕ) → 128 < length xs → within xs k ≡ 
 unfolding within
 within_many xs k h = rw (lt-leb (length xs) 128 h, within)
 
-module _ {ws : List ℕ} {at : ℕ} {vs : Values} {k : ℕ} {entry : List ℕ} (g : Gathering entry) {r : Held-row.Row} (s : SayRow ws at vs r) {after : List ℕ} where
+module _ {ws : List ℕ} {at : ℕ} {vs : Values} {k : ℕ} {entry : List ℕ} (g : Gathering entry) {r : HeldRow.Row} (s : SayRow ws at vs r) {after : List ℕ} where
   pub head_listed : Listed entry (held.row_is r) after → SayHead ws at vs k entry (Done k) after
   unfolding IfDone rows_read_is
   head_listed l = record {
@@ -107,5 +107,5 @@ module _ {ws : List ℕ} {at : ℕ} {vs : Values} {k : ℕ} {entry : List ℕ} (
     kept = λ free. subst (Kept free entry) (sym n.stays) kept_self;
   }
 
-pub says_has : {ws : List ℕ} {at : ℕ} {vs : Values} {set : List ℕ} {r : Held-row.Row} {b : Bool} → SayRow ws at vs r → b ≡ has (set_in set) (held.row_is r) → SayHas ws at vs set b
+pub says_has : {ws : List ℕ} {at : ℕ} {vs : Values} {set : List ℕ} {r : HeldRow.Row} {b : Bool} → SayRow ws at vs r → b ≡ has (set_in set) (held.row_is r) → SayHas ws at vs set b
 says_has {set} s e = record { means = λ n ts h. ap (has (set_in set)) (sym (s.means n ts h)) ∙ sym e }

@@ -10,7 +10,7 @@ use Rattle.rows.specs.Ordered.{◌∈◌}
 use Rattle.rows.specs.Row.{Row, row_before}
 use Rattle.rows.specs.Layout.{row_in, five_at, rows_in}
 use Rattle.rows.proofs.Order.{row_order}
-use Rattle.rows.proofs.Place.{getD-∈, insert_known}
+use Rattle.rows.proofs.Place.{get_or-∈, insert_known}
 use Rattle.rows.proofs.LayoutLaws.{rows_count, row_at}
 use Rattle.row_words.proofs.RowLaws.{row_at_length, row_at_atom, Agree, agree_start, agree_next, agree_end}
 use Rattle.sets.proofs.SetWords.{size, sound_ascending}
@@ -81,7 +81,7 @@ module _ {ws : List ℕ} {at : ℕ} {vs : Values} {set : List ℕ} where
       record { means = λ n ts st. let w = s.means n ts st in (λ h. (omega arith, w.0 h ∙ here), λ l. w.1 (l.1 ∙ sym here)) }
 
 last_in : {x : Row} (xs : List Row) → IsLast x xs → x ∈ xs
-last_in xs l = let some = l.0 in subst (λ (y : Row). y ∈ xs) (sym l.1) (getD-∈ xs (length xs - 1) [] (omega arith))
+last_in xs l = let some = l.0 in subst (λ (y : Row). y ∈ xs) (sym l.1) (get_or-∈ xs (length xs - 1) [] (omega arith))
 
 -- to gather it again changes nothing
 pub head_known : {ws : List ℕ} {at : ℕ} {vs : Values} {k : ℕ} {entry : List ℕ} {r : Bool} → Gathering entry → SayLast ws at vs entry r → r ≡ true → SayHead ws at vs k entry (Done k) entry

@@ -18,7 +18,7 @@ use Rattle.row_words.proofs.RowLaws.{row_at_length, row_at_atom}
 use Rattle.policy.specs.Syntax.{Term, Slot, old, new}
 use Rattle.policy.specs.Words.{term_words, slot_words, fresh}
 use Rattle.policy.specs.Held.{term_is, slot_is}
-use Rattle.policy.specs.declared.Term as Held-term
+use Rattle.policy.specs.declared.Term as HeldTerm
 use Rattle.policy.specs.declared.Slot.TheVariants.{Old, New}
 use Rattle.meaning.specs.Values.{Values, value}
 use Rattle.meaning.specs.Matching.{fits, match_first, match}
@@ -49,7 +49,7 @@ record NewNext (ws : List ℕ) (at n left : ℕ) (q : List Slot) : Type 0 where
   rest : SlotsLeft ws (at + 2) (n + 1) (left - 1) p
   fits : n < 16
 
-record OldNext (ws : List ℕ) (at n left : ℕ) (x : Held-term.Term) (q : List Slot) : Type 0 where
+record OldNext (ws : List ℕ) (at n left : ℕ) (x : HeldTerm.Term) (q : List Slot) : Type 0 where
   t : Term
   p : List Slot
   is : q ≡ old t ∷ p
@@ -69,7 +69,7 @@ module _ {ws : List ℕ} {at n left : ℕ} where
           let sm = s.many in
           record { p = p; is = refl; rest = record { words = at_skip (2 ∷ n ∷ []) (slot_words (n + 1) p) s.words; many = omega arith; scope = omega arith }; fits = omega arith }
 
-  old_next : {q : List Slot} {x : Held-term.Term} → 0 < left → IsSlot ws at (Old x) → SlotsLeft ws at n left q → OldNext ws at n left x q
+  old_next : {q : List Slot} {x : HeldTerm.Term} → 0 < left → IsSlot ws at (Old x) → SlotsLeft ws at n left q → OldNext ws at n left x q
   unfolding slot_words slot_is fresh
   old_next {q} {x} z i s = go q s
     where
@@ -129,7 +129,7 @@ module _ {ws : List ℕ} {at n : ℕ} {vs : Values} {x : Row} {width scope : ℕ
           count = λ m g. iv.count m (λ q s. let y = new_next (omega arith) i s in let e = g y.p (moved y.rest) in let f = ap fresh y.is in omega arith);
         }
 
-    module _ {t : Held-term.Term} (i : IsSlot ws (at + 1 + 2 * j) (Old t)) where
+    module _ {t : HeldTerm.Term} (i : IsSlot ws (at + 1 + 2 * j) (Old t)) where
       old_match : (q : List Slot) (y : OldNext ws (at + 1 + 2 * j) scope (width - j) t q) (r : Option Values) (b : Bool) → eqb (value us (term_is t)) a ≡ b →
           ◌≡◌ {A = Option Values} (elim b as (λ c. Option Values) [ true ↦ match_first y.p us (drop (j + 1) x) | false ↦ none ]) r → match_first q us (drop j x) ≡ r
       unfolding match_first
@@ -158,11 +158,11 @@ slots_none {p} left z s = no_elements p (s.many ∙ z)
 
 -- ---- the loop: the values lent are those of the first scope, and behind them those of the slots passed
 
-pub record Passed (ws : List ℕ) (at : ℕ) (values : List ℕ) (count : ℕ) (area : List ℕ) (row : ℕ) (valuesNow : List ℕ) (scope j : ℕ) : Type 0 where
-  pub unchanged : Unchanged count values valuesNow
-  pub bound : Bound valuesNow scope
+pub record Passed (ws : List ℕ) (at : ℕ) (values : List ℕ) (count : ℕ) (area : List ℕ) (row : ℕ) (values_now : List ℕ) (scope j : ℕ) : Type 0 where
+  pub unchanged : Unchanged count values values_now
+  pub bound : Bound values_now scope
   pub more : count ≤ scope
-  slots : Matching ws at count (take count values) (row_in (five_at area row)) (get_or ws at 0) scope (take scope valuesNow) j
+  slots : Matching ws at count (take count values) (row_in (five_at area row)) (get_or ws at 0) scope (take scope values_now) j
 
 pub passed_start : {ws : List ℕ} {at : ℕ} {values : List ℕ} {count : ℕ} {area : List ℕ} {row : ℕ} → Bound values count → SomePattern count ws at → Passed ws at values count area row values count 0
 passed_start b s = record { unchanged = unchanged_self; bound = b; more = omega arith; slots = matching_start b.scope s }
@@ -192,7 +192,7 @@ misfitting {format} {values} {count} area row room few h = record {
   scope = λ p s e. let w : ◌≡◌ {A = ℕ} 0 1 = cc in absurd (omega arith);
 }
 
-module _ {ws : List ℕ} {at : ℕ} {values : List ℕ} {count : ℕ} {area : List ℕ} {row : ℕ} {valuesNow : List ℕ} {scope j : ℕ} (iv : Passed ws at values count area row valuesNow scope j) where
+module _ {ws : List ℕ} {at : ℕ} {values : List ℕ} {count : ℕ} {area : List ℕ} {row : ℕ} {values_now : List ℕ} {scope j : ℕ} (iv : Passed ws at values count area row values_now scope j) where
   pub slot_inside : j < get_or ws at 0 → at + 1 + 2 * j + 2 ≤ length ws
   slot_inside less = let w = slots_long iv.slots.here (omega arith) in omega arith
 
@@ -200,20 +200,20 @@ module _ {ws : List ℕ} {at : ℕ} {values : List ℕ} {count : ℕ} {area : Li
   new_scope less i = (new_next (omega arith) i iv.slots.here).fits
 
   module _ {format : ℕ} (f : Fits format ws at area row) where
-    pub passed_new : j < get_or ws at 0 → IsSlot ws (at + 1 + 2 * j) New → Passed ws at values count area row (set valuesNow scope (get_or area (row + 1 + j) 0)) (scope + 1) (j + 1)
+    pub passed_new : j < get_or ws at 0 → IsSlot ws (at + 1 + 2 * j) New → Passed ws at values count area row (set values_now scope (get_or area (row + 1 + j) 0)) (scope + 1) (j + 1)
     passed_new less i =
         let more = iv.more in
         let inside = new_scope less i in
         let long = iv.bound.long in
         record {
-          unchanged = unchanged_then iv.unchanged (unchanged_less more (unchanged_bind valuesNow scope _));
-          bound = bound_bind valuesNow scope _ inside iv.bound;
+          unchanged = unchanged_then iv.unchanged (unchanged_less more (unchanged_bind values_now scope _));
+          bound = bound_bind values_now scope _ inside iv.bound;
           more = omega arith;
-          slots = matching_new iv.slots less f.long (f.atom j less) i (take_bind valuesNow scope _ (omega arith));
+          slots = matching_new iv.slots less f.long (f.atom j less) i (take_bind values_now scope _ (omega arith));
         }
 
-    pub passed_old : {t : Held-term.Term} → j < get_or ws at 0 → IsSlot ws (at + 1 + 2 * j) (Old t) → value (take scope valuesNow) (term_is t) ≡ get_or area (row + 1 + j) 0 →
-        Passed ws at values count area row valuesNow scope (j + 1)
+    pub passed_old : {t : HeldTerm.Term} → j < get_or ws at 0 → IsSlot ws (at + 1 + 2 * j) (Old t) → value (take scope values_now) (term_is t) ≡ get_or area (row + 1 + j) 0 →
+        Passed ws at values count area row values_now scope (j + 1)
     passed_old less i e =
         record { unchanged = iv.unchanged; bound = iv.bound; more = iv.more; slots = matching_old iv.slots less f.long (f.atom j less) i e }
 
@@ -222,8 +222,8 @@ module _ {ws : List ℕ} {at : ℕ} {values : List ℕ} {count : ℕ} {area : Li
       decided : {p : List Slot} → StandsPattern count ws at p → match format p (take count values) (row_in (five_at area row)) ≡ match_first p (take count values) (row_in (five_at area row))
       decided {p} s = match_fits format p (take count values) (row_in (five_at area row)) (rw (sym (pattern_wide s).width) f.may)
 
-      pub mismatched : {t : Held-term.Term} → j < get_or ws at 0 → IsSlot ws (at + 1 + 2 * j) (Old t) → (value (take scope valuesNow) (term_is t) ≡ get_or area (row + 1 + j) 0 → ⊥) →
-          SayMatch format ws at values count (row_in (five_at area row)) (record { ok = false; count = count }) valuesNow
+      pub mismatched : {t : HeldTerm.Term} → j < get_or ws at 0 → IsSlot ws (at + 1 + 2 * j) (Old t) → (value (take scope values_now) (term_is t) ≡ get_or area (row + 1 + j) 0 → ⊥) →
+          SayMatch format ws at values count (row_in (five_at area row)) (record { ok = false; count = count }) values_now
       unfolding matched_is
       mismatched less i e = record {
         unchanged = iv.unchanged;
@@ -231,13 +231,13 @@ module _ {ws : List ℕ} {at : ℕ} {values : List ℕ} {count : ℕ} {area : Li
         scope = λ p s w. let z : ◌≡◌ {A = ℕ} 0 1 = cc in absurd (omega arith);
       }
 
-      pub matched : get_or ws at 0 ≤ j → SayMatch format ws at values count (row_in (five_at area row)) (record { ok = true; count = scope }) valuesNow
+      pub matched : get_or ws at 0 ≤ j → SayMatch format ws at values count (row_in (five_at area row)) (record { ok = true; count = scope }) values_now
       unfolding match_first fresh matched_is
       matched h =
           let x : Row = row_in (five_at area row) in
           let empty : (q : List Slot) → SlotsLeft ws (at + 1 + 2 * j) scope (get_or ws at 0 - j) q → q ≡ [] = λ q l. slots_none (get_or ws at 0 - j) (omega arith) l in
           record {
             unchanged = iv.unchanged;
-            means = λ p s. decided s ∙ iv.slots.means (some (take scope valuesNow)) (λ q l. ap (λ (u : List Slot). match_first u (take scope valuesNow) (drop j x)) (empty q l)) p (slots_inside b.scope s);
+            means = λ p s. decided s ∙ iv.slots.means (some (take scope values_now)) (λ q l. ap (λ (u : List Slot). match_first u (take scope values_now) (drop j x)) (empty q l)) p (slots_inside b.scope s);
             scope = λ p s e. iv.slots.count scope (λ q l. let f = ap fresh (empty q l) in omega arith) p (slots_inside b.scope s);
           }

@@ -74,9 +74,9 @@ pub record SayHead (ws : List ℕ) (at : ℕ) (vs : Values) (k : ℕ) (entry : L
   pub kept : (free : ℕ) → Kept free entry area
 
 -- a pattern against the row x
-pub record SayMatch (format : ℕ) (ws : List ℕ) (at : ℕ) (values : List ℕ) (count : ℕ) (x : Row) (m : Matched) (valuesNow : List ℕ) : Type 0 where
-  pub unchanged : Unchanged count values valuesNow
-  pub means : (p : List Slot) → StandsPattern count ws at p → match format p (take count values) x ≡ matched_is m valuesNow
+pub record SayMatch (format : ℕ) (ws : List ℕ) (at : ℕ) (values : List ℕ) (count : ℕ) (x : Row) (m : Matched) (values_now : List ℕ) : Type 0 where
+  pub unchanged : Unchanged count values values_now
+  pub means : (p : List Slot) → StandsPattern count ws at p → match format p (take count values) x ≡ matched_is m values_now
   pub scope : (p : List Slot) → StandsPattern count ws at p → m.ok ≡ true → m.count ≡ count + fresh p
 
 -- whether the row that the terms come to belongs to the set
@@ -84,9 +84,9 @@ pub record SayHas (ws : List ℕ) (at : ℕ) (vs : Values) (set : List ℕ) (r :
   pub means : (n : ℕ) (ts : List Term) → StandsRow n ws at ts → has (set_in set) (row_of vs ts) ≡ r
 
 -- the rows xs drawn from row i on, whatever reads the guards that follow
-pub record SayDrawn (format : ℕ) (ws : List ℕ) (at : ℕ) (values : List ℕ) (count : ℕ) (xs : List Row) (i k : ℕ) (r : Drawn.Drawn) (valuesNow : List ℕ) : Type 0 where
-  pub unchanged : Unchanged count values valuesNow
+pub record SayDrawn (format : ℕ) (ws : List ℕ) (at : ℕ) (values : List ℕ) (count : ℕ) (xs : List Row) (i k : ℕ) (r : Drawn.Drawn) (values_now : List ℕ) : Type 0 where
+  pub unchanged : Unchanged count values values_now
   pub among : Among r i (length xs)
   pub scope : (p : List Slot) → StandsPattern count ws at p → InScope r (count + fresh p)
   pub means : (p : List Slot) → StandsPattern count ws at p → (rest : Values → List Row → Reading (List Row)) (found : List Row) →
-      draw_each format rest p (take count values) (drop i xs) found k ≡ drawn_is format r valuesNow rest p (take count values) xs found
+      draw_each format rest p (take count values) (drop i xs) found k ≡ drawn_is format r values_now rest p (take count values) xs found

@@ -11,14 +11,14 @@ use lib.Seq.{get_or-take}
 use Rattle.policy.specs.Held.{term_is}
 use Rattle.meaning.specs.Values.{Values, value}
 use Rattle.read_values.specs.Values.{passing}
-use Rattle.policy.specs.declared.Term as Held-term
+use Rattle.policy.specs.declared.Term as HeldTerm
 use Rattle.policy.specs.declared.Term.TheVariants.{Atom, Variable}
-use Rattle.policy.specs.declared.Guard as Held-guard
+use Rattle.policy.specs.declared.Guard as HeldGuard
 use Rattle.policy.specs.declared.Guard.TheVariants.{Draw, Same, Different, Absent}
 use Rattle.policy.specs.contracts.Guard.{the_type}
 use denote.Enum.Declared.{tag_of}
 
-module _ {x : Held-term.Term} {v : ℕ} where
+module _ {x : HeldTerm.Term} {v : ℕ} where
   pub value_atom : (vs : Values) → x ≡ Atom v → v ≡ value vs (term_is x)
   unfolding value term_is
   value_atom vs is = rw is refl
@@ -33,7 +33,7 @@ module _ {x : Held-term.Term} {v : ℕ} where
     value_out h = rw (is, ← index) (sym (get_or-eq_default (take count values) 0 {n = i} (omega (arith, length-take count values))))
 
 -- whether a comparison passes, from the two atoms
-module _ (vs : Values) {x y : Held-term.Term} {a b : ℕ} (first : a ≡ value vs (term_is x)) (second : b ≡ value vs (term_is y)) {g : Held-guard.Guard} where
+module _ (vs : Values) {x y : HeldTerm.Term} {a b : ℕ} (first : a ≡ value vs (term_is x)) (second : b ≡ value vs (term_is y)) {g : HeldGuard.Guard} where
   pub same_passes : g ≡ Same x y → eqb a b ≡ passing vs g
   unfolding passing
   same_passes e = rw (first, second, e) refl
@@ -42,7 +42,7 @@ module _ (vs : Values) {x y : Held-term.Term} {a b : ℕ} (first : a ≡ value v
   unfolding passing
   different_passes e = rw (first, second, e) refl
 
-pub none_passes : (vs : Values) (g : Held-guard.Guard) → (tag_of the_type g ≡ 0) ⊎ (tag_of the_type g ≡ 3) → false ≡ passing vs g
+pub none_passes : (vs : Values) (g : HeldGuard.Guard) → (tag_of the_type g ≡ 0) ⊎ (tag_of the_type g ≡ 3) → false ≡ passing vs g
 unfolding passing
 none_passes vs Draw t = refl
 none_passes vs (Same x y) (inl e) = absurd (omega (arith, e))

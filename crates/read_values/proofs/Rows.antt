@@ -15,7 +15,7 @@ use Rattle.policy.specs.Held.{term_is}
 use Rattle.policy_places.specs.Places.{At, StandsRow, SomeRow, IsTerm}
 use Rattle.read_values.specs.Rows.{SayAtom, SayRow}
 use Rattle.policy_places.proofs.Places.{at_next, at_skip, at_front, term_length, row_wide, row_width}
-use Rattle.policy.specs.declared.Term as Held-term
+use Rattle.policy.specs.declared.Term as HeldTerm
 
 nth_term : {ws : List ℕ} (at : ℕ) (ts : List Term) (j : ℕ) → At ws at (each term_words ts) → j < length ts → At ws (at + 2 * j) (term_words (get_or ts j (atom 0)))
 unfolding each
@@ -39,7 +39,7 @@ unfolding row_of
 row_of_length vs ts = length-map ts (value vs)
 
 module _ {ws : List ℕ} {at : ℕ} {vs : Values} {j : ℕ} where
-  pub term_atom : {x : Held-term.Term} → j < get_or ws at 0 → IsTerm ws (at + 1 + 2 * j) x → SayAtom ws at vs j (value vs (term_is x))
+  pub term_atom : {x : HeldTerm.Term} → j < get_or ws at 0 → IsTerm ws (at + 1 + 2 * j) x → SayAtom ws at vs j (value vs (term_is x))
   term_atom less i = record {
     means = λ n ts s.
         let w = (row_wide s).width in

@@ -1,7 +1,7 @@
 -- The values of variables as the readers lend them, and the comparisons of them.
 use Rattle.std.specs.Prelude.{ℕ, ◌≤◌, ◌≡◌, Bool, false, not, List, eqb, length, take}
 use Rattle.policy.specs.Held.{term_is}
-use Rattle.policy.specs.declared.Guard as Held-guard
+use Rattle.policy.specs.declared.Guard as HeldGuard
 use Rattle.policy.specs.declared.Guard.TheVariants.{Draw, Same, Different, Absent}
 use Rattle.meaning.specs.Values.{Values, value}
 
@@ -16,7 +16,7 @@ pub record Unchanged (count : ℕ) (before after : List ℕ) : Type 0 where
   pub front : take count after ≡ take count before
 
 -- whether a comparison passes: "same and different, if the two atoms are equal or differ". The others compare nothing; of them it says no.
-unfoldable pub passing : Values → Held-guard.Guard → Bool
+unfoldable pub passing : Values → HeldGuard.Guard → Bool
 passing vs Draw = false
 passing vs (Same x y) = eqb (value vs (term_is x)) (value vs (term_is y))
 passing vs (Different x y) = not (eqb (value vs (term_is x)) (value vs (term_is y)))

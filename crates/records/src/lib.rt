@@ -32,7 +32,7 @@ fn begins_before(area: &[u32], at: usize, words: &[u32], also: bool) -> bool
 
 // How many records begin with words before these, with `also` those that begin with these too, by binary search.
 pub fn count_before(area: &[u32], width: usize, words: &[u32], also: bool) -> usize
-    requires area_in_bounds { (1 + width * count_of area.now ≤ length area.now) × (length words.now ≤ width) }
+    requires in_bounds { (1 + width * count_of area.now ≤ length area.now) × (length words.now ≤ width) }
     requires pass_first { PassFirst (begins_before also words.now) (records_in width area.now) }
     ensures { result ≡ leading (begins_before also words.now) (records_in width area.now) }
 {
@@ -51,9 +51,9 @@ pub fn count_before(area: &[u32], width: usize, words: &[u32], also: bool) -> us
 
 // Puts a record in at a place, moves the later ones up and raises the count.
 pub fn insert(area: &mut [u32], width: usize, place: usize, words: &[u32])
-    requires words_len { length words.now ≡ width }
-    requires place_bound { (place ≤ count_of area.old) × (count_of area.old < 4294967295) }
-    requires area_in_bounds { 1 + width * (count_of area.old + 1) ≤ length area.old }
+    requires whole_record { length words.now ≡ width }
+    requires place_in_range { (place ≤ count_of area.old) × (count_of area.old < 4294967295) }
+    requires room_for_it { 1 + width * (count_of area.old + 1) ≤ length area.old }
     ensures { area.new ≡ put_in width area.old place words.now }
 {
     let count = area[0];

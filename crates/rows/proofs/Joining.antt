@@ -10,7 +10,7 @@ use lib.Seq.{take-suc, take-take, take_at, drop_at, length-take-le}
 use Rattle.rows.specs.Ordered.{◌∈◌, StrictTotal, insert, join}
 use Rattle.rows.proofs.Case.{Case, is_true, is_false, split, ◌then◌, iff_refl, iff_sym, both_or}
 use Rattle.rows.proofs.Ordered.{Ascending, Under, under_in, insert-∈, insert_ascending, join-∈, join_ascending, ascending_unique}
-use Rattle.rows.proofs.Place.{getD-∈}
+use Rattle.rows.proofs.Place.{get_or-∈}
 
 ∈-append : {A : Type 0} (xs ys : List A) (r : A) → (r ∈ (xs ++ ys)) ↔ ((r ∈ xs) ⊎ (r ∈ ys))
 unfolding ◌∈◌
@@ -165,7 +165,7 @@ module _ {A : Type 0} (before : A → A → Bool) (laws : StrictTotal before) wh
     unfolding ◌∈◌ Ascending
     below [] a k h r m = absurd (omega arith)
     below (z ∷ zs) a zero h r m = absurd m
-    below (z ∷ zs) a (suc k) h r (inl e) = subst (λ (y : A). before y (get_or zs k d) ≡ true) (sym e) (under_in before laws z (get_or zs k d) zs a.0 (getD-∈ zs k d (omega arith)))
+    below (z ∷ zs) a (suc k) h r (inl e) = subst (λ (y : A). before y (get_or zs k d) ≡ true) (sym e) (under_in before laws z (get_or zs k d) zs a.0 (get_or-∈ zs k d (omega arith)))
     below (z ∷ zs) a (suc k) h r (inr m) = below zs a.1 k (omega arith) r m
 
     -- all of the first `k` come before what comes after the last of them

@@ -12,11 +12,11 @@ use Rattle.rows.specs.Ordered.{◌∈◌, StrictTotal, lists, insert}
 use Rattle.rows.proofs.Case.{Case, is_true, is_false, split, never, T_true, true_T}
 use Rattle.rows.proofs.Ordered.{Ascending, under_in, lists_iff, insert-∈, insert_ascending, ascending_unique}
 
-pub getD-∈ : {A : Type 0} (xs : List A) (i : ℕ) (d : A) → i < length xs → get_or xs i d ∈ xs
+pub get_or-∈ : {A : Type 0} (xs : List A) (i : ℕ) (d : A) → i < length xs → get_or xs i d ∈ xs
 unfolding ◌∈◌
-getD-∈ [] i d h = absurd (omega arith)
-getD-∈ (x ∷ xs) zero d h = inl refl
-getD-∈ (x ∷ xs) (suc i) d h = inr (getD-∈ xs i d (omega arith))
+get_or-∈ [] i d h = absurd (omega arith)
+get_or-∈ (x ∷ xs) zero d h = inl refl
+get_or-∈ (x ∷ xs) (suc i) d h = inr (get_or-∈ xs i d (omega arith))
 
 -- what is in a list stands somewhere in it
 pub at-∈ : {A : Type 0} (xs : List A) (x d : A) → x ∈ xs → (i : ℕ) × (i < length xs) × (x ≡ get_or xs i d)
@@ -31,7 +31,7 @@ module _ {A : Type 0} (before : A → A → Bool) (laws : StrictTotal before) (d
   unfolding Ascending
   ascending_at [] a i j h k = absurd (omega arith)
   ascending_at (x ∷ xs) a i zero h k = absurd (omega arith)
-  ascending_at (x ∷ xs) a zero (suc j) h k = under_in before laws x (get_or xs j d) xs a.0 (getD-∈ xs j d (omega arith))
+  ascending_at (x ∷ xs) a zero (suc j) h k = under_in before laws x (get_or xs j d) xs a.0 (get_or-∈ xs j d (omega arith))
   ascending_at (x ∷ xs) a (suc i) (suc j) h k = ascending_at xs a.1 i j (omega arith) (omega arith)
 
   -- those below `low` come before the element, those from `high` on after it
@@ -129,7 +129,7 @@ module _ {A : Type 0} (before : A → A → Bool) (laws : StrictTotal before) (d
 
   -- the element itself
   pub found_lists : (xs : List A) (r : A) (i : ℕ) → i < length xs → get_or xs i d ≡ r → lists before xs r ≡ true
-  found_lists xs r i h e = lists-∈ xs r (subst (λ (y : A). y ∈ xs) e (getD-∈ xs i d h))
+  found_lists xs r i h e = lists-∈ xs r (subst (λ (y : A). y ∈ xs) e (get_or-∈ xs i d h))
 
   pub insert_known : (xs : List A) (r : A) → Ascending before laws xs → r ∈ xs → insert before r xs ≡ xs
   insert_known xs r a m = ascending_unique before laws (insert before r xs) xs (insert_ascending before laws r xs a) a

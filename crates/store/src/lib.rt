@@ -27,7 +27,7 @@ pub enum Filing {
 
 // Files a certificate: 8 for the store, 9 for the certificate, 17 for its term, Held, 10, and otherwise it is put in its place.
 pub fn file(store: &mut [u32], certificate: &[u32]) -> Filing
-    ensures result_value { filing_is result ≡ file_reply certificate_kind store.old certificate.now }
+    ensures answer { filing_is result ≡ file_reply certificate_kind store.old certificate.now }
     ensures store_after { store.new ≡ store_after certificate_kind store.old certificate.now }
 {
     if !sound_store(store) {

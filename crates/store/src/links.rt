@@ -11,7 +11,7 @@ use records::insert;
 
 // Files a link: 18 for the link store, 18 for the link, Held, 19, and otherwise it is put in its place.
 pub fn file_link(links: &mut [u32], link: &[u32]) -> Filing
-    ensures result_value { filing_is result ≡ file_reply link_kind links.old link.now }
+    ensures answer { filing_is result ≡ file_reply link_kind links.old link.now }
     ensures links_after { links.new ≡ store_after link_kind links.old link.now }
 {
     if !sound_links(links) {

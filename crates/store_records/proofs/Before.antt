@@ -56,7 +56,7 @@ module _ (a b : List ℕ) {o : Order.Order} (compared : o ≡ order_for words_be
   name_after e = sym (name_denies a b (after_order words_order (record_name a) (record_name b) (sym compared ∙ e)))
 
 -- the names are the same: the rows, as the code compares them
-module _ (a b : List ℕ) (sound-a : sound_record a ≡ true) (sound-b : sound_record b ≡ true) (named : record_name a ≡ record_name b) where
+module _ (a b : List ℕ) (sound_a : sound_record a ≡ true) (sound_b : sound_record b ≡ true) (named : record_name a ≡ record_name b) where
   module _ (r : Held.Row) (loaded : five_is r ≡ five_at a 3) (o : Order.Order) (compared : o ≡ order_for row_before (row_is r) (record_row b)) where
     rows_compared : order_for row_before (record_row a) (record_row b) ≡ o
     rows_compared = ap (λ (x : Row). order_for row_before x (record_row b)) (sym (loaded_row r a 3 loaded)) ∙ sym compared
@@ -66,7 +66,7 @@ module _ (a b : List ℕ) (sound-a : sound_record a ≡ true) (sound-b : sound_r
 
     -- the rows are the same too: the terms decide
     pub row_same : o ≡ Same → words_before (record_term a) (record_term b) ≡ record_before a b
-    row_same e = sym (holds.by_term_lem a b sound-a sound-b named (same_order row_order (record_row a) (record_row b) (rows_compared ∙ e)))
+    row_same e = sym (holds.by_term a b sound_a sound_b named (same_order row_order (record_row a) (record_row b) (rows_compared ∙ e)))
 
     pub row_after : o ≡ After → false ≡ record_before a b
     row_after e = sym (row_denies a b named (after_order row_order (record_row a) (record_row b) (rows_compared ∙ e)))

@@ -81,18 +81,18 @@ second_used ws five s h = go (split (ltb 1 (get_or ws 0 0)))
         never (ap (λ (k : ℕ). zeros (drop k (drop 1 ws))) (sym e) ∙ (sound_width ws s).unused)
         (zeros_fails (drop 1 ws) 1 (omega (arith, length-drop 1 ws)) (λ n. omega arith))
 
-module _ (vs ws : List ℕ) (five-v : length vs ≡ 5) (five-w : length ws ≡ 5) (sound-v : sound_row vs ≡ true) (sound-w : sound_row ws ≡ true) where
+module _ (vs ws : List ℕ) (five_v : length vs ≡ 5) (five_w : length ws ≡ 5) (sound_v : sound_row vs ≡ true) (sound_w : sound_row ws ≡ true) where
   wide_v : length (row_in vs) ≡ get_or vs 0 0
-  wide_v = row_width vs five-v sound-v
+  wide_v = row_width vs five_v sound_v
 
   wide_w : length (row_in ws) ≡ get_or ws 0 0
-  wide_w = row_width ws five-w sound-w
+  wide_w = row_width ws five_w sound_w
 
   some_v : 1 ≤ get_or vs 0 0
-  some_v = (sound_width vs sound-v).some
+  some_v = (sound_width vs sound_v).some
 
   some_w : 1 ≤ get_or ws 0 0
-  some_w = (sound_width ws sound-w).some
+  some_w = (sound_width ws sound_w).some
 
   by_first_lem : get_or vs 1 0 < get_or ws 1 0 → row_before (row_in vs) (row_in ws) ≡ true
   by_first_lem h =
@@ -103,7 +103,7 @@ module _ (vs ws : List ℕ) (five-v : length vs ≡ 5) (five-w : length ws ≡ 5
   by_second_lem e h = go (split (ltb 1 (get_or vs 0 0)))
     where
       used : 1 < get_or ws 0 0
-      used = second_used ws five-w sound-w (omega arith)
+      used = second_used ws five_w sound_w (omega arith)
 
       front : take 1 (row_in vs) ≡ take 1 (row_in ws)
       front =
@@ -198,28 +198,28 @@ module _ (store : List ℕ) (count start : ℕ) (first : sound_record (record_at
     word_at n = omega (arith, get_or-take record_words (drop (1 + record_words * n) store) 0 0 (omega arith), get_or-drop (1 + record_words * n) store 0 0, words (1 + record_words * n + 0))
 
     -- the slices that the code compares are these records
-    module _ (f t l : List ℕ) (its-first : f ≡ record_at record_words store start) (this : t ≡ record_at record_words store i) (last : l ≡ record_at record_words store (i - 1)) where
+    module _ (f t l : List ℕ) (its_first : f ≡ record_at record_words store start) (this : t ≡ record_at record_words store i) (last : l ≡ record_at record_words store (i - 1)) where
       pub going_next : Going store count start i → pair_at t 0 ≡ pair_at f 0 → ShortRow t (get_or f 2 0) → sound_term t ≡ true → Follows l t → Going store count start (i + 1)
       going_next g p q m b =
           let e : i + 1 - 1 ≡ i = omega arith in
           let go = g.run in
-          let pair = same_pair (rw this (word_at i)) (rw its-first (word_at start)) p in
+          let pair = same_pair (rw this (word_at i)) (rw its_first (word_at start)) p in
           let alike : Alike f t = record { key = pair.0; name = pair.1; polarity = q.polar } in
-          let sound-f : sound_record f ≡ true = rw its-first first in
+          let sound_f : sound_record f ≡ true = rw its_first first in
           let long = slice_length store count i t room more this in
-          let named = sym (alike_names (sound_record_lem f sound-f).ten long alike) in
-          let sound : sound_record t ≡ true = alike_sound sound-f long alike q.sound m in
-          let sound-i : sound_record (record_at record_words store i) ≡ true = rw (← this) sound in
-          let before-t : record_name l ≡ record_name t = rw (last, named, its-first) g.named in
+          let named = sym (alike_names (sound_record_lem f sound_f).ten long alike) in
+          let sound : sound_record t ≡ true = alike_sound sound_f long alike q.sound m in
+          let sound_i : sound_record (record_at record_words store i) ≡ true = rw (← this) sound in
+          let before-t : record_name l ≡ record_name t = rw (last, named, its_first) g.named in
           let behind = comes_behind l t (rw last g.sound) sound before-t q.short b in
           record {
             run = record {
               some = omega arith;
               few = omega arith;
-              each = below_more _ i go.each (λ z. true_and _ _ sound-i (behind_before record_words store record_before i (λ n. omega arith) t l last this ∙ behind));
+              each = below_more _ i go.each (λ z. true_and _ _ sound_i (behind_before record_words store record_before i (λ n. omega arith) t l last this ∙ behind));
             };
-            sound = rw e sound-i;
-            named = rw (e, ← this, ← its-first) named;
+            sound = rw e sound_i;
+            named = rw (e, ← this, ← its_first) named;
           }
 
 -- ---- a store, run by run

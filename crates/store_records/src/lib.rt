@@ -18,8 +18,8 @@ const FIRST_ATOM: usize = ROW_IN_RECORD + 1;
 
 // Is record `i` sound, and does it come behind the one before, which is sound?
 fn sound_at(store: &[u32], i: usize) -> bool
-    requires i_in_bounds { 1 + record_words * (i + 1) ≤ length store.now }
-    requires i_value { 0 < i → sound_record (record_at record_words store.now (i - 1)) ≡ true }
+    requires in_bounds { 1 + record_words * (i + 1) ≤ length store.now }
+    requires last_sound { 0 < i → sound_record (record_at record_words store.now (i - 1)) ≡ true }
     ensures { result ≡ sound_at store.now i }
 {
     let this = record_at(store, RECORD_WORDS, i);

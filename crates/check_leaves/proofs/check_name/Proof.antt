@@ -2,7 +2,7 @@
 use native.Mathlib.Omega.{arith}
 use Rattle.check_polarity.specs.Earlier.{earlier_is}
 use Rattle.check_terms.proofs.Answering.{word_found, word_refused}
-use Rattle.check_leaves.proofs.LeafAnswers.{name_read, name_lost, name_unissued, name_unpolarized, name_undefined, name_found}
+use Rattle.check_leaves.proofs.LeafAnswers.{name_got, name_lost, name_unissued, name_unpolarized, name_undefined, name_found}
 use borrow.Author.Rules.{rules}
 use Rattle.check_leaves.proofs.check_name.Statement.{statement}
 use Rattle.check_leaves.proofs.check_name.Tie as tie
@@ -37,7 +37,7 @@ returns-in-Refused-word_between c =
     let w = c.before in
     let i = issuer w in
     let a = (start i).args in
-    name_unpolarized a.variables a.draws (earlier_is a.earlier) (name_read (named i).read_name.ensures i.in-Found.is) (word_refused w.word_between.ensures c.in-Refused-word_between.is)
+    name_unpolarized a.variables a.draws (earlier_is a.earlier) (name_got (named i).read_name.ensures i.in-Found.is) (word_refused w.word_between.ensures c.in-Refused-word_between.is)
 
 returns-in-Refused-name_facts : tie.Need-returns-in-Refused-name_facts
 returns-in-Refused-name_facts c =
@@ -46,7 +46,7 @@ returns-in-Refused-name_facts c =
     let w = worded p in
     let i = issuer w in
     let a = (start i).args in
-    name_undefined a.variables a.draws (earlier_is a.earlier) (name_read (named i).read_name.ensures i.in-Found.is) (word_found w.word_between.ensures p.in-Found-word_between.is)
+    name_undefined a.variables a.draws (earlier_is a.earlier) (name_got (named i).read_name.ensures i.in-Found.is) (word_found w.word_between.ensures p.in-Found-word_between.is)
     f.name_facts.ensures c.in-Refused-name_facts.is
 
 returns-in-Found-name_facts : tie.Need-returns-in-Found-name_facts
@@ -56,7 +56,7 @@ returns-in-Found-name_facts c =
     let w = worded p in
     let i = issuer w in
     let a = (start i).args in
-    name_found a.variables a.draws (earlier_is a.earlier) (name_read (named i).read_name.ensures i.in-Found.is) (word_found w.word_between.ensures p.in-Found-word_between.is)
+    name_found a.variables a.draws (earlier_is a.earlier) (name_got (named i).read_name.ensures i.in-Found.is) (word_found w.word_between.ensures p.in-Found-word_between.is)
     f.name_facts.ensures c.in-Found-name_facts.is
 
 pub check_name_spec : {M : Type 1} → statement M

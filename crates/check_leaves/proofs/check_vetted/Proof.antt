@@ -2,7 +2,7 @@
 use native.Mathlib.Omega.{arith}
 use Rattle.rows.specs.Name.{polarity_of}
 use Rattle.check_terms.proofs.Answering.{word_found, word_refused}
-use Rattle.check_leaves.proofs.LeafAnswers.{name_read, name_lost, earlier_known, vetted_unissued, vetted_unpolarized, vetted_undefined, vetted_refused, vetted_found}
+use Rattle.check_leaves.proofs.LeafAnswers.{name_got, name_lost, earlier_known, vetted_unissued, vetted_unpolarized, vetted_undefined, vetted_refused, vetted_found}
 use borrow.Author.Rules.{rules}
 use Rattle.check_leaves.proofs.check_vetted.Statement.{statement}
 use Rattle.check_leaves.proofs.check_vetted.Tie as tie
@@ -59,7 +59,7 @@ returns-in-Refused-word_between c =
     let w = c.before in
     let i = issuer w in
     let a = (start i).args in
-    vetted_unpolarized a.variables a.draws a.earlier (name_read (named i).read_name.ensures i.in-Found.is) (word_refused w.word_between.ensures c.in-Refused-word_between.is)
+    vetted_unpolarized a.variables a.draws a.earlier (name_got (named i).read_name.ensures i.in-Found.is) (word_refused w.word_between.ensures c.in-Refused-word_between.is)
 
 returns-in-Refused-name_facts : tie.Need-returns-in-Refused-name_facts
 unfolding polarity_of
@@ -69,7 +69,7 @@ returns-in-Refused-name_facts c =
     let w = worded p in
     let i = issuer w in
     let a = (start i).args in
-    vetted_undefined a.variables a.draws a.earlier (name_read (named i).read_name.ensures i.in-Found.is) (word_found w.word_between.ensures p.in-Found-word_between.is)
+    vetted_undefined a.variables a.draws a.earlier (name_got (named i).read_name.ensures i.in-Found.is) (word_found w.word_between.ensures p.in-Found-word_between.is)
     f.name_facts.ensures c.in-Refused-name_facts.is
 
 returns-in-Refused-read_earlier : tie.Need-returns-in-Refused-read_earlier
@@ -82,7 +82,7 @@ returns-in-Refused-read_earlier c =
     let w = worded p in
     let i = issuer w in
     let a = (start i).args in
-    vetted_refused a.variables a.draws a.earlier (name_read (named i).read_name.ensures i.in-Found.is) (word_found w.word_between.ensures p.in-Found-word_between.is)
+    vetted_refused a.variables a.draws a.earlier (name_got (named i).read_name.ensures i.in-Found.is) (word_found w.word_between.ensures p.in-Found-word_between.is)
     f.name_facts.ensures g.in-Found-name_facts.is (word_refused r.read_earlier.ensures c.in-Refused-read_earlier.is)
 
 returns-in-Found-read_earlier : tie.Need-returns-in-Found-read_earlier
@@ -96,7 +96,7 @@ returns-in-Found-read_earlier c =
     let w = worded p in
     let i = issuer w in
     let a = (start i).args in
-    vetted_found a.variables a.draws a.earlier (name_read (named i).read_name.ensures i.in-Found.is) (word_found w.word_between.ensures p.in-Found-word_between.is)
+    vetted_found a.variables a.draws a.earlier (name_got (named i).read_name.ensures i.in-Found.is) (word_found w.word_between.ensures p.in-Found-word_between.is)
     f.name_facts.ensures g.in-Found-name_facts.is (word_found r.read_earlier.ensures d.in-Found-read_earlier.is) c.of_definition.ensures c.difference_of-facts.ensures
 
 pub check_vetted_spec : {M : Type 1} → statement M

@@ -1,5 +1,5 @@
 -- Each way out is a law of `JudgeAnswers`.
-use Rattle.policy_table.proofs.PartAnswers.{table_read}
+use Rattle.policy_table.proofs.PartAnswers.{table_got}
 use Rattle.judging.proofs.JudgeAnswers.{no_key, under_key, table_refused}
 use borrow.Author.Rules.{rules}
 use Rattle.judging.proofs.judge_policy.Statement.{statement}
@@ -14,7 +14,7 @@ returns-then-our_key-lt-FIRST_KEY c = let a = c.args in no_key a.our_key a.polic
 judge_definitions-requires : tie.Need-judge_definitions-requires
 judge_definitions-requires c κs =
     let t = c.before in
-    table_read (start t).args.policy.now _ _ t.read_table.ensures c.in-Sound.is
+    table_got (start t).args.policy.now _ _ t.read_table.ensures c.in-Sound.is
 
 returns-in-Refused : tie.Need-returns-in-Refused
 returns-in-Refused c =

@@ -6,7 +6,7 @@ use borrow.Author.Rules.{rules}
 use Rattle.policy.specs.Table.{table, read_table}
 use Rattle.policy_table.specs.Entries.{entries_from}
 use Rattle.policy_table.specs.Spans.{part_span_is}
-use Rattle.policy_table.proofs.PartAnswers.{table_read, table_refused, Listed, listed_of, span_none, span_query, span_past, span_entry}
+use Rattle.policy_table.proofs.PartAnswers.{table_got, table_refused, Listed, listed_of, span_none, span_query, span_past, span_entry}
 use Rattle.policy_table.proofs.parts.part_span.Statement.{statement}
 use Rattle.policy_table.proofs.parts.part_span.Tie as tie
 
@@ -23,7 +23,7 @@ abbrev count : tie.In-Sound → ℕ
 count k = k.in-Sound.count
 
 sound : (k : tie.In-Sound) → table (entries_from (count k) (policy k) 2) ≡ read_table (policy k)
-sound k = table_read (policy k) k.read_table.result (count k) k.read_table.ensures k.in-Sound.is
+sound k = table_got (policy k) k.read_table.result (count k) k.read_table.ensures k.in-Sound.is
 
 listed : (k : tie.In-Sound) → Listed (policy k) (count k)
 listed k = listed_of (policy k) (count k) (sound k)
