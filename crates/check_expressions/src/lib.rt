@@ -21,7 +21,7 @@ const MOST_GUARDS: u32 = 8;
 const MOST_DRAW_GUARDS: u32 = 8;
 
 // An expression, with so many levels of depth left; with none left it is refused at its code word.
-#[cycle(check_absent_check_code_check_draw_check_expr_check_guards_check_two)]
+#[cycle(checkers)]
 pub fn check_expr(
     words: &[u32],
     at: usize,
@@ -46,7 +46,7 @@ pub fn check_expr(
 }
 
 // What follows a code: the parts of a node, or a leaf.
-#[cycle(check_absent_check_code_check_draw_check_expr_check_guards_check_two)]
+#[cycle(checkers)]
 fn check_code(
     words: &[u32],
     at: usize,
@@ -83,7 +83,7 @@ fn check_code(
 }
 
 // The two parts of a union or of a difference.
-#[cycle(check_absent_check_code_check_draw_check_expr_check_guards_check_two)]
+#[cycle(checkers)]
 fn check_two(
     words: &[u32],
     at: usize,
@@ -114,7 +114,7 @@ fn check_two(
 }
 
 // The guards that are left, and then the head.
-#[cycle(check_absent_check_code_check_draw_check_expr_check_guards_check_two)]
+#[cycle(checkers)]
 fn check_guards(
     words: &[u32],
     at: usize,
@@ -149,7 +149,7 @@ fn check_guards(
 }
 
 // A draw, counted where it begins: its expression, its pattern, and the guards after it.
-#[cycle(check_absent_check_code_check_draw_check_expr_check_guards_check_two)]
+#[cycle(checkers)]
 fn check_draw(
     words: &[u32],
     at: usize,
@@ -184,7 +184,7 @@ fn check_draw(
 }
 
 // An absent guard: its row, its expression, and the guards after it.
-#[cycle(check_absent_check_code_check_draw_check_expr_check_guards_check_two)]
+#[cycle(checkers)]
 fn check_absent(
     words: &[u32],
     at: usize,

@@ -57,7 +57,7 @@ pub fn skip_leaf(words: &[u32], at: usize) -> usize
     skip_rows(words, at + 1)
 }
 
-#[cycle(skip_expr_skip_guards)]
+#[cycle(skipping)]
 pub fn skip_expr(words: &[u32], at: usize) -> usize
     requires { SomeExpr words.now at }
     ensures { PastExpr words.now at result }
@@ -75,7 +75,7 @@ pub fn skip_expr(words: &[u32], at: usize) -> usize
 }
 
 // The guards left, and the head.
-#[cycle(skip_expr_skip_guards)]
+#[cycle(skipping)]
 fn skip_guards(words: &[u32], at: usize, left: u32) -> usize
     requires { SomeBody words.now at left }
     ensures { PastBody words.now at left result }

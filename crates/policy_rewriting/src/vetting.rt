@@ -104,7 +104,7 @@ fn vet_leaf(
     Vetted::To { next, end }
 }
 
-#[cycle(vet_expr_vet_guards)]
+#[cycle(vetting)]
 pub fn vet_expr(
     words: &[u32],
     at: usize,
@@ -135,7 +135,7 @@ pub fn vet_expr(
 }
 
 // The guards left, and the head.
-#[cycle(vet_expr_vet_guards)]
+#[cycle(vetting)]
 fn vet_guards(
     words: &[u32],
     at: usize,

@@ -19,7 +19,7 @@ use rows::SET_ROOM;
 use sets::clear;
 
 // An expression, by its code.
-#[cycle(draw_rows_expr_has_read_absent_read_draw_read_expr_read_guards_read_two)]
+#[cycle(readers)]
 fn read_expr(
     words: &[u32],
     at: usize,
@@ -78,7 +78,7 @@ fn read_expr(
 }
 
 // A union or a difference: the right operand is read into the area behind the left one's set.
-#[cycle(draw_rows_expr_has_read_absent_read_draw_read_expr_read_guards_read_two)]
+#[cycle(readers)]
 fn read_two(
     words: &[u32],
     at: usize,
@@ -123,7 +123,7 @@ fn read_two(
 }
 
 // The guards left, then the head.
-#[cycle(draw_rows_expr_has_read_absent_read_draw_read_expr_read_guards_read_two)]
+#[cycle(readers)]
 fn read_guards(
     words: &[u32],
     at: usize,
@@ -203,7 +203,7 @@ fn read_guards(
 }
 
 // A draw: its operand is read into the free area, and then its rows are drawn.
-#[cycle(draw_rows_expr_has_read_absent_read_draw_read_expr_read_guards_read_two)]
+#[cycle(readers)]
 fn read_draw(
     words: &[u32],
     at: usize,
@@ -252,7 +252,7 @@ fn read_draw(
 }
 
 // The rows of the set at `free`, drawn in turn: for each that matches the pattern the guards that follow, at `at`, are read.
-#[cycle(draw_rows_expr_has_read_absent_read_draw_read_expr_read_guards_read_two)]
+#[cycle(readers)]
 fn draw_rows(
     words: &[u32],
     at: usize,
@@ -324,7 +324,7 @@ fn draw_rows(
 }
 
 // An absent guard: its row is looked for in its operand, and where it is missing the guards that follow are read.
-#[cycle(draw_rows_expr_has_read_absent_read_draw_read_expr_read_guards_read_two)]
+#[cycle(readers)]
 fn read_absent(
     words: &[u32],
     at: usize,
@@ -371,7 +371,7 @@ fn read_absent(
 }
 
 // Whether the row written at `row` belongs to an expression, which is read into the area unless it is a leaf.
-#[cycle(draw_rows_expr_has_read_absent_read_draw_read_expr_read_guards_read_two)]
+#[cycle(readers)]
 fn expr_has(
     words: &[u32],
     at: usize,

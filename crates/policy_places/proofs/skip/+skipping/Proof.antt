@@ -3,17 +3,17 @@ mod Expr
 mod Guards
 use borrow.Author.Rules.{rules}
 use Rattle.policy_places.proofs.skip.skip_expr.Reads as skip-expr
-use Rattle.policy_places.proofs.skip.+skip_expr_skip_guards.Lts-skip_expr as skip-expr-lts
+use Rattle.policy_places.proofs.skip.+skipping.Lts-skip_expr as skip-expr-lts
 use Rattle.policy_places.proofs.skip.skip_guards.Reads as skip-guards
-use Rattle.policy_places.proofs.skip.+skip_expr_skip_guards.Lts-skip_guards as skip-guards-lts
-use Rattle.policy_places.proofs.skip.+skip_expr_skip_guards.{statement}
-use Rattle.policy_places.proofs.skip.+skip_expr_skip_guards.Tie.{close}
-use Rattle.policy_places.proofs.skip.+skip_expr_skip_guards.Proof.Cycle.{μ_skip_expr, μ_skip_guards, skip_expr_at, skip_guards_at, skip_expr_claims, skip_guards_claims}
-use Rattle.policy_places.proofs.skip.+skip_expr_skip_guards.Proof.Expr as expr
-use Rattle.policy_places.proofs.skip.+skip_expr_skip_guards.Proof.Guards as guards
+use Rattle.policy_places.proofs.skip.+skipping.Lts-skip_guards as skip-guards-lts
+use Rattle.policy_places.proofs.skip.+skipping.{statement}
+use Rattle.policy_places.proofs.skip.+skipping.Tie.{close}
+use Rattle.policy_places.proofs.skip.+skipping.Proof.Cycle.{μ_skip_expr, μ_skip_guards, skip_expr_at, skip_guards_at, skip_expr_claims, skip_guards_claims}
+use Rattle.policy_places.proofs.skip.+skipping.Proof.Expr as expr
+use Rattle.policy_places.proofs.skip.+skipping.Proof.Guards as guards
 
-pub +skip_expr_skip_guards_spec : {M : Type 1} → statement M
-+skip_expr_skip_guards_spec = close μ_skip_expr μ_skip_guards (λ t. skip-expr-lts.spec (skip_expr_claims t)
+pub +skipping_spec : {M : Type 1} → statement M
++skipping_spec = close μ_skip_expr μ_skip_guards (λ t. skip-expr-lts.spec (skip_expr_claims t)
     (skip_expr_at t)
     skip-expr.Post
     (expr.offset_bounds-words-at t)

@@ -6,8 +6,8 @@ use Rattle.read_steps.proofs.Areas.{given_back}
 use Rattle.read_expressions.proofs.Guards.{Operand}
 use Rattle.read_expressions.proofs.Draws.{some_operand, draw_room, draw_inside, ask_operand, drawn, draw_refused, some_pattern, draw_later, draw_complement, ask_each, say_each}
 use Rattle.read_expressions.proofs.read_draw.Reads as read-draw
-use Rattle.read_expressions.proofs.+draw_rows_expr_has_read_absent_read_draw_read_expr_read_guards_read_two.Lts-read_draw as read-draw-lts
-use Rattle.read_expressions.proofs.+draw_rows_expr_has_read_absent_read_draw_read_expr_read_guards_read_two.Proof.Cycle.{read_draw_at, read_draw_claims}
+use Rattle.read_expressions.proofs.+readers.Lts-read_draw as read-draw-lts
+use Rattle.read_expressions.proofs.+readers.Proof.Cycle.{read_draw_at, read_draw_claims}
 
 -- where the reader starts, from where the operand is read
 abbrev start : (t : ℕ) → read-draw-lts.After-read_expr (read_draw_claims t) (read_draw_at t) read-draw.Post → read-draw-lts.Start (read_draw_claims t) (read_draw_at t) read-draw.Post

@@ -8,8 +8,8 @@ use Rattle.policy_places.proofs.Past.{some_head, some_operand, some_pattern}
 use Rattle.policy_rewriting.proofs.Leaves.{node_code, node_none, code_laid}
 use Rattle.policy_rewriting.proofs.Walks.{told, past_walked, row_room, head_walked, absent_broken, draw_broken, Pattern, draw_pattern, draw_walked, Test, test_room, test_walked}
 use Rattle.policy_rewriting.proofs.vetting.vet_guards.Reads as vet-guards
-use Rattle.policy_rewriting.proofs.vetting.+vet_expr_vet_guards.Lts-vet_guards as vet-guards-lts
-use Rattle.policy_rewriting.proofs.vetting.+vet_expr_vet_guards.Proof.Cycle.{vet_guards_at, vet_guards_claims}
+use Rattle.policy_rewriting.proofs.vetting.+vetting.Lts-vet_guards as vet-guards-lts
+use Rattle.policy_rewriting.proofs.vetting.+vetting.Proof.Cycle.{vet_guards_at, vet_guards_claims}
 
 -- the head
 pub skip_row-next-requires : (t : ℕ) → vet-guards-lts.Need-skip_row-next-requires (vet_guards_claims t) (vet_guards_at t) vet-guards.Post

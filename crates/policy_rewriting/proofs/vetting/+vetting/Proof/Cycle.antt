@@ -5,10 +5,10 @@ use borrow.Fn.Kinds.{In}
 use borrow.Fn.PlainCycle.{Measures, is, falls, and}
 use Rattle.policy_rewriting.proofs.vetting.vet_expr.Reads as vet-expr
 use Rattle.policy_rewriting.proofs.vetting.vet_expr.Kinds as vet-expr-kinds
-use Rattle.policy_rewriting.proofs.vetting.+vet_expr_vet_guards.Lts-vet_expr as vet-expr-lts
+use Rattle.policy_rewriting.proofs.vetting.+vetting.Lts-vet_expr as vet-expr-lts
 use Rattle.policy_rewriting.proofs.vetting.vet_guards.Reads as vet-guards
 use Rattle.policy_rewriting.proofs.vetting.vet_guards.Kinds as vet-guards-kinds
-use Rattle.policy_rewriting.proofs.vetting.+vet_expr_vet_guards.Lts-vet_guards as vet-guards-lts
+use Rattle.policy_rewriting.proofs.vetting.+vetting.Lts-vet_guards as vet-guards-lts
 use Rattle.policy.proofs.is_node.Reads as is-node-reads
 use Rattle.policy_places.proofs.skip.skip_pattern.Reads as skip-pattern-reads
 use Rattle.policy_places.proofs.skip.skip_row.Reads as skip-row-reads

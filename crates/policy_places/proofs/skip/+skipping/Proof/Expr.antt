@@ -9,8 +9,8 @@ use Rattle.policy_places.specs.Places.{SomeBody}
 use Rattle.policy_places.proofs.Places.{inside, inside_body}
 use Rattle.policy_places.proofs.Past.{some_leaf_lem, past_leaf, some_first, some_second, second_after, past_two, some_body, past_body}
 use Rattle.policy_places.proofs.skip.skip_expr.Reads as skip-expr
-use Rattle.policy_places.proofs.skip.+skip_expr_skip_guards.Lts-skip_expr as skip-expr-lts
-use Rattle.policy_places.proofs.skip.+skip_expr_skip_guards.Proof.Cycle.{skip_expr_at, skip_expr_claims}
+use Rattle.policy_places.proofs.skip.+skipping.Lts-skip_expr as skip-expr-lts
+use Rattle.policy_places.proofs.skip.+skipping.Proof.Cycle.{skip_expr_at, skip_expr_claims}
 
 pub offset_bounds-words-at : (t : ℕ) → skip-expr-lts.Need-offset_bounds-words-at (skip_expr_claims t) (skip_expr_at t) skip-expr.Post
 offset_bounds-words-at t c =

@@ -4,8 +4,8 @@ use native.Mathlib.Omega.{arith}
 use Rattle.read_steps.proofs.Areas.{given_back}
 use Rattle.read_expressions.proofs.Guards.{absent_row, absent_room, absent_inside, some_tested, operand_later, ask_has, rest_after, ask_absent_rest, Back, given_back_lem, absent_refused, absent_has, absent_lacks}
 use Rattle.read_expressions.proofs.read_absent.Reads as read-absent
-use Rattle.read_expressions.proofs.+draw_rows_expr_has_read_absent_read_draw_read_expr_read_guards_read_two.Lts-read_absent as read-absent-lts
-use Rattle.read_expressions.proofs.+draw_rows_expr_has_read_absent_read_draw_read_expr_read_guards_read_two.Proof.Cycle.{read_absent_at, read_absent_claims}
+use Rattle.read_expressions.proofs.+readers.Lts-read_absent as read-absent-lts
+use Rattle.read_expressions.proofs.+readers.Proof.Cycle.{read_absent_at, read_absent_claims}
 
 -- where the reader starts, from where the row was looked for
 abbrev start : (t : ℕ) → read-absent-lts.After-expr_has (read_absent_claims t) (read_absent_at t) read-absent.Post → read-absent-lts.Start (read_absent_claims t) (read_absent_at t) read-absent.Post

@@ -9,8 +9,8 @@ use Rattle.policy_places.proofs.Places.{inside}
 use Rattle.read_values.proofs.Lent.{bound_after}
 use Rattle.read_expressions.proofs.Exprs.{long, ask_leaf, done_filled, tested_row, say_leaf_has, say_has_refused, say_has}
 use Rattle.read_expressions.proofs.expr_has.Reads as expr-has
-use Rattle.read_expressions.proofs.+draw_rows_expr_has_read_absent_read_draw_read_expr_read_guards_read_two.Lts-expr_has as expr-has-lts
-use Rattle.read_expressions.proofs.+draw_rows_expr_has_read_absent_read_draw_read_expr_read_guards_read_two.Proof.Cycle.{expr_has_at, expr_has_claims}
+use Rattle.read_expressions.proofs.+readers.Lts-expr_has as expr-has-lts
+use Rattle.read_expressions.proofs.+readers.Proof.Cycle.{expr_has_at, expr_has_claims}
 
 -- where the reader starts, from where the code is told
 abbrev start : (t : ℕ) → expr-has-lts.After-is_node (expr_has_claims t) (expr_has_at t) expr-has.Post → expr-has-lts.Start (expr_has_claims t) (expr_has_at t) expr-has.Post

@@ -15,22 +15,22 @@ use borrow.Fn.Kinds.{In}
 use borrow.Fn.PlainCycle.{Measures, is, falls, and}
 use Rattle.check_expressions.proofs.check_absent.Reads as check-absent
 use Rattle.check_expressions.proofs.check_absent.Kinds as check-absent-kinds
-use Rattle.check_expressions.proofs.+check_absent_check_code_check_draw_check_expr_check_guards_check_two.Lts-check_absent as check-absent-lts
+use Rattle.check_expressions.proofs.+checkers.Lts-check_absent as check-absent-lts
 use Rattle.check_expressions.proofs.check_code.Reads as check-code
 use Rattle.check_expressions.proofs.check_code.Kinds as check-code-kinds
-use Rattle.check_expressions.proofs.+check_absent_check_code_check_draw_check_expr_check_guards_check_two.Lts-check_code as check-code-lts
+use Rattle.check_expressions.proofs.+checkers.Lts-check_code as check-code-lts
 use Rattle.check_expressions.proofs.check_draw.Reads as check-draw
 use Rattle.check_expressions.proofs.check_draw.Kinds as check-draw-kinds
-use Rattle.check_expressions.proofs.+check_absent_check_code_check_draw_check_expr_check_guards_check_two.Lts-check_draw as check-draw-lts
+use Rattle.check_expressions.proofs.+checkers.Lts-check_draw as check-draw-lts
 use Rattle.check_expressions.proofs.check_expr.Reads as check-expr
 use Rattle.check_expressions.proofs.check_expr.Kinds as check-expr-kinds
-use Rattle.check_expressions.proofs.+check_absent_check_code_check_draw_check_expr_check_guards_check_two.Lts-check_expr as check-expr-lts
+use Rattle.check_expressions.proofs.+checkers.Lts-check_expr as check-expr-lts
 use Rattle.check_expressions.proofs.check_guards.Reads as check-guards
 use Rattle.check_expressions.proofs.check_guards.Kinds as check-guards-kinds
-use Rattle.check_expressions.proofs.+check_absent_check_code_check_draw_check_expr_check_guards_check_two.Lts-check_guards as check-guards-lts
+use Rattle.check_expressions.proofs.+checkers.Lts-check_guards as check-guards-lts
 use Rattle.check_expressions.proofs.check_two.Reads as check-two
 use Rattle.check_expressions.proofs.check_two.Kinds as check-two-kinds
-use Rattle.check_expressions.proofs.+check_absent_check_code_check_draw_check_expr_check_guards_check_two.Lts-check_two as check-two-lts
+use Rattle.check_expressions.proofs.+checkers.Lts-check_two as check-two-lts
 use Rattle.check_polarity.proofs.absent_of.Reads as absent-of-reads
 use Rattle.check_leaves.proofs.check_head.Reads as check-head-reads
 use Rattle.check_leaves.proofs.check_leaf.Reads as check-leaf-reads
@@ -41,10 +41,10 @@ use Rattle.check_terms.proofs.read_guard.Reads as read-guard-reads
 use Rattle.check_terms.proofs.read_pattern.Reads as read-pattern-reads
 use Rattle.check_terms.proofs.pass_row.Reads as pass-row-reads
 use Rattle.check_terms.proofs.word_between.Reads as word-between-reads
-use Rattle.check_expressions.proofs.+check_absent_check_code_check_draw_check_expr_check_guards_check_two.{
+use Rattle.check_expressions.proofs.+checkers.{
   statement,
 }
-use Rattle.check_expressions.proofs.+check_absent_check_code_check_draw_check_expr_check_guards_check_two.Tie.{
+use Rattle.check_expressions.proofs.+checkers.Tie.{
   close,
 }
 
@@ -518,9 +518,9 @@ check_two-returns-else-code-eq-CODE_UNION t c =
     difference_found a.levels a.variables a.draws (earlier_is a.earlier) a.code s.requires.1.1 s.requires.1.2
     (facts_answered l.check_expr.ensures l.in-Found.is) (facts_answered r.check_expr-in-Found.ensures r.in-Found-check_expr.is) c.if-code-eq-CODE_UNION.false c.difference_of.ensures
 
-pub +check_absent_check_code_check_draw_check_expr_check_guards_check_two_spec :
+pub +checkers_spec :
     {M : Type 1} → statement M
-+check_absent_check_code_check_draw_check_expr_check_guards_check_two_spec =
++checkers_spec =
     close
     μ_check_absent
     μ_check_code

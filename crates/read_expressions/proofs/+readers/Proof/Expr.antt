@@ -12,8 +12,8 @@ use Rattle.policy_places.proofs.Past.{some_body}
 use Rattle.read_values.proofs.Answers.{cleared}
 use Rattle.read_expressions.proofs.Exprs.{some_expr, long, ask_leaf, ask_two, ask_guards, say_leaf, say_two, say_comprehension}
 use Rattle.read_expressions.proofs.read_expr.Reads as read-expr
-use Rattle.read_expressions.proofs.+draw_rows_expr_has_read_absent_read_draw_read_expr_read_guards_read_two.Lts-read_expr as read-expr-lts
-use Rattle.read_expressions.proofs.+draw_rows_expr_has_read_absent_read_draw_read_expr_read_guards_read_two.Proof.Cycle.{read_expr_at, read_expr_claims}
+use Rattle.read_expressions.proofs.+readers.Lts-read_expr as read-expr-lts
+use Rattle.read_expressions.proofs.+readers.Proof.Cycle.{read_expr_at, read_expr_claims}
 
 -- where the reader starts, from where its code is told
 abbrev start : (t : ℕ) → read-expr-lts.After-is_node (read_expr_claims t) (read_expr_at t) read-expr.Post → read-expr-lts.Start (read_expr_claims t) (read_expr_at t) read-expr.Post

@@ -4,8 +4,8 @@ use native.Mathlib.Omega.{arith}
 use lib.ListN.{length}
 use Rattle.read_expressions.proofs.Exprs.{some_left, ask_left, ask_right, right_after, say_left_refused, say_right_refused, both_filled, say_combined}
 use Rattle.read_expressions.proofs.read_two.Reads as read-two
-use Rattle.read_expressions.proofs.+draw_rows_expr_has_read_absent_read_draw_read_expr_read_guards_read_two.Lts-read_two as read-two-lts
-use Rattle.read_expressions.proofs.+draw_rows_expr_has_read_absent_read_draw_read_expr_read_guards_read_two.Proof.Cycle.{read_two_at, read_two_claims}
+use Rattle.read_expressions.proofs.+readers.Lts-read_two as read-two-lts
+use Rattle.read_expressions.proofs.+readers.Proof.Cycle.{read_two_at, read_two_claims}
 
 -- where the reader starts, from where the left operand is read
 abbrev start : (t : ℕ) → read-two-lts.After-read_expr (read_two_claims t) (read_two_at t) read-two.Post → read-two-lts.Start (read_two_claims t) (read_two_at t) read-two.Post

@@ -3,17 +3,17 @@ mod Expr
 mod Guards
 use borrow.Author.Rules.{rules}
 use Rattle.policy_rewriting.proofs.vetting.vet_expr.Reads as vet-expr
-use Rattle.policy_rewriting.proofs.vetting.+vet_expr_vet_guards.Lts-vet_expr as vet-expr-lts
+use Rattle.policy_rewriting.proofs.vetting.+vetting.Lts-vet_expr as vet-expr-lts
 use Rattle.policy_rewriting.proofs.vetting.vet_guards.Reads as vet-guards
-use Rattle.policy_rewriting.proofs.vetting.+vet_expr_vet_guards.Lts-vet_guards as vet-guards-lts
-use Rattle.policy_rewriting.proofs.vetting.+vet_expr_vet_guards.{statement}
-use Rattle.policy_rewriting.proofs.vetting.+vet_expr_vet_guards.Tie.{close}
-use Rattle.policy_rewriting.proofs.vetting.+vet_expr_vet_guards.Proof.Cycle.{μ_vet_expr, μ_vet_guards, vet_expr_at, vet_guards_at, vet_expr_claims, vet_guards_claims}
-use Rattle.policy_rewriting.proofs.vetting.+vet_expr_vet_guards.Proof.Expr as expr
-use Rattle.policy_rewriting.proofs.vetting.+vet_expr_vet_guards.Proof.Guards as guards
+use Rattle.policy_rewriting.proofs.vetting.+vetting.Lts-vet_guards as vet-guards-lts
+use Rattle.policy_rewriting.proofs.vetting.+vetting.{statement}
+use Rattle.policy_rewriting.proofs.vetting.+vetting.Tie.{close}
+use Rattle.policy_rewriting.proofs.vetting.+vetting.Proof.Cycle.{μ_vet_expr, μ_vet_guards, vet_expr_at, vet_guards_at, vet_expr_claims, vet_guards_claims}
+use Rattle.policy_rewriting.proofs.vetting.+vetting.Proof.Expr as expr
+use Rattle.policy_rewriting.proofs.vetting.+vetting.Proof.Guards as guards
 
-pub +vet_expr_vet_guards_spec : {M : Type 1} → statement M
-+vet_expr_vet_guards_spec = close μ_vet_expr μ_vet_guards (λ t. vet-expr-lts.spec (vet_expr_claims t)
+pub +vetting_spec : {M : Type 1} → statement M
++vetting_spec = close μ_vet_expr μ_vet_guards (λ t. vet-expr-lts.spec (vet_expr_claims t)
     (vet_expr_at t)
     vet-expr.Post
     (expr.read_node-requires t)

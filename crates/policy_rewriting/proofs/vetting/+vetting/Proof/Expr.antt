@@ -12,8 +12,8 @@ use Rattle.policy_places.proofs.Past.{some_leaf_lem, some_first, some_body}
 use Rattle.policy_rewriting.proofs.Leaves.{node_code, node_none, code_node, code_laid}
 use Rattle.policy_rewriting.proofs.Walks.{then_laid, told, is_union_lem, leaf_walked, difference_broken, union_broken, union_walked, union_second, comprehension_walked}
 use Rattle.policy_rewriting.proofs.vetting.vet_expr.Reads as vet-expr
-use Rattle.policy_rewriting.proofs.vetting.+vet_expr_vet_guards.Lts-vet_expr as vet-expr-lts
-use Rattle.policy_rewriting.proofs.vetting.+vet_expr_vet_guards.Proof.Cycle.{vet_expr_at, vet_expr_claims}
+use Rattle.policy_rewriting.proofs.vetting.+vetting.Lts-vet_expr as vet-expr-lts
+use Rattle.policy_rewriting.proofs.vetting.+vetting.Proof.Cycle.{vet_expr_at, vet_expr_claims}
 
 -- where the walk starts, from where its code is told
 abbrev start : (t : ℕ) → vet-expr-lts.After-is_node (vet_expr_claims t) (vet_expr_at t) vet-expr.Post → vet-expr-lts.Start (vet_expr_claims t) (vet_expr_at t) vet-expr.Post

@@ -4,8 +4,8 @@ use mathlib.Core.Path.{◌∙◌}
 use native.Mathlib.Omega.{arith}
 use Rattle.read_expressions.proofs.Draws.{each_room, drawing_start, ask_next, each_refused, each_ended, each_body, each_nearer, drawing_on, each_body_refused, each_done}
 use Rattle.read_expressions.proofs.draw_rows.Reads as draw-rows
-use Rattle.read_expressions.proofs.+draw_rows_expr_has_read_absent_read_draw_read_expr_read_guards_read_two.Lts-draw_rows as draw-rows-lts
-use Rattle.read_expressions.proofs.+draw_rows_expr_has_read_absent_read_draw_read_expr_read_guards_read_two.Proof.Cycle.{draw_rows_at, draw_rows_claims, invariant-loop-i, decreases-loop-i}
+use Rattle.read_expressions.proofs.+readers.Lts-draw_rows as draw-rows-lts
+use Rattle.read_expressions.proofs.+readers.Proof.Cycle.{draw_rows_at, draw_rows_claims, invariant-loop-i, decreases-loop-i}
 
 -- where the reader starts, from where the rows are drawn
 abbrev start : (t : ℕ) → draw-rows-lts.At-loop-i (draw_rows_claims t) (draw_rows_at t) draw-rows.Post invariant-loop-i decreases-loop-i → draw-rows-lts.Start (draw_rows_claims t)

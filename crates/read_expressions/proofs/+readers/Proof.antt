@@ -8,22 +8,22 @@ mod Guards
 mod Two
 use borrow.Author.Rules.{rules}
 use Rattle.read_expressions.proofs.draw_rows.Reads as draw-rows
-use Rattle.read_expressions.proofs.+draw_rows_expr_has_read_absent_read_draw_read_expr_read_guards_read_two.Lts-draw_rows as draw-rows-lts
+use Rattle.read_expressions.proofs.+readers.Lts-draw_rows as draw-rows-lts
 use Rattle.read_expressions.proofs.expr_has.Reads as expr-has
-use Rattle.read_expressions.proofs.+draw_rows_expr_has_read_absent_read_draw_read_expr_read_guards_read_two.Lts-expr_has as expr-has-lts
+use Rattle.read_expressions.proofs.+readers.Lts-expr_has as expr-has-lts
 use Rattle.read_expressions.proofs.read_absent.Reads as read-absent
-use Rattle.read_expressions.proofs.+draw_rows_expr_has_read_absent_read_draw_read_expr_read_guards_read_two.Lts-read_absent as read-absent-lts
+use Rattle.read_expressions.proofs.+readers.Lts-read_absent as read-absent-lts
 use Rattle.read_expressions.proofs.read_draw.Reads as read-draw
-use Rattle.read_expressions.proofs.+draw_rows_expr_has_read_absent_read_draw_read_expr_read_guards_read_two.Lts-read_draw as read-draw-lts
+use Rattle.read_expressions.proofs.+readers.Lts-read_draw as read-draw-lts
 use Rattle.read_expressions.proofs.read_expr.Reads as read-expr
-use Rattle.read_expressions.proofs.+draw_rows_expr_has_read_absent_read_draw_read_expr_read_guards_read_two.Lts-read_expr as read-expr-lts
+use Rattle.read_expressions.proofs.+readers.Lts-read_expr as read-expr-lts
 use Rattle.read_expressions.proofs.read_guards.Reads as read-guards
-use Rattle.read_expressions.proofs.+draw_rows_expr_has_read_absent_read_draw_read_expr_read_guards_read_two.Lts-read_guards as read-guards-lts
+use Rattle.read_expressions.proofs.+readers.Lts-read_guards as read-guards-lts
 use Rattle.read_expressions.proofs.read_two.Reads as read-two
-use Rattle.read_expressions.proofs.+draw_rows_expr_has_read_absent_read_draw_read_expr_read_guards_read_two.Lts-read_two as read-two-lts
-use Rattle.read_expressions.proofs.+draw_rows_expr_has_read_absent_read_draw_read_expr_read_guards_read_two.{statement}
-use Rattle.read_expressions.proofs.+draw_rows_expr_has_read_absent_read_draw_read_expr_read_guards_read_two.Tie.{close}
-use Rattle.read_expressions.proofs.+draw_rows_expr_has_read_absent_read_draw_read_expr_read_guards_read_two.Proof.Cycle.{
+use Rattle.read_expressions.proofs.+readers.Lts-read_two as read-two-lts
+use Rattle.read_expressions.proofs.+readers.{statement}
+use Rattle.read_expressions.proofs.+readers.Tie.{close}
+use Rattle.read_expressions.proofs.+readers.Proof.Cycle.{
   μ_draw_rows,
   μ_expr_has,
   μ_read_absent,
@@ -48,16 +48,16 @@ use Rattle.read_expressions.proofs.+draw_rows_expr_has_read_absent_read_draw_rea
   invariant-loop-i,
   decreases-loop-i,
 }
-use Rattle.read_expressions.proofs.+draw_rows_expr_has_read_absent_read_draw_read_expr_read_guards_read_two.Proof.Rows as rows
-use Rattle.read_expressions.proofs.+draw_rows_expr_has_read_absent_read_draw_read_expr_read_guards_read_two.Proof.Has as has
-use Rattle.read_expressions.proofs.+draw_rows_expr_has_read_absent_read_draw_read_expr_read_guards_read_two.Proof.Absent as absent
-use Rattle.read_expressions.proofs.+draw_rows_expr_has_read_absent_read_draw_read_expr_read_guards_read_two.Proof.Draw as draw
-use Rattle.read_expressions.proofs.+draw_rows_expr_has_read_absent_read_draw_read_expr_read_guards_read_two.Proof.Expr as expr
-use Rattle.read_expressions.proofs.+draw_rows_expr_has_read_absent_read_draw_read_expr_read_guards_read_two.Proof.Guards as guards
-use Rattle.read_expressions.proofs.+draw_rows_expr_has_read_absent_read_draw_read_expr_read_guards_read_two.Proof.Two as two
+use Rattle.read_expressions.proofs.+readers.Proof.Rows as rows
+use Rattle.read_expressions.proofs.+readers.Proof.Has as has
+use Rattle.read_expressions.proofs.+readers.Proof.Absent as absent
+use Rattle.read_expressions.proofs.+readers.Proof.Draw as draw
+use Rattle.read_expressions.proofs.+readers.Proof.Expr as expr
+use Rattle.read_expressions.proofs.+readers.Proof.Guards as guards
+use Rattle.read_expressions.proofs.+readers.Proof.Two as two
 
-pub +draw_rows_expr_has_read_absent_read_draw_read_expr_read_guards_read_two_spec : {M : Type 1} → statement M
-+draw_rows_expr_has_read_absent_read_draw_read_expr_read_guards_read_two_spec =
+pub +readers_spec : {M : Type 1} → statement M
++readers_spec =
     close
     μ_draw_rows
     μ_expr_has

@@ -4,8 +4,8 @@ use native.Mathlib.Omega.{arith}
 use Rattle.policy_places.proofs.Places.{inside_body}
 use Rattle.policy_places.proofs.Past.{some_head, past_head, some_operand, some_pattern, draw_rest, draw_after, past_draw, some_row, some_inner, inner_after, absent_rest, absent_after, past_absent, test_rest, past_test}
 use Rattle.policy_places.proofs.skip.skip_guards.Reads as skip-guards
-use Rattle.policy_places.proofs.skip.+skip_expr_skip_guards.Lts-skip_guards as skip-guards-lts
-use Rattle.policy_places.proofs.skip.+skip_expr_skip_guards.Proof.Cycle.{skip_guards_at, skip_guards_claims}
+use Rattle.policy_places.proofs.skip.+skipping.Lts-skip_guards as skip-guards-lts
+use Rattle.policy_places.proofs.skip.+skipping.Proof.Cycle.{skip_guards_at, skip_guards_claims}
 
 pub skip_row-requires : (t : ℕ) → skip-guards-lts.Need-skip_row-requires (skip_guards_claims t) (skip_guards_at t) skip-guards.Post
 skip_row-requires t c κs = some_head c.requires.1 c.if-left-eq0.true

@@ -5,10 +5,10 @@ use borrow.Fn.Kinds.{In}
 use borrow.Fn.PlainCycle.{Measures, is, falls, and}
 use Rattle.policy_places.proofs.skip.skip_expr.Reads as skip-expr
 use Rattle.policy_places.proofs.skip.skip_expr.Kinds as skip-expr-kinds
-use Rattle.policy_places.proofs.skip.+skip_expr_skip_guards.Lts-skip_expr as skip-expr-lts
+use Rattle.policy_places.proofs.skip.+skipping.Lts-skip_expr as skip-expr-lts
 use Rattle.policy_places.proofs.skip.skip_guards.Reads as skip-guards
 use Rattle.policy_places.proofs.skip.skip_guards.Kinds as skip-guards-kinds
-use Rattle.policy_places.proofs.skip.+skip_expr_skip_guards.Lts-skip_guards as skip-guards-lts
+use Rattle.policy_places.proofs.skip.+skipping.Lts-skip_guards as skip-guards-lts
 use Rattle.policy_places.proofs.skip.skip_pattern.Reads as skip-pattern-reads
 use Rattle.policy_places.proofs.skip.skip_row.Reads as skip-row-reads
 use Rattle.policy_places.proofs.skip.skip_leaf.Reads as skip-leaf-reads

@@ -6,8 +6,8 @@ use Rattle.policy_places.proofs.Places.{inside_body}
 use Rattle.policy_places.proofs.Held.{guard_told}
 use Rattle.read_expressions.proofs.Guards.{some_head, some_guard, ask_draw, ask_absent, ask_compared, say_head, say_draw, say_absent, say_passes, say_fails}
 use Rattle.read_expressions.proofs.read_guards.Reads as read-guards
-use Rattle.read_expressions.proofs.+draw_rows_expr_has_read_absent_read_draw_read_expr_read_guards_read_two.Lts-read_guards as read-guards-lts
-use Rattle.read_expressions.proofs.+draw_rows_expr_has_read_absent_read_draw_read_expr_read_guards_read_two.Proof.Cycle.{read_guards_at, read_guards_claims}
+use Rattle.read_expressions.proofs.+readers.Lts-read_guards as read-guards-lts
+use Rattle.read_expressions.proofs.+readers.Proof.Cycle.{read_guards_at, read_guards_claims}
 
 -- where the reader starts, from where the first guard is read
 abbrev start : (t : ℕ) → read-guards-lts.After-guard_at-guard (read_guards_claims t) (read_guards_at t) read-guards.Post → read-guards-lts.Start (read_guards_claims t) (read_guards_at t) read-guards.Post
