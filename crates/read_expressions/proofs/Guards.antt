@@ -241,6 +241,10 @@ module _ {f : From} {ws : List ℕ} {at left : ℕ} {values : List ℕ} {count :
   pub absent_inside : free ≤ length area
   absent_inside = omega (arith, absent_room)
 
+  -- the area again, where `ys` was left in the part that was lent
+  pub absent_back : (ys : List ℕ) (size : length ys ≡ length (take (length area - free) (drop free area))) → Back area free (given_back area free ys absent_inside size)
+  absent_back ys size = given_back_lem area free ys absent_inside q.ask.behind size
+
   module _ {operand : ℕ} (past : PastRow ws at operand) where
     pub some_tested : SomeExpr ws operand
     some_tested = record { scope = scope_in f; n = count; e = q.e; here = operand_here past q.here }

@@ -1,23 +1,10 @@
 -- The needs of `read_absent`.
 use Prim.Native.Nat.{ℕ}
 use native.Mathlib.Omega.{arith}
-use Rattle.read_steps.proofs.Areas.{given_back}
-use Rattle.read_expressions.proofs.Guards.{absent_row, absent_room, absent_inside, some_tested, operand_later, ask_has, rest_after, ask_absent_rest, Back, given_back_lem, absent_refused, absent_has, absent_lacks}
+use Rattle.read_expressions.proofs.Guards.{absent_row, absent_room, some_tested, operand_later, ask_has, rest_after, absent_back, ask_absent_rest, absent_refused, absent_has, absent_lacks}
 use Rattle.read_expressions.proofs.read_absent.Reads as read-absent
 use Rattle.read_expressions.proofs.+readers.Lts-read_absent as read-absent-lts
 use Rattle.read_expressions.proofs.+readers.Proof.Cycle.{read_absent_at, read_absent_claims}
-
--- where the reader starts, from where the row was looked for
-abbrev start : (t : ℕ) → read-absent-lts.After-expr_has (read_absent_claims t) (read_absent_at t) read-absent.Post → read-absent-lts.Start (read_absent_claims t) (read_absent_at t) read-absent.Post
-start t c = c.before.before.before.before.before.before.before.before.before.before
-
--- where the row was looked for, from where the guards that follow are read
-abbrev tested : (t : ℕ) → read-absent-lts.After-read_guards (read_absent_claims t) (read_absent_at t) read-absent.Post → read-absent-lts.After-expr_has (read_absent_claims t) (read_absent_at t) read-absent.Post
-tested t c = c.before.before.before.before.before.before.before
-
-back : (t : ℕ) (c : read-absent-lts.After-expr_has (read_absent_claims t) (read_absent_at t) read-absent.Post) → Back (start t c).args.area.now (start t c).args.free
-    (given_back (start t c).args.area.now (start t c).args.free c.expr_has.new.area (absent_inside (start t c).requires.1) c.expr_has.auto.area)
-back t c = given_back_lem (start t c).args.area.now (start t c).args.free c.expr_has.new.area (absent_inside (start t c).requires.1) (start t c).requires.1.ask.behind c.expr_has.auto.area
 
 pub skip_row-operand-requires : (t : ℕ) → read-absent-lts.Need-skip_row-operand-requires (read_absent_claims t) (read_absent_at t) read-absent.Post
 skip_row-operand-requires t c κs = absent_row c.requires.1
@@ -42,28 +29,27 @@ expr_has-requires t c κs =
     (omega arith, ask_has q.1 c.skip_row-operand.ensures)
 
 pub skip_expr-rest-requires : (t : ℕ) → read-absent-lts.Need-skip_expr-rest-requires (read_absent_claims t) (read_absent_at t) read-absent.Post
-skip_expr-rest-requires t c κs = some_tested (start t c.before.before.before).requires.1 c.skip_row-operand.ensures
+skip_expr-rest-requires t c κs = some_tested c.requires.1 c.skip_row-operand.ensures
 
 pub read_guards-requires : (t : ℕ) → read-absent-lts.Need-read_guards-requires (read_absent_claims t) (read_absent_at t) read-absent.Post
 read_guards-requires t c κs =
-    let q = (start t c.before.before.before.before.before.before).requires in
+    let q = c.requires in
     let measure = q.0 in
     let later = rest_after q.1 c.skip_row-operand.ensures c.skip_expr-rest.ensures in (
       omega arith,
       ask_absent_rest q.1 c.skip_row-operand.ensures c.skip_expr-rest.ensures
-          c.expr_has.ensures.unchanged (back t c.before.before.before.before.before.before),
+          c.expr_has.ensures.unchanged (absent_back q.1 c.expr_has.new.area c.expr_has.auto.area),
     )
 
 pub returns-in-Refused : (t : ℕ) → read-absent-lts.Need-returns-in-Refused (read_absent_claims t) (read_absent_at t) read-absent.Post
 returns-in-Refused t c = absent_refused c.skip_row-operand.ensures c.expr_has.ensures
-    (back t c.before.before.before) c.in-Refused.is
+    (absent_back c.requires.1 c.expr_has.new.area c.expr_has.auto.area) c.in-Refused.is
 
 pub returns-in-Has : (t : ℕ) → read-absent-lts.Need-returns-in-Has (read_absent_claims t) (read_absent_at t) read-absent.Post
 returns-in-Has t c = absent_has c.skip_row-operand.ensures c.expr_has.ensures
-    (back t c.before.before.before) (start t c.before.before.before).requires.1.ask.gathering c.in-Has.is
+    (absent_back c.requires.1 c.expr_has.new.area c.expr_has.auto.area) c.requires.1.ask.gathering c.in-Has.is
 
 pub returns-in-Lacks : (t : ℕ) → read-absent-lts.Need-returns-in-Lacks (read_absent_claims t) (read_absent_at t) read-absent.Post
-returns-in-Lacks t c =
-    absent_lacks (tested t c.before.before).skip_row-operand.ensures (tested t c.before.before).expr_has.ensures (back t (tested t c.before.before))
-    (start t (tested t c.before.before)).requires.1.ask.gathering c.in-Lacks.is
+returns-in-Lacks t c = absent_lacks c.skip_row-operand.ensures c.expr_has.ensures
+    (absent_back c.requires.1 c.expr_has.new.area c.expr_has.auto.area) c.requires.1.ask.gathering c.in-Lacks.is
     c.skip_expr-rest.ensures c.read_guards.ensures
