@@ -20,3 +20,4 @@ pub mod Part
 pub mod External
 pub mod Rewritten
 pub mod Held
+pub mod Codes

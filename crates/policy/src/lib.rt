@@ -5,6 +5,8 @@
 ghost use Rattle.std.specs.Prelude.{◌≡◌};
 ghost use Rattle.policy.specs.Decode.{is_node};
 
+pub mod codes;
+
 // A policy's word 0: patterns match rows of their own width, or by the first atoms of rows of at least their width.
 pub const EQUAL_WIDTHS: u32 = 1;
 
@@ -44,21 +46,21 @@ pub const TAG_VARIABLE: u32 = 1;
 
 pub const TAG_NEW: u32 = 2;
 
-#[derive(Clone, Copy)]
+#[derive(Clone, Copy, Debug, PartialEq, Eq)]
 pub enum Term {
     Atom(u32),
     Variable(u32),
 }
 
 // A new variable's number is the count of those in scope, so it is not kept.
-#[derive(Clone, Copy)]
+#[derive(Clone, Copy, Debug, PartialEq, Eq)]
 pub enum Slot {
     Old(Term),
     New,
 }
 
 // A guard as far as its expression: a comparison whole, of the others the code.
-#[derive(Clone, Copy)]
+#[derive(Clone, Copy, Debug, PartialEq, Eq)]
 pub enum Guard {
     Draw,
     Same(Term, Term),

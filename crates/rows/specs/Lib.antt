@@ -3,6 +3,7 @@ pub mod Ordered
 pub mod Row
 pub mod SideBySide
 pub mod Name
+pub mod Polarities
 pub mod Sets
 pub mod Layout
 pub mod Records

@@ -1,15 +1,46 @@
-// Rows, their order, and sets of rows: no code, the definitions are in `specs/` and what is shown of them in `proofs/`.
+// Rows, their order, and sets of rows: the definitions are in `specs/` and what is shown of them in `proofs/`. Here is what the code tests against.
 #![tactic(auto)]
 
-// What the code tests against:
+ghost use Rattle.std.specs.Prelude.{◌≡◌};
+ghost use Rattle.rows.specs.Polarities.{polarity_number, turned};
 
-// "An atom is a word: below 2,147,483,648 a number, from there up a key."
+use std::ops::Not;
+
+/// The first atom that is a key; those below are numbers.
 pub const FIRST_KEY: u32 = 2147483648;
 
-// "A name is 0 to 65,535 with a polarity."
+/// The last number of a name.
 pub const LAST_NAME: u32 = 65535;
 
-// "No set lists over 128 rows, so a set takes 642 words."
+/// The most rows that a set lists; so a set takes 642 words.
 pub const MOST_ROWS: usize = 128;
 
 pub const SET_ROOM: usize = 2 + 5 * MOST_ROWS;
+
+/// Whether a name's list says which rows it has, or which it has not.
+#[derive(Clone, Copy, Debug, PartialEq, Eq)]
+pub enum Polarity {
+    Plus = 0,
+    Minus = 1,
+}
+
+impl From<Polarity> for u32 {
+    ghost from_gives = { λ p n. n ≡ polarity_number p };
+
+    fn from(polarity: Polarity) -> u32 {
+        polarity as u32
+    }
+}
+
+impl Not for Polarity {
+    type Output = Polarity;
+
+    ghost not_gives = { λ p q. q ≡ turned p };
+
+    fn not(self) -> Polarity {
+        match self {
+            Polarity::Plus => Polarity::Minus,
+            Polarity::Minus => Polarity::Plus,
+        }
+    }
+}
