@@ -7,9 +7,9 @@ use lib.Dec.{ltb, eqb}
 use lib.ListN.{get_or}
 use borrow.Author.Tests.{ltb-true, ltb-false, eqb-true}
 use Rattle.rows.proofs.Case.{Case, is_true, is_false, split, and_true}
-use Rattle.calendar.specs.Gregorian.{leap, february_days, months, days_of_first, year_days, years_from}
+use Rattle.calendar.specs.Gregorian.{leap, february_days, months, days_of_first, whole_in, year_days, years_from}
 use Rattle.calendar.specs.Converter.{years}
-use Rattle.calendar.proofs.Lengths.{first_more, Falls}
+use Rattle.calendar.proofs.Lengths.{first_more, Falls, falls_whole}
 
 -- the test passes at each number below n
 each : (ℕ → Bool) → ℕ → Bool
@@ -41,6 +41,9 @@ pub years_fall : (days : ℕ) → days < 36525 → Falls days (days * 4 / 1461) 
 years_fall days h =
     let n = days * 4 / 1461 in
     record { from = omega (arith, years_closed n (omega arith)); until = omega (arith, years_closed (suc n) (omega arith)) }
+
+pub years_whole : (days : ℕ) → days < 36525 → whole_in days years ≡ days * 4 / 1461
+years_whole days h = falls_whole days (days * 4 / 1461) years (years_fall days h)
 
 -- ---- months
 pub february_long : (b : Bool) → (28 ≤ february_days b) × (february_days b ≤ 29)

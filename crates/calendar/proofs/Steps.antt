@@ -32,6 +32,11 @@ month_found days k b h e =
     let w = whole_falls days (months b) (rw (count_months b) h) in
     record { few = omega (arith, w.among, count_months b); from = rw e w.falls.from }
 
+-- the month of a minute, from its year and the days before that year
+pub month_reached : (m y s k : ℕ) → m < end → y ≡ whole_in (m / 1440) years → s ≡ days_of_first y years → k ≡ whole_in (m / 1440 - s) (months (leap (first_year + y))) →
+    InMonth (m / 1440 - s) k (leap (first_year + y))
+month_reached m y s k h p q r = month_found (m / 1440 - s) k (leap (first_year + y)) (omega (arith, year_found m y h p)) r
+
 -- the date, from what each step finds
 pub date_by_steps : (m y s k t : ℕ) → y ≡ whole_in (m / 1440) years → s ≡ days_of_first y years → k ≡ whole_in (m / 1440 - s) (months (leap (first_year + y))) →
     t ≡ days_of_first k (months (leap (first_year + y))) → date_of (first_year + y) (k + 1) (m / 1440 - s - t + 1) (m % 1440 / 60) (m % 60) ≡ date_at m

@@ -1,10 +1,10 @@
--- Document 02, N4: "Add a converter both ways between minutes and Gregorian year, month, day, hour, minute for 2000 to 2099."
+-- The converter both ways between minutes and Gregorian year, month, day, hour and minute, for 2000 to 2099.
 use Rattle.std.specs.Prelude.{ℕ, ◌+◌, ◌-◌, ◌*◌, ◌/◌, ◌%◌, Bool, true, false, ◌&&◌, List, [], ◌∷◌, leb, ltb, get_or}
 use Rattle.refusals.specs.RefusalTable.{bad_date}
 use Rattle.rows.specs.Ordered.{words_before}
 use Rattle.calendar.specs.Gregorian.{leap, months, days_of_first, whole_in, years_from}
 
--- "Gregorian year, month, day, hour, minute", any five numbers
+-- a Gregorian year, month, day, hour and minute: any five numbers
 pub record Date : Type 0 where
   pub year : ℕ
   pub month : ℕ
@@ -15,7 +15,7 @@ pub record Date : Type 0 where
 abbrev pub date_of : ℕ → ℕ → ℕ → ℕ → ℕ → Date
 date_of y mo d h mi = record { year = y; month = mo; day = d; hour = h; minute = mi }
 
--- "for 2000 to 2099"
+-- the years that the converter knows
 abbrev pub first_year : ℕ
 first_year = 2000
 
@@ -37,7 +37,7 @@ exists d =
     within first_year last_year d.year && (within 1 12 d.month && (within 1 (get_or (months (leap d.year)) (d.month - 1) 0) d.day
     && (ltb d.hour 24 && ltb d.minute 60)))
 
--- minutes "counted from 2000-01-01 00:00 UTC": a day has 24 hours of 60 minutes, and before it lie the days of the whole years,
+-- the minutes since 2000-01-01 00:00 UTC: a day has 24 hours of 60 minutes, and before it lie the days of the whole years,
 -- of the whole months and of its own month
 unfoldable pub minutes_of : Date → ℕ
 unfolding leap months days_of_first years
@@ -60,7 +60,7 @@ pub data Reply (A : Type 0) : Type 0 where
   converted : A → Reply A
   refused : ℕ → Reply A
 
--- "Errors: 16, a date that doesn't exist or lies outside those years, from the converter alone"; a minute is refused when its date is
+-- a date that is not on the calendar, or lies outside those years, is refused, and a minute is refused when its date is
 unfoldable pub minutes_reply : Date → Reply ℕ
 unfolding exists minutes_of
 minutes_reply d = elim (exists d) [ true ↦ converted (minutes_of d) | false ↦ refused bad_date ]

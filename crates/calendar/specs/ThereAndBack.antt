@@ -1,4 +1,4 @@
--- Document 02, N4, the converter: what holds of its two replies together. Shown in proofs/ThereAndBack.antt.
+-- What holds of the converter's two replies together. Shown in proofs/ThereAndBack.antt.
 use Rattle.std.specs.Prelude.{ℕ, ◌<◌, ◌≤◌, ◌≡◌, true, false, ltb}
 use Rattle.refusals.specs.RefusalTable.{bad_date}
 use Rattle.calendar.specs.Gregorian.{leap}

@@ -1,13 +1,15 @@
-// The converter between minutes and dates, for 2000 to 2099: two calls, each of a few sums and quotients.
+// The converter between minutes and dates, for 2000 to 2099: two conversions, each of a few sums and quotients.
 #![tactic(auto)]
 
 ghost use Rattle.std.specs.Prelude.{◌+◌, ◌-◌, ◌≤◌, ◌<◌, ◌≡◌, get_or};
 ghost use Rattle.calendar.specs.Gregorian.{leap, february_days, months, days_of_first, whole_in};
-ghost use Rattle.calendar.specs.Converter.{date_of, years, exists, minutes_reply, date_reply};
-ghost use Rattle.calendar.specs.Reply.{minutes_is, dated_is};
+ghost use Rattle.calendar.specs.Converter.{years, exists};
+ghost use Rattle.calendar.specs.Reply.{date_is};
 
-// A date on the calendar, its months and days counted from 1.
-#[derive(Clone, Copy)]
+use refusals::Refusal;
+
+/// Five numbers that may be a date of the Gregorian calendar and a time, in UTC. Months and days count from 1.
+#[derive(Clone, Copy, Debug, PartialEq, Eq)]
 pub struct Date {
     pub year: u32,
     pub month: u32,
@@ -16,19 +18,9 @@ pub struct Date {
     pub minute: u32,
 }
 
-// The minutes of a date, or the number of a refusal.
-#[derive(Clone, Copy)]
-pub enum Minutes {
-    Converted(u32),
-    Refused(u32),
-}
-
-// The date of a minute, or the number of a refusal.
-#[derive(Clone, Copy)]
-pub enum Dated {
-    Converted(Date),
-    Refused(u32),
-}
+/// The minutes that have passed since 2000-01-01 00:00 UTC.
+#[derive(Clone, Copy, Debug, PartialEq, Eq, PartialOrd, Ord)]
+pub struct Minute(pub u32);
 
 const FIRST_YEAR: u32 = 2000;
 
@@ -44,6 +36,7 @@ const HOUR: u32 = 60;
 // The minutes of the hundred years.
 const END: u32 = 52596000;
 
+#[tactic(auto, using(std::proofs::lemmas::Bool::Decides::nat_tests), unfolding(crate::specs::Gregorian::leap))]
 fn is_leap(year: u32) -> bool
     ensures { result ≡ leap year }
 {
@@ -51,6 +44,7 @@ fn is_leap(year: u32) -> bool
 }
 
 // The days of the first n years: each has 365, and every fourth, from the first on, one more.
+#[tactic(auto, using(crate::proofs::ClosedForms::years_closed))]
 fn days_of_years(n: u32) -> u32
     requires { n ≤ 99 }
     ensures { result ≡ days_of_first n years }
@@ -59,6 +53,7 @@ fn days_of_years(n: u32) -> u32
 }
 
 // How many years pass whole in so many days of the hundred years: four years have 1461.
+#[tactic(auto, using(crate::proofs::ClosedForms::years_whole))]
 fn years_in(days: u32) -> u32
     requires { days < 36525 }
     ensures { result ≡ whole_in days years }
@@ -74,6 +69,7 @@ fn february(year: u32) -> u32
 }
 
 // The days of the first n months. Had February 30 days, the twelve would have 367, spread evenly.
+#[tactic(auto, using(crate::proofs::ClosedForms::months_first, crate::proofs::ClosedForms::months_later))]
 fn days_of_months(year: u32, n: u32) -> u32
     requires { n ≤ 12 }
     ensures { result ≡ days_of_first n (months (leap year)) }
@@ -100,6 +96,7 @@ fn months_in(year: u32, days: u32) -> u32
 }
 
 // The days of one month.
+#[tactic(auto, using(crate::proofs::ClosedForms::month_more))]
 fn month_days(year: u32, month: u32) -> u32
     requires { (1 ≤ month) × (month ≤ 12) }
     ensures { result ≡ get_or (months (leap year)) (month - 1) 0 }
@@ -107,67 +104,72 @@ fn month_days(year: u32, month: u32) -> u32
     days_of_months(year, month) - days_of_months(year, month - 1)
 }
 
-// The five numbers are a date on the calendar, in 2000 to 2099.
-fn is_date(year: u32, month: u32, day: u32, hour: u32, minute: u32) -> bool
-    ensures { result ≡ exists (date_of year month day hour minute) }
-{
-    if year < FIRST_YEAR {
-        return false;
+impl Date {
+    // The five numbers are a date on the calendar, in 2000 to 2099.
+    #[tactic(auto, using(std::proofs::lemmas::Bool::Decides::nat_tests), unfolding(crate::specs::Converter::exists))]
+    fn exists(self) -> bool
+        ensures { result ≡ exists (date_is self) }
+    {
+        let Date {
+            year: FIRST_YEAR..=LAST_YEAR,
+            month: 1..=12,
+            day,
+            hour: ..HOURS,
+            minute: ..HOUR,
+        } = self
+        else {
+            return false;
+        };
+        1 <= day && day <= month_days(self.year, self.month)
     }
-    if LAST_YEAR < year {
-        return false;
-    }
-    if month < 1 {
-        return false;
-    }
-    if 12 < month {
-        return false;
-    }
-    if day < 1 {
-        return false;
-    }
-    if month_days(year, month) < day {
-        return false;
-    }
-    if HOURS <= hour {
-        return false;
-    }
-    if HOUR <= minute {
-        return false;
-    }
-    true
 }
 
-// The minutes from 2000-01-01 00:00 to a date, or 16.
-pub fn minutes_of(year: u32, month: u32, day: u32, hour: u32, minute: u32) -> Minutes
-    ensures { minutes_is result ≡ minutes_reply (date_of year month day hour minute) }
-{
-    if !is_date(year, month, day, hour, minute) {
-        return Minutes::Refused(refusals::BAD_DATE);
+/// A date that is not on the calendar, or not in 2000 to 2099, is refused as `Refusal::BadDate`.
+impl TryFrom<Date> for Minute {
+    type Error = Refusal;
+
+    ghost use Rattle.calendar.specs.Converter.{minutes_reply};
+    ghost use Rattle.calendar.specs.Reply.{date_is, minute_is};
+
+    ghost try_from_gives = { λ date r. minute_is r ≡ minutes_reply (date_is date) };
+
+    fn try_from(date: Date) -> Result<Minute, Refusal> {
+        if !date.exists() {
+            return Err(Refusal::BadDate);
+        }
+        let years = days_of_years(date.year - FIRST_YEAR);
+        let months = days_of_months(date.year, date.month - 1);
+        let days = years + months + (date.day - 1);
+        Ok(Minute(days * DAY + date.hour * HOUR + date.minute))
     }
-    let years = days_of_years(year - FIRST_YEAR);
-    let months = days_of_months(year, month - 1);
-    Minutes::Converted((years + months + (day - 1)) * DAY + hour * HOUR + minute)
 }
 
-// The date that lies so many minutes after 2000-01-01 00:00, or 16.
-pub fn date_at(minutes: u32) -> Dated
-    ensures { dated_is result ≡ date_reply minutes }
-{
-    if END <= minutes {
-        return Dated::Refused(refusals::BAD_DATE);
+/// A minute after 2099 is refused as `Refusal::BadDate`.
+impl TryFrom<Minute> for Date {
+    type Error = Refusal;
+
+    ghost use Rattle.calendar.specs.Converter.{date_reply};
+    ghost use Rattle.calendar.specs.Reply.{dated_is};
+
+    ghost try_from_gives = { λ minute r. dated_is r ≡ date_reply minute.0 };
+
+    fn try_from(minute: Minute) -> Result<Date, Refusal> {
+        let Minute(minutes) = minute;
+        if END <= minutes {
+            return Err(Refusal::BadDate);
+        }
+        let days = minutes / DAY;
+        let passed = years_in(days);
+        let year = FIRST_YEAR + passed;
+        let left = days - days_of_years(passed);
+        let over = months_in(year, left);
+        let day = left - days_of_months(year, over) + 1;
+        Ok(Date {
+            year,
+            month: over + 1,
+            day,
+            hour: minutes % DAY / HOUR,
+            minute: minutes % HOUR,
+        })
     }
-    let days = minutes / DAY;
-    let passed = years_in(days);
-    let year = FIRST_YEAR + passed;
-    let left = days - days_of_years(passed);
-    let over = months_in(year, left);
-    let day = left - days_of_months(year, over) + 1;
-    Dated::Converted(Date {
-        year,
-        month: over + 1,
-        day,
-        hour: minutes % DAY / HOUR,
-        minute: minutes % HOUR,
-    })
 }

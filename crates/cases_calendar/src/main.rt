@@ -9,34 +9,35 @@
 
 ghost use Rattle.std.specs.Prelude.{◌≤◌, length};
 
-use calendar::{Dated, Minutes, date_at, minutes_of};
+use calendar::{Date, Minute};
 use cases::{
     after, cell_end, first_word, is_at, is_bar, next_line, read_words, say, say_number, say_words,
 };
+use refusals::Refusal;
 
-fn say_refused(number: u32) {
+fn say_refused(refusal: Refusal) {
     say(b": refused ");
-    say_number(number);
+    say_number(u32::from(refusal));
 }
 
-fn say_minutes(minutes: Minutes) {
-    match minutes {
-        Minutes::Converted(count) => {
+fn say_minutes(outcome: Result<Minute, Refusal>) {
+    match outcome {
+        Ok(Minute(count)) => {
             say(b": ");
             say_number(count);
         }
-        Minutes::Refused(number) => say_refused(number),
+        Err(refusal) => say_refused(refusal),
     }
 }
 
-fn say_dated(dated: Dated) {
-    match dated {
-        Dated::Converted(date) => {
+fn say_dated(outcome: Result<Date, Refusal>) {
+    match outcome {
+        Ok(date) => {
             let words = [date.year, date.month, date.day, date.hour, date.minute];
             say(b":");
             say_words(&words);
         }
-        Dated::Refused(number) => say_refused(number),
+        Err(refusal) => say_refused(refusal),
     }
 }
 
@@ -44,9 +45,17 @@ fn say_dated(dated: Dated) {
 fn minutes_at(text: &[u8], at: usize)
     requires { at ≤ length text.now }
 {
-    let mut date = [0u32; 5];
-    read_words(text, at, &mut date);
-    say_minutes(minutes_of(date[0], date[1], date[2], date[3], date[4]));
+    let mut words = [0u32; 5];
+    read_words(text, at, &mut words);
+    let [year, month, day, hour, minute] = words;
+    let date = Date {
+        year,
+        month,
+        day,
+        hour,
+        minute,
+    };
+    say_minutes(Minute::try_from(date));
 }
 
 // What a line asks at `at`.
@@ -56,7 +65,7 @@ fn convert(text: &[u8], at: usize)
     if is_at(text, at, b'm') {
         minutes_at(text, at);
     } else {
-        say_dated(date_at(first_word(text, at)));
+        say_dated(Date::try_from(Minute(first_word(text, at))));
     }
 }
 
