@@ -1,12 +1,9 @@
 -- What filing, judging, rewriting and asking hand out is what their definitions say, one law for each way that a call returns.
 use Prim.Native.Nat.{ℕ}
-use mathlib.Core.Path.{◌≡◌, sym, ap}
+use mathlib.Core.Path.{◌≡◌}
 use mathlib.Core.List.{List}
 use Rattle.refusals.specs.RefusalTable.{no_part}
 use Rattle.certificates.specs.Stores.{Stores}
-use Rattle.store.specs.Reply.{filing_is}
-use Rattle.store.specs.declared.Filing.{Filing}
-use Rattle.store.specs.declared.Filing.TheVariants as filing
 use Rattle.policy.specs.Judgement as Judged
 use Rattle.policy.proofs.Basics.{impossible}
 use Rattle.judging.specs.Reply.{judgement_for}
@@ -21,21 +18,7 @@ use Rattle.demands.specs.Query.{Outcome, answered, refused, Call, query_call, dr
 use Rattle.engine.specs.Reply.{reply_for, Replied}
 use Rattle.engine.specs.declared.Reply.{Reply}
 use Rattle.engine.specs.declared.Reply.TheVariants as reply
-use Rattle.capi.specs.Replies.{filing_word, no_refusal, no_verdict, hand_judgement, hand_rewriting, RewrittenInto, hand_outcome, Asked}
-
--- filing
-module _ (r : Filing) where
-  pub filed_word : r ≡ filing.Filed → 0 ≡ filing_word (filing_is r)
-  unfolding filing_is filing_word
-  filed_word e = ap (λ (f : Filing). filing_word (filing_is f)) (sym e)
-
-  pub held_word : r ≡ filing.Held → 1 ≡ filing_word (filing_is r)
-  unfolding filing_is filing_word
-  held_word e = ap (λ (f : Filing). filing_word (filing_is f)) (sym e)
-
-  pub refused_word : (n : ℕ) → r ≡ filing.Refused n → n ≡ filing_word (filing_is r)
-  unfolding filing_is filing_word
-  refused_word n e = ap (λ (f : Filing). filing_word (filing_is f)) (sym e)
+use Rattle.capi.specs.Replies.{no_refusal, no_verdict, hand_judgement, hand_rewriting, RewrittenInto, hand_outcome, Asked}
 
 -- judging
 pub hands_verdict : (j : Judged.JudgementReply) (r : Judgement) → r ≡ judgement_for j → (v : ℕ) → r ≡ judgement.Verdict v →

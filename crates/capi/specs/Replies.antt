@@ -11,7 +11,7 @@ use Rattle.demands.specs.Query.{Outcome, answered, Call, query_call, answer_area
 use Rattle.demands.specs.Query as Query
 
 -- "Filing answers Filed, Held or Refused with a number": 0, 1, and 8, 9, 17 or 10 of a certificate, 18 or 19 of a link
-unfoldable pub filing_word : FilingReply → ℕ
+abbrev pub filing_word : FilingReply → ℕ
 filing_word filed = 0
 filing_word held = 1
 filing_word (refused n) = n

@@ -16,7 +16,7 @@ fn filing_word(reply: Filing) -> u32
     match reply {
         Filing::Filed => 0,
         Filing::Held => 1,
-        Filing::Refused(number) => number,
+        Filing::Refused(refusal) => u32::from(refusal),
     }
 }
 
@@ -50,6 +50,6 @@ pub extern "C" fn txb_certificates_of(
     ensures { CertificatesAt store.now key name polarity (record { size = result; start = start.new }) }
 {
     let span = span_of(store, key, name, polarity);
-    *start = span.from;
-    span.to - span.from
+    *start = span.start;
+    span.end - span.start
 }

@@ -25,9 +25,9 @@ fn say_filing(filing: Filing) {
     match filing {
         Filing::Filed => say(b": Filed"),
         Filing::Held => say(b": Held"),
-        Filing::Refused(number) => {
+        Filing::Refused(refusal) => {
             say(b": Refused ");
-            say_number(number);
+            say_number(refusal.into());
         }
     }
 }
