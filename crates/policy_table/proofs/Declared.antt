@@ -1,11 +1,11 @@
 -- What a policy's table declares, and the definition of a name and polarity among them.
 use Prim.Native.Nat.{ℕ, zero, suc, ◌+◌, ◌*◌, ◌-◌, ◌≤◌, ◌<◌}
 use mathlib.Core.Path.{◌≡◌, refl, sym, ◌∙◌, ap, subst}
-use mathlib.Core.Bool.{Bool, true, false, not, ◌&&◌, ◌||◌, beq}
+use mathlib.Core.Bool.{Bool, true, false, not, ◌&&◌, ◌||◌}
 use mathlib.Core.List.{List, [], ◌∷◌, ◌++◌, map, map-append}
 use native.Mathlib.Omega.{arith}
 use lib.Dec.{T, eqb, eqb-zero-suc, eqb-suc-zero, eqb-suc-suc}
-use lib.ListN.{length, get_or, length-map}
+use lib.ListN.{length, length-map}
 use borrow.Author.Tests.{ltb-true, eqb-true, eqb-false, eq-eqb, ne_eqb}
 use Rattle.rows.specs.Word.{All}
 use Rattle.rows.specs.Name.{Polarity, same_polarity, polarity_of}
@@ -80,13 +80,6 @@ not_fixed f = f.is
 
 -- ---- an entry's words
 
-same_polarity_lem : (a b : ℕ) → beq (eqb a 0) (eqb b 0) ≡ same_polarity (polarity_of a) (polarity_of b)
-unfolding polarity_of
-same_polarity_lem zero zero = refl
-same_polarity_lem zero (suc b) = rw (eqb-suc-zero b)
-same_polarity_lem (suc a) zero = rw (eqb-suc-zero a)
-same_polarity_lem (suc a) (suc b) = rw (eqb-suc-zero a, eqb-suc-zero b)
-
 polarities_same : (a b : ℕ) → a ≤ 1 → b ≤ 1 → eqb a b ≡ same_polarity (polarity_of b) (polarity_of a)
 unfolding polarity_of
 polarities_same zero zero h k = refl
@@ -100,15 +93,6 @@ same_name a b = go (split (eqb b a))
     go : Case (eqb b a) → eqb a b ≡ eqb b a
     go (is_true e) = eq-eqb a b (sym (eqb-true b a e)) ∙ sym e
     go (is_false e) = ne_eqb a b (λ f. eqb-false b a e (sym f)) ∙ sym e
-
-module _ (p : List ℕ) (at name polarity : ℕ) where
-  pub other_name_lem : (get_or p at 0 ≡ name → ⊥) → false ≡ declares (declared_as (entry_at p at)) name (polarity_of polarity)
-  unfolding declares entry_at
-  other_name_lem h = rw (ne_eqb (get_or p at 0) name h)
-
-  pub this_name : get_or p at 0 ≡ name → beq (eqb (get_or p (at + 1) 0) 0) (eqb polarity 0) ≡ declares (declared_as (entry_at p at)) name (polarity_of polarity)
-  unfolding declares entry_at
-  this_name h = rw (eq-eqb (get_or p at 0) name h) (same_polarity_lem (get_or p (at + 1) 0) polarity)
 
 -- two entries whose polarities are polarities
 same_words : (x y : Entry) → Polarized x → Polarized y → (eqb x.name y.name && eqb x.polarity y.polarity) ≡ declares (declared_as y) x.name (polarity_of x.polarity)
@@ -157,7 +141,7 @@ module _ (p : List ℕ) (known n : ℕ) (q : Polarity) where
       record { within = omega arith; left = omega arith }
 
   module _ (i : ℕ) (s : Searching p known n q i) where
-    pub none_left_lem : known ≤ i → known ≡ definition_of (declared_in p known) n q
+    pub none_left_lem : known ≤ i → definition_of (declared_in p known) n q ≡ known
     unfolding definition_of entries_from
     none_left_lem h =
         let e : known - i ≡ 0 = omega arith in
@@ -172,12 +156,16 @@ module _ (p : List ℕ) (known n : ℕ) (q : Polarity) where
           let f : entry_place i + 4 ≡ entry_place (i + 1) = omega arith in
           ap (λ (k : ℕ). declared_from k p (entry_place i)) e ∙ ap (λ (a : ℕ). declared_as (entry_at p (entry_place i)) ∷ declared_from (known - (i + 1)) p a) f
 
-      pub found : declares (declared_as (entry_at p (entry_place i))) n q ≡ true → i ≡ definition_of (declared_in p known) n q
-      found e =
-          let f = ap (λ (xs : List Declared). definition_of xs n q) next ∙ definition_here n q _ _ e in
-          omega (arith, s.left)
+      module _ (x : Entry) (at : x ≡ entry_at p (entry_place i)) (b : Bool) (asked : b ≡ declares (declared_as x) n q) where
+        here : {a : Bool} → b ≡ a → declares (declared_as (entry_at p (entry_place i))) n q ≡ a
+        here e = ap (λ (y : Entry). declares (declared_as y) n q) (sym at) ∙ (sym asked ∙ e)
 
-      pub passed : declares (declared_as (entry_at p (entry_place i))) n q ≡ false → Searching p known n q (i + 1)
-      passed e =
-          let f = ap (λ (xs : List Declared). definition_of xs n q) next ∙ definition_past n q _ _ e in
-          record { within = omega arith; left = omega (arith, s.left) }
+        pub found : b ≡ true → (i < known) × (definition_of (declared_in p known) n q ≡ i)
+        found e =
+            let f = ap (λ (xs : List Declared). definition_of xs n q) next ∙ definition_here n q _ _ (here e) in
+            (more, omega (arith, s.left))
+
+        pub passed : b ≡ false → Searching p known n q (i + 1)
+        passed e =
+            let f = ap (λ (xs : List Declared). definition_of xs n q) next ∙ definition_past n q _ _ (here e) in
+            record { within = omega arith; left = omega (arith, s.left) }

@@ -1,3 +1,4 @@
 pub mod TableAnswers
 pub mod PartAnswers
 pub mod Declared
+mod Formats

@@ -12,17 +12,17 @@ use Rattle.rows.proofs.Lists.{all_at}
 use Rattle.policy.specs.Table.{Entry, entry_at, Table, table, refused, read_table}
 use Rattle.policy.specs.Part.{in_policy, whole_query, nowhere, no_entry, span_among, part_span, words_at, part_words}
 use Rattle.policy.specs.Part as Part
-use Rattle.policy_table.specs.Entries.{entry_place, entries_from, table_is}
-use Rattle.policy_table.specs.Spans.{part_span_is}
+use Rattle.policy_table.specs.Entries.{entry_place, Inside, entries_from, table_is}
 use Rattle.policy_table.specs.declared.TableRead.{TableRead}
 use Rattle.policy_table.specs.declared.TableRead.TheVariants as table_read
+use Rattle.policy_table.specs.Spans.{part_span_is}
 use Rattle.policy_table.specs.declared.parts.PartSpan as Held
 use Rattle.policy_table.specs.declared.parts.PartSpan.TheVariants as span
 use Rattle.policy.proofs.Basics.{impossible}
 use Rattle.policy.proofs.SoundTable.{Header, InTable, table_sound}
 
 abbrev pub inside : List ℕ → Entry → Type 0
-inside policy x = x.offset + x.size ≤ length policy
+inside policy x = Inside policy x
 
 pub length_entries : (n : ℕ) (policy : List ℕ) (at : ℕ) → length (entries_from n policy at) ≡ n
 unfolding entries_from
@@ -35,7 +35,7 @@ unfolding InTable entries_from
 in_places p at due earlier [] h = refl
 in_places p at due earlier (x ∷ xs) h = rw (← h.0) (ap (λ (ys : List Entry). x ∷ ys) (in_places p (at + 4) (x.offset + x.size) (x ∷ earlier) xs h.2))
 
-in_parts : (p : List ℕ) (at due : ℕ) (earlier xs : List Entry) → InTable p at due earlier xs → All (inside p) xs
+in_parts : (p : List ℕ) (at due : ℕ) (earlier xs : List Entry) → InTable p at due earlier xs → All (Inside p) xs
 unfolding InTable All
 in_parts p at due earlier [] h = tt
 in_parts p at due earlier (x ∷ xs) h = (h.1.ends, in_parts p (at + 4) (x.offset + x.size) (x ∷ earlier) xs h.2)
@@ -44,7 +44,7 @@ pub record TableParts (policy : List ℕ) (xs : List Entry) : Type 0 where
   pub header : Header policy
   pub are : xs ≡ entries_from (get_or policy 1 0) policy 2
   pub count : length xs ≡ get_or policy 1 0
-  pub parts : All (inside policy) xs
+  pub parts : All (Inside policy) xs
 
 pub table_parts : (policy : List ℕ) (xs : List Entry) → read_table policy ≡ table xs → TableParts policy xs
 table_parts policy xs e =
@@ -69,7 +69,7 @@ entry_in (suc n) policy at (suc d) h = entry_in n policy (at + 4) d (omega arith
 pub record Listed (p : List ℕ) (n : ℕ) : Type 0 where
   pub few : n ≤ 16
   pub fits : entry_place n ≤ length p
-  pub parts : (i : ℕ) → i < n → inside p (entry_at p (entry_place i))
+  pub parts : (i : ℕ) → i < n → Inside p (entry_at p (entry_place i))
 
 pub listed_of : (p : List ℕ) (n : ℕ) → table (entries_from n p 2) ≡ read_table p → Listed p n
 listed_of p n e =
@@ -78,7 +78,7 @@ listed_of p n e =
     record {
       few = omega (arith, t.header.count);
       fits = omega (arith, t.header.fits);
-      parts = λ i h. subst (inside p) (entry_in n p 2 i h) (all_at (inside p) (entries_from n p 2) t.parts i no_entry (omega (arith, length_entries n p 2)));
+      parts = λ i h. subst (Inside p) (entry_in n p 2 i h) (all_at (Inside p) (entries_from n p 2) t.parts i no_entry (omega (arith, length_entries n p 2)));
     }
 
 pub span_none : (policy : List ℕ) (number n : ℕ) → refused n ≡ read_table policy → in_policy 0 0 ≡ part_span policy number
@@ -95,12 +95,12 @@ module _ (policy : List ℕ) (number count : ℕ) (sound : table (entries_from c
     unfolding part_span span_among nowhere
     span_past h = rw (← sound, part_span) (rw (ne_eqb number 16 other, le-ltb number (length (entries_from count policy 2)) (omega (arith, length_entries count policy 2)), span_among))
 
-    pub span_entry : number < count → in_policy (get_or policy (2 + 4 * number + 2) 0) (get_or policy (2 + 4 * number + 3) 0) ≡ part_span policy number
-    unfolding part_span span_among entry_at
-    span_entry h =
-        let x : get_or (entries_from count policy 2) number no_entry ≡ entry_at policy (2 + 4 * number) = entry_in count policy 2 number h in
+    pub span_entry : number < count → (x : Entry) → x ≡ entry_at policy (entry_place number) → in_policy x.offset x.size ≡ part_span policy number
+    unfolding part_span span_among
+    span_entry h x is =
+        let y : get_or (entries_from count policy 2) number no_entry ≡ entry_at policy (2 + 4 * number) = entry_in count policy 2 number h in
         rw (← sound, part_span) (rw (ne_eqb number 16 other, lt-ltb number (length (entries_from count policy 2)) (omega (arith, length_entries count policy 2)), span_among)
-        (ap (λ (y : Entry). in_policy y.offset y.size) (sym x)))
+        (ap (λ (z : Entry). in_policy z.offset z.size) (is ∙ sym y)))
 
 -- a part lies inside the policy
 in_policy_lem : (a b c d : ℕ) → in_policy a b ≡ in_policy c d → (a ≡ c) × (b ≡ d)
@@ -126,7 +126,7 @@ span_inside policy number start size e = go (read_table policy) refl (split (eqb
             let z = in_policy_lem start size _ _ g in
             let z₀ = z.0 in
             let z₁ = z.1 in
-            let p = all_at (inside policy) xs (table_parts policy xs f).parts number no_entry (ltb-true number (length xs) l) in
+            let p = all_at (Inside policy) xs (table_parts policy xs f).parts number no_entry (ltb-true number (length xs) l) in
             omega arith
         pick (is_false l) =
             let g : in_policy start size ≡ in_policy 0 0 = rw (b, l, span_among) at (rw (f, part_span) at e) in
@@ -146,10 +146,6 @@ policy_part policy query number start size e =
     ap (λ (n : ℕ). take n (drop start policy)) (let m : start + size - start ≡ size = omega arith in m) ∙ ap (words_at policy query) e
 
 -- a table in hand
-pub table_refused : (policy : List ℕ) (r : TableRead) (n : ℕ) → table_is policy r ≡ read_table policy → r ≡ table_read.Refused n → refused n ≡ read_table policy
-unfolding table_is
-table_refused policy r n e is = ap (table_is policy) (sym is) ∙ e
-
 pub table_got : (policy : List ℕ) (r : TableRead) (n : ℕ) → table_is policy r ≡ read_table policy → r ≡ table_read.Sound n → table (entries_from n policy 2) ≡ read_table policy
 unfolding table_is
 table_got policy r n e is = ap (table_is policy) (sym is) ∙ e

@@ -1,14 +1,23 @@
 -- The entries of a policy's table by their places, what they declare, and what the code's reader of the table answers.
-use Rattle.std.specs.Prelude.{ℕ, zero, suc, ◌+◌, ◌*◌, ◌≤◌, List, [], ◌∷◌, map}
+use Rattle.std.specs.Prelude.{ℕ, zero, suc, ◌+◌, ◌*◌, ◌≤◌, List, [], ◌∷◌, length, map}
 use Rattle.rows.specs.Name.{polarity_of}
 use Rattle.policy.specs.OwnKey.{Declared}
 use Rattle.policy.specs.Table.{Entry, entry_at, Table, table, refused}
 use Rattle.policy_table.specs.declared.TableRead.{TableRead}
 use Rattle.policy_table.specs.declared.TableRead.TheVariants as table_read
+use Rattle.policy_table.specs.declared.entries.Entry as Read
 
 -- the word at which entry i begins
 abbrev pub entry_place : ℕ → ℕ
 entry_place i = 2 + 4 * i
+
+-- an entry as the code reads it
+abbrev pub entry_is : Read.Entry → Entry
+entry_is x = record { name = x.name; polarity = x.polarity; offset = x.offset; size = x.size }
+
+-- its part lies inside the policy
+abbrev pub Inside : List ℕ → Entry → Type 0
+Inside policy x = x.offset + x.size ≤ length policy
 
 -- n entries, the first of them at word `at`
 unfoldable pub entries_from : ℕ → List ℕ → ℕ → List Entry

@@ -3,11 +3,10 @@ ghost use Rattle.std.specs.Prelude.{◌+◌, ◌*◌, ◌≡◌};
 ghost use Rattle.policy.specs.Part.{part_span, part_words};
 ghost use Rattle.policy_table.specs.Spans.{part_span_is};
 
-use crate::{TableRead, read_table};
+use crate::reading::Table;
 use refusals::QUERY_PART;
-use row_words::wide;
 
-#[derive(Clone, Copy)]
+#[derive(Clone, Copy, Debug, PartialEq, Eq)]
 pub enum PartSpan {
     InPolicy { start: usize, size: usize },
     WholeQuery,
@@ -17,21 +16,21 @@ pub enum PartSpan {
 pub fn part_span(policy: &[u32], number: u32) -> PartSpan
     ensures { part_span_is result ≡ part_span policy.now number }
 {
-    match read_table(policy) {
-        TableRead::Refused(n) => PartSpan::InPolicy { start: 0, size: 0 },
-        TableRead::Sound(count) => {
-            if number == QUERY_PART {
-                return PartSpan::WholeQuery;
-            }
-            if count <= number {
-                return PartSpan::InPolicy { start: 0, size: 0 };
-            }
-            let at = 2 + 4 * wide(number);
-            PartSpan::InPolicy {
-                start: wide(policy[at + 2]),
-                size: wide(policy[at + 3]),
-            }
-        }
+    let nowhere = PartSpan::InPolicy { start: 0, size: 0 };
+    let Ok(table) = Table::read(policy) else {
+        return nowhere;
+    };
+    if number == QUERY_PART {
+        return PartSpan::WholeQuery;
+    }
+    let i = number as usize;
+    if table.count <= i {
+        return nowhere;
+    }
+    let entry = table.entry(i);
+    PartSpan::InPolicy {
+        start: entry.offset,
+        size: entry.size,
     }
 }
 
