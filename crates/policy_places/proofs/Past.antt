@@ -322,3 +322,19 @@ module _ {ws : List ℕ} {at left : ℕ} where
             (λ x y c h. let q = g.past scope n c (in_same h) in omega (arith, test_length x y (body_words c n)))
             (λ x y c h. let q = g.past scope n c (in_different h) in omega (arith, test_length x y (body_words c n))) s;
       }
+
+-- a guard is passed: the body that is left stands behind it
+pub record PastGuard (ws : List ℕ) (at left rest : ℕ) : Type 0 where
+  pub after : at < rest
+  pub left_over : SomeBody ws rest (left - 1)
+  pub past : (r : ℕ) → PastBody ws rest (left - 1) r → PastBody ws at left r
+
+module _ {ws : List ℕ} {at left : ℕ} (z : left ≡ 0 → ⊥) (x : SomeBody ws at left) where
+  pub draw_passed : {pattern rest : ℕ} → get_or ws at 0 ≡ 1 → PastExpr ws (at + 1) pattern → PastPattern ws pattern rest → PastGuard ws at left rest
+  draw_passed d past next = record { after = draw_after z d past next x; left_over = draw_rest z d past next x; past = λ r g. past_draw z d past next g }
+
+  pub absent_passed : {inner rest : ℕ} → get_or ws at 0 ≡ 4 → PastRow ws (at + 1) inner → PastExpr ws inner rest → PastGuard ws at left rest
+  absent_passed d past next = record { after = absent_after z d past next x; left_over = absent_rest z d past next x; past = λ r g. past_absent z d past next g }
+
+  pub test_passed : (get_or ws at 0 ≡ 1 → ⊥) → (get_or ws at 0 ≡ 4 → ⊥) → PastGuard ws at left (at + 5)
+  test_passed t u = record { after = omega arith; left_over = test_rest z t u x; past = λ r g. past_test z t u g }

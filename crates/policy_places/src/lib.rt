@@ -1,4 +1,5 @@
-// What stands in the words of a checked policy or query: the term, slot or guard at a place, and the place after it.
+// What stands in the words of a checked policy or query: the term, slot or guard at a place, and the place after it. The walkers of these words stay apart:
+// the checker's test each word, the readers' come to a set, those here pass over what they need not read, the rewriter's copy as they go.
 #![tactic(auto)]
 
 pub mod skip;
@@ -6,14 +7,15 @@ pub mod skip;
 ghost use Rattle.std.specs.Prelude.{◌+◌, ◌≤◌, length};
 ghost use Rattle.policy_places.specs.Places.{IsTerm, IsSlot, IsGuard, SomeGuard};
 
-use policy::{GUARD_ABSENT, GUARD_DRAW, GUARD_SAME, Guard, Slot, TAG_ATOM, TAG_NEW, Term};
+use policy::codes::{GuardCode, Tag};
+use policy::{Guard, Slot, Term};
 
 pub fn term_at(words: &[u32], at: usize) -> Term
     requires { at + 2 ≤ length words.now }
     ensures { IsTerm words.now at result }
 {
     let word = words[at + 1];
-    if words[at] == TAG_ATOM {
+    if words[at] == Tag::Atom as u32 {
         Term::Atom(word)
     } else {
         Term::Variable(word)
@@ -24,29 +26,21 @@ pub fn slot_at(words: &[u32], at: usize) -> Slot
     requires { at + 2 ≤ length words.now }
     ensures { IsSlot words.now at result }
 {
-    if words[at] == TAG_NEW {
-        return Slot::New;
+    if words[at] == Tag::New as u32 {
+        Slot::New
+    } else {
+        Slot::Old(term_at(words, at))
     }
-    let term = term_at(words, at);
-    Slot::Old(term)
 }
 
 pub fn guard_at(words: &[u32], at: usize) -> Guard
     requires { SomeGuard words.now at }
     ensures { IsGuard words.now at result }
 {
-    let code = words[at];
-    if code == GUARD_DRAW {
-        return Guard::Draw;
-    }
-    if code == GUARD_ABSENT {
-        return Guard::Absent;
-    }
-    let x = term_at(words, at + 1);
-    let y = term_at(words, at + 3);
-    if code == GUARD_SAME {
-        Guard::Same(x, y)
-    } else {
-        Guard::Different(x, y)
+    match GuardCode::of(words[at]) {
+        GuardCode::Draw => Guard::Draw,
+        GuardCode::Same => Guard::Same(term_at(words, at + 1), term_at(words, at + 3)),
+        GuardCode::Different => Guard::Different(term_at(words, at + 1), term_at(words, at + 3)),
+        GuardCode::Absent => Guard::Absent,
     }
 }
