@@ -1,3 +1,4 @@
 pub mod RowLaws
+pub mod Orderings
 pub mod WordLaws
 pub mod SearchLaws

@@ -5,7 +5,7 @@ use mathlib.Core.Bool.{Bool, true, false}
 use mathlib.Core.List.{List, [], ◌∷◌, ◌++◌}
 use native.Mathlib.Omega.{arith}
 use lib.ListN.{length, get_or, take, drop, replicate, length-drop, get_or-replicate, get_or-append}
-use lib.Seq.{split_at, drop-cons, get_or-take, get_or-drop, get_or-append-add, take-suc, take_all, length-take-le}
+use lib.Seq.{split_at, drop-cons, get_or-take, get_or-drop, get_or-append-add, take-suc, take_all, length-take-le, take-take, drop-drop}
 use borrow.Author.Tests.{le-leb, lt-leb}
 use Rattle.rows.specs.Ordered.{StrictTotal, words_before}
 use Rattle.rows.specs.Row.{Row, row_before}
@@ -59,6 +59,18 @@ row_at_atom ws at j few h =
     let e = five_width ws at in
     let s : at + (1 + j) ≡ at + 1 + j = omega arith in
     row_in_atom (five_at ws at) j (omega arith) ∙ five_at_lem ws at (1 + j) (omega arith) ∙ ap (λ (k : ℕ). get_or ws k 0) s
+
+-- its atoms stand behind its width
+row_in_front : (xs : List ℕ) → get_or xs 0 0 ≤ 4 → row_in (take 5 xs) ≡ take (get_or xs 0 0) (drop 1 xs)
+unfolding row_in
+row_in_front [] h = refl
+row_in_front (x ∷ xs) h = take-take x 4 xs h
+
+pub row_at_words : (ws : List ℕ) (at : ℕ) → get_or ws at 0 ≤ 4 → row_in (five_at ws at) ≡ take (get_or ws at 0) (drop (at + 1) ws)
+row_at_words ws at h =
+    let z : at + 0 ≡ at = omega arith in
+    let e : get_or (drop at ws) 0 0 ≡ get_or ws at 0 = get_or-drop at ws 0 0 ∙ ap (λ (k : ℕ). get_or ws k 0) z in
+    row_in_front (drop at ws) (omega (arith, e)) ∙ ap (λ (k : ℕ). take k (drop 1 (drop at ws))) e ∙ ap (take (get_or ws at 0)) (drop-drop 1 at ws)
 
 pub sound_narrow : (ws : List ℕ) (at : ℕ) → sound_row (five_at ws at) ≡ true → get_or ws at 0 ≤ 4
 sound_narrow ws at e = let s = (sound_width (five_at ws at) e).few in omega (arith, five_width ws at)

@@ -14,13 +14,12 @@ use Rattle.rows.proofs.Order.{row_order}
 use Rattle.rows.proofs.Ordered.{Ascending, ascending_true}
 use Rattle.rows.proofs.Place.{Between, between_up, between_down, gap_insert, gap_lists, found_lists}
 use Rattle.rows.proofs.LayoutLaws.{length_pieces, piece_at}
-use Rattle.row_words.specs.Values.{order_for}
+use Rattle.row_words.specs.Values.{ordering_for}
 use Rattle.row_words.specs.Search.{rows_at, Listed, Finds}
-use Rattle.row_words.specs.declared.row.Order as Order
-use Rattle.row_words.specs.declared.row.Order.TheVariants.{Before, Same, After}
-use Rattle.row_words.specs.declared.search.Found as Found
-use Rattle.row_words.specs.declared.search.Found.TheVariants.{At, Missing}
-use Rattle.row_words.proofs.RowLaws.{before_order, same_order, after_order}
+use Rattle.std.proofs.Common.{Result, Ok, Err}
+use Rattle.std.specs.declared.cmp.Ordering.{Ordering}
+use Rattle.std.specs.declared.cmp.Ordering.TheVariants.{Less, Equal, Greater}
+use Rattle.row_words.proofs.Orderings.{less_before, equal_same, greater_after}
 
 -- ---- the rows
 
@@ -75,24 +74,24 @@ module _ (ws : List ℕ) (k w count : ℕ) (room : k + 5 ≤ w) (narrow : (i : �
 
 -- ---- what the search answers
 
-pub finds_at : (xs : List Row) (r : Row) (i : ℕ) → i < length xs → get_or xs i [] ≡ r → Finds xs r (At i)
+pub finds_at : (xs : List Row) (r : Row) (i : ℕ) → i < length xs → get_or xs i [] ≡ r → Finds xs r (Ok i)
 unfolding Finds
 finds_at xs r i h e = (found_lists row_before row_order [] xs r i h e, h, e)
 
-pub finds_missing : (xs : List Row) (r : Row) (low high : ℕ) → Between row_before row_order [] xs r low high → high ≤ low → Finds xs r (Missing low)
+pub finds_missing : (xs : List Row) (r : Row) (low high : ℕ) → Between row_before row_order [] xs r low high → high ≤ low → Finds xs r (Err low)
 unfolding Finds
 finds_missing xs r low high b h =
     let o = b.order in
     let g : Between row_before row_order [] xs r low low = let e : high ≡ low = omega arith in subst (Between row_before row_order [] xs r low) e b in
     (gap_lists row_before row_order [] xs r low g, g.end, gap_insert row_before row_order [] xs r low g)
 
-pub at_listed : (xs : List Row) (r : Row) (f : Found.Found) (i : ℕ) → f ≡ At i → Finds xs r f → lists row_before xs r ≡ true
+pub ok_listed : (xs : List Row) (r : Row) (f : Result ℕ ℕ) (i : ℕ) → f ≡ Ok i → Finds xs r f → lists row_before xs r ≡ true
 unfolding Finds
-at_listed xs r f i e s = (subst (Finds xs r) e s).0
+ok_listed xs r f i e s = (subst (Finds xs r) e s).0
 
-pub missing_unlisted : (xs : List Row) (r : Row) (f : Found.Found) (i : ℕ) → f ≡ Missing i → Finds xs r f → lists row_before xs r ≡ false
+pub err_unlisted : (xs : List Row) (r : Row) (f : Result ℕ ℕ) (i : ℕ) → f ≡ Err i → Finds xs r f → lists row_before xs r ≡ false
 unfolding Finds
-missing_unlisted xs r f i e s = (subst (Finds xs r) e s).0
+err_unlisted xs r f i e s = (subst (Finds xs r) e s).0
 
 -- ---- one step of it: the row was compared with row `m`
 
@@ -101,18 +100,18 @@ module _ {ws : List ℕ} {start step count : ℕ} (l : Listed ws start step coun
   pub below_count : m < count
   below_count = let e = b.end in omega (arith, rows_at_length ws start step count)
 
-  module _ {o : Order.Order} (compared : o ≡ order_for row_before x (row_in (five_at ws (start + step * m)))) where
-    order_there : order_for row_before x (get_or (rows_at ws start step count) m []) ≡ o
-    order_there = ap (order_for row_before x) (rows_at_get ws start step count m below_count) ∙ sym compared
+  module _ {o : Ordering} (compared : o ≡ ordering_for row_before x (row_in (five_at ws (start + step * m)))) where
+    order_there : ordering_for row_before x (get_or (rows_at ws start step count) m []) ≡ o
+    order_there = ap (ordering_for row_before x) (rows_at_get ws start step count m below_count) ∙ sym compared
 
     order : Ascending row_before row_order (rows_at ws start step count)
     order = ascending_true row_before row_order (rows_at ws start step count) l.ascends
 
-    pub halve_before : o ≡ Before → Between row_before row_order [] (rows_at ws start step count) x low m
-    halve_before e = between_down row_before row_order [] (rows_at ws start step count) order x low high m b h k (before_order row_order _ _ (order_there ∙ e))
+    pub halve_before : o ≡ Less → Between row_before row_order [] (rows_at ws start step count) x low m
+    halve_before e = between_down row_before row_order [] (rows_at ws start step count) order x low high m b h k (less_before row_order _ _ (order_there ∙ e))
 
-    pub halve_same : o ≡ Same → Finds (rows_at ws start step count) x (At m)
-    halve_same e = let n = b.end in finds_at (rows_at ws start step count) x m (omega arith) (sym (same_order row_order _ _ (order_there ∙ e)))
+    pub halve_same : o ≡ Equal → Finds (rows_at ws start step count) x (Ok m)
+    halve_same e = let n = b.end in finds_at (rows_at ws start step count) x m (omega arith) (sym (equal_same row_order _ _ (order_there ∙ e)))
 
-    pub halve_after : o ≡ After → Between row_before row_order [] (rows_at ws start step count) x (m + 1) high
-    halve_after e = between_up row_before row_order [] (rows_at ws start step count) order x low high m b h k (after_order row_order _ _ (order_there ∙ e))
+    pub halve_after : o ≡ Greater → Between row_before row_order [] (rows_at ws start step count) x (m + 1) high
+    halve_after e = between_up row_before row_order [] (rows_at ws start step count) order x low high m b h k (greater_after row_order _ _ (order_there ∙ e))

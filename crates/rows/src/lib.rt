@@ -2,7 +2,7 @@
 #![tactic(auto)]
 
 ghost use Rattle.std.specs.Prelude.{◌≡◌};
-ghost use Rattle.rows.specs.Polarities.{polarity_number, turned};
+ghost use Rattle.rows.specs.Polarities.{polarity_number, turned, form_number, form_of};
 
 use std::ops::Not;
 
@@ -41,6 +41,33 @@ impl Not for Polarity {
         match self {
             Polarity::Plus => Polarity::Minus,
             Polarity::Minus => Polarity::Plus,
+        }
+    }
+}
+
+/// Whether a set's list says which rows it has, or which it has not.
+#[derive(Clone, Copy, Debug, PartialEq, Eq)]
+pub enum Form {
+    Finite = 0,
+    Complement = 1,
+}
+
+impl From<Form> for u32 {
+    ghost from_gives = { λ f n. n ≡ form_number f };
+
+    fn from(form: Form) -> u32 {
+        form as u32
+    }
+}
+
+/// The set that a name's list of this polarity says: the rows listed, or all but those.
+impl From<Polarity> for Form {
+    ghost from_gives = { λ p f. f ≡ form_of p };
+
+    fn from(polarity: Polarity) -> Form {
+        match polarity {
+            Polarity::Plus => Form::Finite,
+            Polarity::Minus => Form::Complement,
         }
     }
 }

@@ -8,12 +8,14 @@ ghost use Rattle.rows.specs.Row.{row_before};
 ghost use Rattle.rows.specs.Sets.{most_rows, combined};
 ghost use Rattle.rows.specs.Layout.{set_room, row_in, five_at, laid, rows_in, formed, set_in, sound_set, written, put};
 ghost use Rattle.row_words.specs.Values.{row_is};
-ghost use Rattle.set_algebra.specs.Combined.{TwoSets, left_by, Combined};
+ghost use Rattle.set_algebra.specs.Combined.{TwoSets, left_by, Combined, is_difference, Combines};
 ghost use Rattle.set_algebra.specs.Private.{LastRows, last_order_for, lefts, rights, Rooms, Passed, Sought, alike, picked, rest, strike_out, Struck, Taken};
 
+use refusals::Refusal;
 use row_words::row::{Order, Row, compare, load};
 use row_words::{copy_down, copy_up, wide};
 use rows::{MOST_ROWS, SET_ROOM};
+use std::cmp::Ordering;
 
 // What is lent: the left set's room, then the right one's.
 pub const TWO_ROOMS: usize = 2 * SET_ROOM;
@@ -26,6 +28,30 @@ const RIGHT_ROWS: usize = SET_ROOM + 2;
 // A row is struck out by a width that no row has, its own and this.
 const STROKE: u32 = 8;
 
+#[derive(Clone, Copy, Debug, PartialEq, Eq)]
+pub enum Operation {
+    Union,
+    Difference,
+}
+
+impl Operation {
+    /// The value of the operation on the two sets. Refused where it would list more than 128 rows.
+    pub fn combine(self, area: &mut [u32]) -> Result<(), Refusal>
+        requires { TwoSets area.old }
+        ensures { Combines (combined (is_difference self) (set_in area.old) (set_in (drop set_room area.old))) area.old area.new result }
+    {
+        let minus = match self {
+            Operation::Union => false,
+            Operation::Difference => true,
+        };
+        if combine(minus, area) {
+            Ok(())
+        } else {
+            Err(Refusal::TooManyRows)
+        }
+    }
+}
+
 #[derive(Clone, Copy)]
 pub struct Reached {
     pub at: usize,
@@ -37,20 +63,19 @@ fn seek(set: &[u32], row: Row, start: usize) -> Reached
     requires { (sound_set set.now ≡ true) × (row.width ≤ 4) × Passed (rows_in set.now) (row_is row) start }
     ensures { Sought (rows_in set.now) (row_is row) result }
 {
-    let count = wide(set[1]);
-    let mut j = start;
-    while j < count {
-        match compare(row, set, 2 + 5 * j) {
-            Order::Before => return Reached {
+    let count = set[1] as usize;
+    for j in start..count {
+        match row.compare(set, 2 + 5 * j) {
+            Ordering::Less => return Reached {
                 at: j,
                 found: false,
             },
-            Order::Same => return Reached { at: j, found: true },
-            Order::After => j += 1,
+            Ordering::Equal => return Reached { at: j, found: true },
+            Ordering::Greater => {}
         }
     }
     Reached {
-        at: j,
+        at: count,
         found: false,
     }
 }

@@ -4,61 +4,106 @@ use mathlib.Core.Path.{◌≡◌, refl, sym, ◌∙◌, ap, subst}
 use mathlib.Core.Bool.{Bool, true, false}
 use mathlib.Core.List.{List, [], ◌∷◌, ◌++◌}
 use lib.ListN.{length, get_or, take, drop}
+use lib.Dec.{ltb}
 use borrow.Author.Tests.{lt-ltb, le-ltb}
 use Rattle.rows.specs.Ordered.{◌∈◌, lists}
 use Rattle.rows.specs.Row.{Row, row_before}
-use Rattle.rows.specs.Sets.{listing, most_rows}
+use Rattle.rows.specs.Sets.{RowSet, listing, most_rows}
 use Rattle.rows.specs.Layout.{rows_in, formed, set_in, sound_set, written}
-use Rattle.sets.specs.Values.{inserted_for, after_insert}
+use Rattle.sets.specs.Values.{insert_gives, insert_leaves, inserted_for, after_insert}
 use Rattle.row_words.specs.Search.{Finds}
-use Rattle.row_words.specs.declared.search.Found as Found
-use Rattle.row_words.specs.declared.search.Found.TheVariants.{At, Missing}
+use Rattle.std.proofs.Common.{Result, Ok, Err}
+use Rattle.refusals.specs.declared.Refusal.{Refusal}
+use Rattle.refusals.specs.declared.Refusal.TheVariants.{TooManyRows}
 use Rattle.sets.specs.declared.Inserted.TheVariants.{New, Known, Full}
-use Rattle.rows.proofs.Case.{T_true}
+use Rattle.rows.proofs.Case.{Case, is_true, is_false, split, T_true}
 use Rattle.rows.proofs.Order.{row_order}
 use Rattle.rows.proofs.Ordered.{lists_iff}
 use Rattle.rows.proofs.Place.{insert_known}
 use Rattle.rows.proofs.LayoutLaws.{listing_in, sound_written}
-use Rattle.row_words.proofs.SearchLaws.{at_listed, missing_unlisted}
+use Rattle.row_words.proofs.SearchLaws.{ok_listed, err_unlisted}
 use Rattle.sets.proofs.SetWords.{sound_ascending}
 
-module _ (ws : List ℕ) (r : Row) (f : Found.Found) (i : ℕ) (finds : Finds (rows_in ws) r f) where
+module _ (ws : List ℕ) (r : Row) (f : Result ℕ ℕ) (i : ℕ) (finds : Finds (rows_in ws) r f) where
   listed_as : (b : Bool) → lists row_before (rows_in ws) r ≡ b → lists row_before (listing (set_in ws)) r ≡ b
   listed_as b e = ap (λ (xs : List Row). lists row_before xs r) (listing_in ws) ∙ e
 
   -- it is listed already
-  pub known_answer : f ≡ At i → Known ≡ inserted_for (set_in ws) r
-  unfolding inserted_for
-  known_answer e = rw (listed_as true (at_listed (rows_in ws) r f i e finds), inserted_for)
+  pub known_answer : f ≡ Ok i → Ok false ≡ insert_gives (set_in ws) r
+  unfolding insert_gives
+  known_answer e = rw (listed_as true (ok_listed (rows_in ws) r f i e finds), insert_gives)
 
-  pub known_words : sound_set ws ≡ true → f ≡ At i → ws ≡ after_insert Known ws r
-  unfolding after_insert set_in
+  pub known_words : sound_set ws ≡ true → f ≡ Ok i → ws ≡ insert_leaves (Ok false) ws r
+  unfolding insert_leaves set_in
   known_words s e =
-      let m : r ∈ rows_in ws = (lists_iff row_before row_order (rows_in ws) r).0 (T_true (at_listed (rows_in ws) r f i e finds)) in
+      let m : r ∈ rows_in ws = (lists_iff row_before row_order (rows_in ws) r).0 (T_true (ok_listed (rows_in ws) r f i e finds)) in
       sound_written ws s ∙ ap (λ (xs : List Row). written (formed (get_or ws 0 0) xs) ws) (sym (insert_known row_before row_order [] (rows_in ws) r (sound_ascending ws s) m))
 
-  module _ (e : f ≡ Missing i) where
-    pub missing_place : i ≤ length (rows_in ws)
+  module _ (e : f ≡ Err i) where
+    pub err_place : i ≤ length (rows_in ws)
     unfolding Finds
-    missing_place = (subst (Finds (rows_in ws) r) e finds).1
+    err_place = (subst (Finds (rows_in ws) r) e finds).1
 
     unlisted : lists row_before (listing (set_in ws)) r ≡ false
-    unlisted = listed_as false (missing_unlisted (rows_in ws) r f i e finds)
+    unlisted = listed_as false (err_unlisted (rows_in ws) r f i e finds)
 
     -- there is no room
-    pub full_answer : 128 ≤ length (rows_in ws) → Full ≡ inserted_for (set_in ws) r
-    unfolding inserted_for
-    full_answer h = rw (unlisted, listing_in ws, le-ltb (length (rows_in ws)) most_rows h, inserted_for)
+    pub full_answer : 128 ≤ length (rows_in ws) → Err TooManyRows ≡ insert_gives (set_in ws) r
+    unfolding insert_gives
+    full_answer h = rw (unlisted, listing_in ws, le-ltb (length (rows_in ws)) most_rows h, insert_gives)
 
-    pub full_words : ws ≡ after_insert Full ws r
-    unfolding after_insert
+    pub full_words : ws ≡ insert_leaves (Err TooManyRows) ws r
+    unfolding insert_leaves
     full_words = refl
 
     -- it is put in
-    pub new_answer : length (rows_in ws) < 128 → New ≡ inserted_for (set_in ws) r
-    unfolding inserted_for
-    new_answer h = rw (unlisted, listing_in ws, lt-ltb (length (rows_in ws)) most_rows h, inserted_for)
+    pub new_answer : length (rows_in ws) < 128 → Ok true ≡ insert_gives (set_in ws) r
+    unfolding insert_gives
+    new_answer h = rw (unlisted, listing_in ws, lt-ltb (length (rows_in ws)) most_rows h, insert_gives)
 
-    pub new_words : (now : List ℕ) → now ≡ written (formed (get_or ws 0 0) (take i (rows_in ws) ++ (r ∷ drop i (rows_in ws)))) ws → now ≡ after_insert New ws r
-    unfolding after_insert Finds
+    pub new_words : (now : List ℕ) → now ≡ written (formed (get_or ws 0 0) (take i (rows_in ws) ++ (r ∷ drop i (rows_in ws)))) ws → now ≡ insert_leaves (Ok true) ws r
+    unfolding insert_leaves Finds
     new_words now p = p ∙ ap (λ (xs : List Row). written (formed (get_or ws 0 0) xs) ws) (sym (subst (Finds (rows_in ws) r) e finds).2)
+
+-- ---- the same answers under other names
+
+module _ (s : RowSet) (r : Row) where
+  pub new_told : Ok true ≡ insert_gives s r → New ≡ inserted_for s r
+  unfolding insert_gives inserted_for
+  new_told e = go (split (lists row_before (listing s) r)) (split (ltb (length (listing s)) most_rows))
+    where
+      go : Case (lists row_before (listing s) r) → Case (ltb (length (listing s)) most_rows) → New ≡ inserted_for s r
+      go (is_true f) g = let h = rw (f, insert_gives) at e in cc
+      go (is_false f) (is_true g) = rw (f, g, inserted_for)
+      go (is_false f) (is_false g) = let h = rw (f, g, insert_gives) at e in cc
+
+  pub known_told : Ok false ≡ insert_gives s r → Known ≡ inserted_for s r
+  unfolding insert_gives inserted_for
+  known_told e = go (split (lists row_before (listing s) r)) (split (ltb (length (listing s)) most_rows))
+    where
+      go : Case (lists row_before (listing s) r) → Case (ltb (length (listing s)) most_rows) → Known ≡ inserted_for s r
+      go (is_true f) g = rw (f, inserted_for)
+      go (is_false f) (is_true g) = let h = rw (f, g, insert_gives) at e in cc
+      go (is_false f) (is_false g) = let h = rw (f, g, insert_gives) at e in cc
+
+  pub full_told : (refusal : Refusal) → Err refusal ≡ insert_gives s r → Full ≡ inserted_for s r
+  unfolding insert_gives inserted_for
+  full_told refusal e = go (split (lists row_before (listing s) r)) (split (ltb (length (listing s)) most_rows))
+    where
+      go : Case (lists row_before (listing s) r) → Case (ltb (length (listing s)) most_rows) → Full ≡ inserted_for s r
+      go (is_true f) g = let h = rw (f, insert_gives) at e in cc
+      go (is_false f) (is_true g) = let h = rw (f, g, insert_gives) at e in cc
+      go (is_false f) (is_false g) = rw (f, g, inserted_for)
+
+-- the words afterwards
+pub words_told : (new : Bool) (ws : List ℕ) (r : Row) → insert_leaves (Ok new) ws r ≡ after_insert New ws r
+unfolding insert_leaves after_insert
+words_told new ws r = refl
+
+pub known_words_told : (new : Bool) (ws : List ℕ) (r : Row) → insert_leaves (Ok new) ws r ≡ after_insert Known ws r
+unfolding insert_leaves after_insert
+known_words_told new ws r = refl
+
+pub full_words_told : (refusal : Refusal) (ws : List ℕ) (r : Row) → insert_leaves (Err refusal) ws r ≡ after_insert Full ws r
+unfolding insert_leaves after_insert
+full_words_told refusal ws r = refl

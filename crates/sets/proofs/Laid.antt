@@ -1,10 +1,10 @@
 -- Rows laid one after the other in an area, and a set written by its rows and its two first words.
 use Prim.Native.Nat.{ℕ, zero, suc, ◌+◌, ◌*◌, ◌-◌, ◌≤◌, ◌<◌}
-use mathlib.Core.Path.{◌≡◌, refl, sym, ◌∙◌, ap, subst}
+use mathlib.Core.Path.{◌≡◌, refl, sym, ◌∙◌, ap}
 use mathlib.Core.Bool.{true}
 use mathlib.Core.List.{List, [], ◌∷◌, ◌++◌, map, append_assoc}
 use native.Mathlib.Omega.{arith}
-use lib.ListN.{length, get_or, take, drop, set, length-append, length-take, length-drop, length-map, take-append-drop, get_or-append}
+use lib.ListN.{length, get_or, take, drop, set, length-append, length-take, length-drop, length-map, take-append-drop}
 use lib.Seq.{take_at, drop_at, take-nil, length-take-le, drop-drop, set-get_or, get_or-set_other, take-take}
 use Rattle.rows.specs.Word.{All}
 use Rattle.rows.specs.Row.{Row}
@@ -13,7 +13,7 @@ use Rattle.rows.specs.Layout.{row_words, row_in, five_at, flat, laid, pieces, fo
 use Rattle.rows.proofs.Lists.{all_take, all_drop, all_both}
 use Rattle.rows.proofs.LayoutLaws.{flat_length, row_length, Sized, listing_in, sound_rows, rows_count, formed_word, formed_listing, sound_length, sound_written, true_sound, row_written, piece_sound, row_at}
 use Rattle.row_words.proofs.RowLaws.{five_length}
-use Rattle.rows.proofs.Put.{put_before, put_then_after, put_then_before, put_less, put_none, put_itself, Writing, writing_next, writing_end}
+use Rattle.rows.proofs.Put.{put_before, put_then_after, put_then_before, put_less, put_none, put_itself}
 use Rattle.sets.proofs.SetWords.{size}
 
 pub drop_take : (a b : ℕ) (ws : List ℕ) → drop a (take (a + b) ws) ≡ take b (drop a ws)
@@ -177,17 +177,9 @@ module _ (ws area : List ℕ) (e : sound_set ws ≡ true) where
   pub copy_length : length (set_words (set_in ws)) ≡ 2 + 5 * length (rows_in ws)
   copy_length = sound_length ws e ∙ ap (λ (n : ℕ). 2 + 5 * n) (sym (rows_count ws))
 
-  copy_word : (i : ℕ) → i < length (set_words (set_in ws)) → get_or (set_words (set_in ws)) i 0 ≡ get_or ws i 0
+  pub copied : take (2 + 5 * get_or ws 1 0) ws ++ drop (2 + 5 * get_or ws 1 0) area ≡ written (set_in ws) area
   unfolding written
-  copy_word i h =
-      sym (get_or-append (set_words (set_in ws)) (drop (length (set_words (set_in ws))) ws) 0 i h) ∙ ap (λ (l : List ℕ). get_or l i 0) (sym (sound_written ws e))
-
-  pub copy_next : length (set_words (set_in ws)) ≤ length area → (now : List ℕ) (i : ℕ) → Writing (set_words (set_in ws)) area 0 now i → i < length (set_words (set_in ws)) →
-      Writing (set_words (set_in ws)) area 0 (set now i (get_or ws i 0)) (i + 1)
-  copy_next room now i w h =
-      let z : 0 + i ≡ i = omega arith in
-      subst (λ (k : ℕ). Writing (set_words (set_in ws)) area 0 (set now k (get_or ws i 0)) (i + 1)) z
-      (writing_next (set_words (set_in ws)) area 0 (omega arith) now i (get_or ws i 0) w h (sym (copy_word i h)))
-
-  pub copy_end : (now : List ℕ) (i : ℕ) → Writing (set_words (set_in ws)) area 0 now i → length (set_words (set_in ws)) ≤ i → now ≡ written (set_in ws) area
-  copy_end now i w h = writing_end (set_words (set_in ws)) area 0 now i w h ∙ written_put (set_in ws) area
+  copied =
+      let n : ℕ = length (set_words (set_in ws)) in
+      let t : take n ws ≡ set_words (set_in ws) = ap (take n) (sound_written ws e) ∙ take_at (set_words (set_in ws)) (drop n ws) n refl in
+      ap (λ (k : ℕ). take k ws ++ drop k area) (sym (sound_length ws e)) ∙ ap (λ (l : List ℕ). l ++ drop n area) t

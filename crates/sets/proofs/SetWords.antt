@@ -11,53 +11,49 @@ use Rattle.rows.specs.Ordered.{ascending, lists}
 use Rattle.rows.specs.Sets.{has}
 use Rattle.rows.specs.Row.{Row, row_before}
 use Rattle.rows.specs.Layout.{row_in, five_at, sound_row, pieces, every, rows_in, formed, set_in, sound_set}
-use Rattle.row_words.specs.Values.{five_is, row_is, order_for}
+use Rattle.row_words.specs.Values.{five_is, row_is, ordering_for}
 use Rattle.row_words.specs.Search.{rows_at, Listed, Finds}
 use Rattle.row_words.specs.declared.row.Row as Held
-use Rattle.row_words.specs.declared.row.Order as Order
-use Rattle.row_words.specs.declared.row.Order.TheVariants.{Before, Same, After}
-use Rattle.row_words.specs.declared.search.Found.TheVariants.{Missing}
+use Rattle.std.specs.declared.cmp.Ordering.{Ordering}
+use Rattle.std.specs.declared.cmp.Ordering.TheVariants.{Less, Equal, Greater}
+use Rattle.std.specs.Ordering.{is_lt}
+use Rattle.std.proofs.Common.{Err}
 use Rattle.rows.proofs.Order.{row_order}
 use Rattle.rows.proofs.Ordered.{Ascending, ascending_true}
 use Rattle.rows.proofs.Place.{Between, between_all, between_up}
 use Rattle.rows.proofs.LayoutLaws.{piece_sound, row_at, rows_count, true_sound}
-use Rattle.row_words.proofs.RowLaws.{sound_narrow, loaded_row, before_order, after_order, same_order}
+use Rattle.row_words.proofs.RowLaws.{sound_narrow, loaded_row}
+use Rattle.row_words.proofs.Orderings.{less_before, equal_same, greater_after, is_less}
 use Rattle.row_words.proofs.SearchLaws.{rows_at_length, rows_at_get, finds_missing}
 
 pub width_at : (n : ℕ) (ws : List ℕ) (i : ℕ) → every sound_row (pieces 5 n (drop 2 ws)) ≡ true → i < n → get_or ws (2 + 5 * i) 0 ≤ 4
 width_at n ws i e h = sound_narrow ws (2 + 5 * i) (piece_sound n ws i e h)
 
 -- row `i`, loaded, was compared with row `j`
-module _ (ws : List ℕ) (i j : ℕ) (h : i < get_or ws 1 0) (k : j < get_or ws 1 0) (r : Held.Row) (o : Order.Order)
-    (loaded : five_is r ≡ five_at ws (2 + 5 * i)) (compared : o ≡ order_for row_before (row_is r) (row_in (five_at ws (2 + 5 * j)))) where
-  rows_order : order_for row_before (get_or (rows_in ws) i []) (get_or (rows_in ws) j []) ≡ o
+module _ (ws : List ℕ) (i j : ℕ) (h : i < get_or ws 1 0) (k : j < get_or ws 1 0) (r : Held.Row) (o : Ordering)
+    (loaded : five_is r ≡ five_at ws (2 + 5 * i)) (compared : o ≡ ordering_for row_before (row_is r) (row_in (five_at ws (2 + 5 * j)))) where
+  rows_order : ordering_for row_before (get_or (rows_in ws) i []) (get_or (rows_in ws) j []) ≡ o
   rows_order =
       let e : get_or (rows_in ws) i [] ≡ row_is r = row_at ws i h ∙ sym (loaded_row r ws (2 + 5 * i) loaded) in
       let f : get_or (rows_in ws) j [] ≡ row_in (five_at ws (2 + 5 * j)) = row_at ws j k in
       cc
 
-  pub rows_before : o ≡ Before → row_before (get_or (rows_in ws) i []) (get_or (rows_in ws) j []) ≡ true
-  rows_before e = before_order row_order _ _ (rows_order ∙ e)
-
-  pub rows_same : o ≡ Same → get_or (rows_in ws) i [] ≡ get_or (rows_in ws) j []
-  rows_same e = same_order row_order _ _ (rows_order ∙ e)
-
-  pub rows_after : o ≡ After → row_before (get_or (rows_in ws) j []) (get_or (rows_in ws) i []) ≡ true
-  rows_after e = after_order row_order _ _ (rows_order ∙ e)
+  pub rows_before : is_lt o ≡ row_before (get_or (rows_in ws) i []) (get_or (rows_in ws) j [])
+  rows_before = ap is_lt (sym rows_order) ∙ is_less row_before (get_or (rows_in ws) i []) (get_or (rows_in ws) j [])
 
 -- a row in hand was compared with row `m`
-module _ (ws : List ℕ) (m : ℕ) (h : m < get_or ws 1 0) (r : Held.Row) (o : Order.Order) (compared : o ≡ order_for row_before (row_is r) (row_in (five_at ws (2 + 5 * m)))) where
-  row_order_at : order_for row_before (row_is r) (get_or (rows_in ws) m []) ≡ o
-  row_order_at = ap (order_for row_before (row_is r)) (row_at ws m h) ∙ sym compared
+module _ (ws : List ℕ) (m : ℕ) (h : m < get_or ws 1 0) (r : Held.Row) (o : Ordering) (compared : o ≡ ordering_for row_before (row_is r) (row_in (five_at ws (2 + 5 * m)))) where
+  row_order_at : ordering_for row_before (row_is r) (get_or (rows_in ws) m []) ≡ o
+  row_order_at = ap (ordering_for row_before (row_is r)) (row_at ws m h) ∙ sym compared
 
-  pub row_before_lem : o ≡ Before → row_before (row_is r) (get_or (rows_in ws) m []) ≡ true
-  row_before_lem e = before_order row_order _ _ (row_order_at ∙ e)
+  pub row_before_lem : o ≡ Less → row_before (row_is r) (get_or (rows_in ws) m []) ≡ true
+  row_before_lem e = less_before row_order _ _ (row_order_at ∙ e)
 
-  pub row_same : o ≡ Same → get_or (rows_in ws) m [] ≡ row_is r
-  row_same e = sym (same_order row_order _ _ (row_order_at ∙ e))
+  pub row_same : o ≡ Equal → get_or (rows_in ws) m [] ≡ row_is r
+  row_same e = sym (equal_same row_order _ _ (row_order_at ∙ e))
 
-  pub row_after : o ≡ After → row_before (get_or (rows_in ws) m []) (row_is r) ≡ true
-  row_after e = after_order row_order _ _ (row_order_at ∙ e)
+  pub row_after : o ≡ Greater → row_before (get_or (rows_in ws) m []) (row_is r) ≡ true
+  row_after e = greater_after row_order _ _ (row_order_at ∙ e)
 
 -- a sound set's rows ascend
 pub sound_ascending : (ws : List ℕ) → sound_set ws ≡ true → Ascending row_before row_order (rows_in ws)
@@ -82,7 +78,7 @@ module _ (ws : List ℕ) (n : ℕ) (e : n ≡ get_or ws 1 0) where
       }
 
   -- the row comes after the last of them
-  pub finds_past : sound_set ws ≡ true → (r : Row) → 0 < n → row_before (get_or (rows_in ws) (n - 1) []) r ≡ true → Finds (rows_in ws) r (Missing n)
+  pub finds_past : sound_set ws ≡ true → (r : Row) → 0 < n → row_before (get_or (rows_in ws) (n - 1) []) r ≡ true → Finds (rows_in ws) r (Err n)
   finds_past s r h b =
       let c = rows_count ws in
       let f : n - 1 + 1 ≡ n = omega arith in
@@ -90,7 +86,7 @@ module _ (ws : List ℕ) (n : ℕ) (e : n ≡ get_or ws 1 0) where
       (between_up row_before row_order [] (rows_in ws) (sound_ascending ws s) r 0 n (n - 1) (between_all row_before row_order [] (rows_in ws) r n (omega arith)) (omega arith) (omega arith) b)) (omega arith)
 
   -- there are none
-  pub finds_none : (r : Row) → n ≡ 0 → Finds (rows_in ws) r (Missing 0)
+  pub finds_none : (r : Row) → n ≡ 0 → Finds (rows_in ws) r (Err 0)
   finds_none r z = let c = rows_count ws in finds_missing (rows_in ws) r 0 0 (between_all row_before row_order [] (rows_in ws) r 0 (omega arith)) (omega arith)
 
 -- the numbers of a sound set

@@ -1,6 +1,8 @@
 // A set in words: form, count, then five words a row.
 #![tactic(auto)]
 
+pub mod listing;
+
 ghost use Rattle.std.specs.Prelude.{◌≡◌, true, [], ◌∷◌, ◌++◌, ◌+◌, ◌*◌, ◌≤◌, ◌<◌, length, get_or, take, drop};
 ghost use Rattle.rows.specs.Sets.{has};
 ghost use Rattle.rows.specs.Ordered.{ascending};
@@ -10,10 +12,10 @@ ghost use Rattle.row_words.specs.Values.{row_is};
 ghost use Rattle.row_words.specs.Search.{Finds};
 ghost use Rattle.sets.specs.Values.{inserted_for, after_insert};
 
-use row_words::row::{Order, Row, compare, load, store};
-use row_words::search::Found;
-use row_words::{copy_up, row, search, wide};
+use row_words::row::Row;
+use row_words::{row, search};
 use rows::MOST_ROWS;
+use std::cmp::Ordering;
 
 #[derive(Clone, Copy)]
 pub enum Inserted {
@@ -27,12 +29,10 @@ fn sound_rows(set: &[u32], count: usize) -> bool
     requires { 2 + 5 * count ≤ length set.now }
     ensures { result ≡ every sound_row (pieces 5 count (drop 2 set.now)) }
 {
-    let mut i: usize = 0;
-    while i < count {
+    for i in 0..count {
         if !row::sound(set, 2 + 5 * i) {
             return false;
         }
-        i += 1;
     }
     true
 }
@@ -42,20 +42,17 @@ fn ascends(set: &[u32], count: usize) -> bool
     requires { (2 + 5 * count ≤ length set.now) × (get_or set.now 1 0 ≡ count) × (every sound_row (pieces 5 count (drop 2 set.now)) ≡ true) }
     ensures { result ≡ ascending row_before (rows_in set.now) }
 {
-    let mut i: usize = 0;
-    while i + 1 < count {
-        let row = load(set, 2 + 5 * i);
-        match compare(row, set, 2 + 5 * (i + 1)) {
-            Order::Before => {}
-            Order::Same => return false,
-            Order::After => return false,
+    for i in 1..count {
+        let row = Row::at(set, 2 + 5 * (i - 1));
+        let order = row.compare(set, 2 + 5 * i);
+        if !order.is_lt() {
+            return false;
         }
-        i += 1;
     }
     true
 }
 
-// "A set handed in is sound if form, count, widths, zeros and order keep this and no row is cut off."
+/// "A set handed in is sound if form, count, widths, zeros and order keep this and no row is cut off."
 pub fn sound(set: &[u32]) -> bool
     ensures { result ≡ sound_set set.now }
 {
@@ -65,7 +62,7 @@ pub fn sound(set: &[u32]) -> bool
     if 1 < set[0] {
         return false;
     }
-    let count = wide(set[1]);
+    let count = set[1] as usize;
     if MOST_ROWS < count {
         return false;
     }
@@ -79,39 +76,39 @@ pub fn sound(set: &[u32]) -> bool
 }
 
 // The place of a row among those listed, by halving.
-fn find(set: &[u32], row: Row) -> Found
-    requires { (sound_set set.now ≡ true) × (row.width ≤ 4) }
-    ensures { Finds (rows_in set.now) (row_is row) result }
+fn find(set: &[u32], row: &Row) -> Result<usize, usize>
+    requires { (sound_set set.now ≡ true) × (row.now.width ≤ 4) }
+    ensures { Finds (rows_in set.now) (row_is row.now) result }
 {
-    search::find(set, 2, 5, wide(set[1]), row)
+    search::find(set, 2, 5, set[1] as usize, row)
 }
 
 // The place of a row, looked for at the end first: rows mostly come in order.
-fn find_from_end(set: &[u32], row: Row) -> Found
-    requires { (sound_set set.now ≡ true) × (row.width ≤ 4) }
-    ensures { Finds (rows_in set.now) (row_is row) result }
+fn find_from_end(set: &[u32], row: &Row) -> Result<usize, usize>
+    requires { (sound_set set.now ≡ true) × (row.now.width ≤ 4) }
+    ensures { Finds (rows_in set.now) (row_is row.now) result }
 {
-    let count = wide(set[1]);
+    let count = set[1] as usize;
     if count == 0 {
-        return Found::Missing(0);
+        return Err(0);
     }
     let last = count - 1;
-    match compare(row, set, 2 + 5 * last) {
-        Order::Before => find(set, row),
-        Order::Same => Found::At(last),
-        Order::After => Found::Missing(count),
+    match row.compare(set, 2 + 5 * last) {
+        Ordering::Less => find(set, row),
+        Ordering::Equal => Ok(last),
+        Ordering::Greater => Err(count),
     }
 }
 
-// "A row is in a finite answer if it is listed, in a complement if it is not."
+/// "A row is in a finite answer if it is listed, in a complement if it is not."
 pub fn has(set: &[u32], row: Row) -> bool
     requires { (sound_set set.now ≡ true) × (row.width ≤ 4) }
     ensures { result ≡ has (set_in set.now) (row_is row) }
 {
     let finite = set[0] == 0;
-    match find(set, row) {
-        Found::At(_) => finite,
-        Found::Missing(_) => !finite,
+    match find(set, &row) {
+        Ok(_) => finite,
+        Err(_) => !finite,
     }
 }
 
@@ -124,34 +121,14 @@ pub fn clear(set: &mut [u32], form: u32)
     set[0] = form;
 }
 
-// Puts a row in at place `i`: the later ones move up by five words.
-fn insert_at(set: &mut [u32], i: usize, row: Row)
-    requires { (sound_set set.old ≡ true) × (642 ≤ length set.old) × (i ≤ length (rows_in set.old)) × (length (rows_in set.old) < 128) × (row.width ≤ 4) }
-    ensures { set.new ≡ written (formed (get_or set.old 0 0) (take i (rows_in set.old) ++ (row_is row ∷ drop i (rows_in set.old)))) set.old }
-{
-    let listed = set[1];
-    let at = 2 + 5 * i;
-    let later = wide(listed) - i;
-    copy_up(set, at, at + 5, 5 * later);
-    store(set, at, row);
-    set[1] = listed + 1;
-}
-
-// Has the set list a row too, if it does not yet.
 pub fn insert(set: &mut [u32], row: Row) -> Inserted
     requires { (sound_set set.old ≡ true) × (642 ≤ length set.old) × (1 ≤ row.width) × (row.width ≤ 4) }
     ensures answer { result ≡ inserted_for (set_in set.old) (row_is row) }
     ensures words { set.new ≡ after_insert result set.old (row_is row) }
 {
-    match find_from_end(set, row) {
-        Found::At(_) => Inserted::Known,
-        Found::Missing(i) => {
-            if wide(set[1]) == MOST_ROWS {
-                return Inserted::Full;
-            }
-            insert_at(set, i, row);
-            Inserted::New
-        }
+    match listing::insert(set, row) {
+        Ok(new) => { if new { Inserted::New } else { Inserted::Known } }
+        Err(_) => Inserted::Full,
     }
 }
 
@@ -160,10 +137,6 @@ pub fn copy(from: &[u32], to: &mut [u32])
     requires { (sound_set from.now ≡ true) × (642 ≤ length to.old) }
     ensures { to.new ≡ written (set_in from.now) to.old }
 {
-    let end = 2 + 5 * wide(from[1]);
-    let mut i: usize = 0;
-    while i < end {
-        to[i] = from[i];
-        i += 1;
-    }
+    let end = 2 + 5 * from[1] as usize;
+    to[..end].copy_from_slice(&from[..end]);
 }
