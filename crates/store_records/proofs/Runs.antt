@@ -20,7 +20,7 @@ use Rattle.rows.proofs.LayoutLaws.{sound_width, row_width}
 use Rattle.rows.proofs.Records.{record_length, behind_before}
 use Rattle.row_words.proofs.RowLaws.{five_length, five_at_lem, front_next, row_in_atom, row_differs, row_ends}
 use Rattle.certificates.specs.Certificate.{record_words, first_minute, end_minute, record_name, sound_term, sound_record, record_before}
-use Rattle.certificates.specs.Steps.{sound_at, pair_at, ShortRow, Follows, by_first, by_second, by_term, Run}
+use Rattle.certificates.specs.Steps.{pair_at, ShortRow, Follows, by_first, by_second, by_term, Run}
 use Rattle.certificates.proofs.RecordOrder.{row_decides, term_decides}
 use Rattle.certificates.proofs.Sound.{sound_record_lem, record_sound}
 
@@ -187,11 +187,6 @@ pub record Going (store : List ℕ) (count start i : ℕ) : Type 0 where
   pub named : record_name (record_at record_words store (i - 1)) ≡ record_name (record_at record_words store start)
 
 module _ (store : List ℕ) (count start : ℕ) (first : sound_record (record_at record_words store start) ≡ true) where
-  pub going_first : start < count → Going store count start (start + 1)
-  going_first h =
-      let e : start + 1 - 1 ≡ start = omega arith in
-      record { run = record { some = omega arith; few = omega arith; each = λ k h l. absurd (omega arith) }; sound = rw e first; named = rw e refl }
-
   module _ (words : (k : ℕ) → get_or store k 0 < 4294967296) (room : 1 + record_words * count ≤ length store) (i : ℕ) (more : i < count) where
     word_at : (n : ℕ) → get_or (record_at record_words store n) 0 0 < 4294967296
     unfolding record_at
@@ -221,14 +216,3 @@ module _ (store : List ℕ) (count start : ℕ) (first : sound_record (record_at
             sound = rw e sound_i;
             named = rw (e, ← this, ← its_first) named;
           }
-
--- ---- a store, run by run
-
--- what holds before a run, and of its first record, holds up to its end
-pub through_run : {store : List ℕ} {count i end : ℕ} → ((k : ℕ) → k < i → sound_at store k ≡ true) → sound_at store i ≡ true → Run store count i end →
-    (k : ℕ) → k < end → sound_at store k ≡ true
-through_run {store} {i = i} f e r k h = go (split (ltb i k))
-  where
-    go : Case (ltb i k) → sound_at store k ≡ true
-    go (is_true t) = r.each k h (ltb-true i k t)
-    go (is_false t) = below_more _ i f e k (omega (arith, ltb-false i k t))

@@ -12,7 +12,6 @@ ghost use Rattle.certificates.specs.Steps.{sound_at, pair_at, ShortRow, Follows,
 use crate::record::{record_before, sound_record, sound_term, term_before};
 use certificates::{CAPACITY, RECORD_WORDS, ROW_IN_RECORD, STORE_WORDS};
 use records::record_at;
-use row_words::wide;
 
 const FIRST_ATOM: usize = ROW_IN_RECORD + 1;
 
@@ -23,13 +22,7 @@ fn sound_at(store: &[u32], i: usize) -> bool
     ensures { result ≡ sound_at store.now i }
 {
     let this = record_at(store, RECORD_WORDS, i);
-    if !sound_record(this) {
-        return false;
-    }
-    if i == 0 {
-        return true;
-    }
-    record_before(record_at(store, RECORD_WORDS, i - 1), this)
+    sound_record(this) && (i == 0 || record_before(record_at(store, RECORD_WORDS, i - 1), this))
 }
 
 // Two words as one number, which one load reads: pairs are equal just if both words are.
@@ -37,7 +30,7 @@ fn pair(words: &[u32], at: usize) -> usize
     requires { at + 2 ≤ length words.now }
     ensures { result ≡ pair_at words.now at }
 {
-    wide(words[at]) + wide(words[at + 1]) * 4294967296
+    words[at] as usize + words[at + 1] as usize * 4294967296
 }
 
 // Is the record of this polarity, with a sound row of one atom or two? The longer rows are left to `sound_at`. Polarity and width are compared as one number.
@@ -45,15 +38,10 @@ fn short_row(words: &[u32], polarity: u32) -> bool
     requires { length words.now ≡ record_words }
     ensures { result ≡ true → ShortRow words.now polarity }
 {
-    if pair(words, FIRST_ATOM + 2) != 0 {
-        return false;
-    }
-    let one_atom = wide(polarity) + 4294967296;
+    let one_atom = polarity as usize + 4294967296;
     let kind = pair(words, 2);
-    if kind == one_atom {
-        return words[FIRST_ATOM + 1] == 0;
-    }
-    kind == one_atom + 4294967296
+    pair(words, FIRST_ATOM + 2) == 0
+        && (kind == one_atom + 4294967296 || kind == one_atom && words[FIRST_ATOM + 1] == 0)
 }
 
 // Does `b`, with a short row, come behind `a` of the same name: by its first two atoms, or with the same row by its term? An unused second atom is 0, and so
@@ -87,38 +75,29 @@ fn run_end(store: &[u32], count: usize, start: usize) -> usize
     let first = record_at(store, RECORD_WORDS, start);
     let owner = pair(first, 0);
     let polarity = first[2];
-    let mut i = start + 1;
-    while i < count {
+    for i in start + 1..count {
         let this = record_at(store, RECORD_WORDS, i);
-        if pair(this, 0) != owner {
+        if pair(this, 0) != owner
+            || !short_row(this, polarity)
+            || !sound_term(this)
+            || !follows(record_at(store, RECORD_WORDS, i - 1), this)
+        {
             return i;
         }
-        if !short_row(this, polarity) {
-            return i;
-        }
-        if !sound_term(this) {
-            return i;
-        }
-        if !follows(record_at(store, RECORD_WORDS, i - 1), this) {
-            return i;
-        }
-        i += 1;
     }
-    i
+    count
 }
 
-// Is the store long enough, its count in range, and each record sound and in order?
+/// Is the store long enough, its count in range, and each record sound and in order?
 pub fn sound_store(store: &[u32]) -> bool
     ensures { result ≡ sound_store store.now }
 {
-    if store.len() < STORE_WORDS {
-        return false;
-    }
-    if CAPACITY < store[0] {
+    if store.len() < STORE_WORDS || CAPACITY < store[0] {
         return false;
     }
     let count = store[0] as usize;
-    let mut i: usize = 0;
+    let mut i = 0;
+    // The index jumps by a run, which no iterator does.
     while i < count {
         if !sound_at(store, i) {
             return false;
@@ -128,7 +107,7 @@ pub fn sound_store(store: &[u32]) -> bool
     true
 }
 
-// How many records of a sound store come before the certificate: its place among them, by binary search.
+/// How many records of a sound store come before the certificate: its place among them, by binary search.
 pub fn place_of(store: &[u32], certificate: &[u32]) -> usize
     requires { (sound_store store.now ≡ true) × (sound_record certificate.now ≡ true) }
     ensures { result ≡ place_in record_before (records store.now) certificate.now }
@@ -146,14 +125,10 @@ pub fn place_of(store: &[u32], certificate: &[u32]) -> usize
     low
 }
 
-// Is the certificate the record at its place?
+/// Is the certificate the record at its place?
 pub fn is_held(store: &[u32], place: usize, certificate: &[u32]) -> bool
     requires { (sound_store store.now ≡ true) × (sound_record certificate.now ≡ true) }
     ensures { result ≡ held_at record_words record_before store.now place certificate.now }
 {
-    if place < store[0] as usize {
-        !record_before(certificate, record_at(store, RECORD_WORDS, place))
-    } else {
-        false
-    }
+    place < store[0] as usize && !record_before(certificate, record_at(store, RECORD_WORDS, place))
 }

@@ -8,26 +8,20 @@ use row_words::row::{Order, compare, load};
 use row_words::{compare_words, row};
 use rows::{FIRST_KEY, LAST_NAME};
 
-// Ten words: the key is one, name and polarity are in range, and the row is sound. Its term is not looked at.
+/// Ten words: the key is one, name and polarity are in range, and the row is sound. Its term is not looked at.
+#[tactic(auto, unfolding(certificates::specs::Certificate::sound_certificate))]
 pub fn sound_certificate(words: &[u32]) -> bool
     ensures { result ≡ sound_certificate words.now }
 {
-    if words.len() != RECORD_WORDS {
-        return false;
-    }
-    if words[0] < FIRST_KEY {
-        return false;
-    }
-    if LAST_NAME < words[1] {
-        return false;
-    }
-    if 1 < words[2] {
-        return false;
-    }
-    row::sound(words, ROW_IN_RECORD)
+    words.len() == RECORD_WORDS
+        && FIRST_KEY <= words[0]
+        && words[1] <= LAST_NAME
+        && words[2] <= 1
+        && row::sound(words, ROW_IN_RECORD)
 }
 
-// Is the end after the first minute?
+/// Is the end after the first minute?
+#[tactic(auto, unfolding(certificates::specs::Certificate::sound_term))]
 pub fn sound_term(words: &[u32]) -> bool
     requires { length words.now ≡ record_words }
     ensures { result ≡ sound_term words.now }
@@ -35,14 +29,12 @@ pub fn sound_term(words: &[u32]) -> bool
     words[TERM_IN_RECORD] < words[TERM_IN_RECORD + 1]
 }
 
-// A record as a store holds it.
+/// A record as a store holds it.
+#[tactic(auto, unfolding(certificates::specs::Certificate::sound_record), using(certificates::proofs::Sound::sound_ten))]
 pub fn sound_record(words: &[u32]) -> bool
     ensures { result ≡ sound_record words.now }
 {
-    if !sound_certificate(words) {
-        return false;
-    }
-    sound_term(words)
+    sound_certificate(words) && sound_term(words)
 }
 
 // Does the term of `a` come before that of `b`, by the first minute, then by the end?
