@@ -3,23 +3,24 @@
 //     our key KEY                  says which key is ours in the lines that follow
 //
 // Any other is a heading.
-ghost use Rattle.std.specs.Prelude.{◌≤◌, length};
-
-use crate::{first_word, past, say};
+use crate::text::Text;
 use rows::FIRST_KEY;
+use std::io;
 
-// Ours until a line says another: k2, as document 02, N7, gives it to cases a to l.
+// Ours until a line says another: k2.
 pub const OUR_KEY: u32 = FIRST_KEY + 2;
 
-// Prints a line that is a heading. It returns our key in the lines that follow.
-pub fn heading(text: &[u8], at: usize, end: usize, our_key: u32) -> u32
-    requires { (at ≤ end) × (end ≤ length text.now) }
-{
-    let set = past(text, at, b"our key ");
-    if at < set {
-        return first_word(text, set);
+/// Prints a line that is a heading, or sets our key for the lines that follow.
+pub fn heading(
+    rt: &(impl Print + AllocGlobal),
+    line: Text<'_>,
+    our_key: &mut u32,
+) -> io::Result<()> {
+    let mut text = line;
+    if text.passes(b"our key ") {
+        *our_key = text.first_word(rt.alloc())?;
+        return Ok(());
     }
-    say(&text[at..end]);
-    say(b"\n");
-    our_key
+    rt.write_all(text.cell())?;
+    println!(rt;)
 }

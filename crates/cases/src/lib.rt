@@ -6,14 +6,7 @@
 #![tactic(auto)]
 
 pub mod headings;
-pub mod lines;
-pub mod numbers;
-pub mod printing;
+pub mod input;
 pub mod replies;
 pub mod storing;
-pub mod words;
-
-pub use headings::{OUR_KEY, heading};
-pub use lines::{after, cell_end, is_at, is_bar, next_line, past};
-pub use printing::{say, say_number, say_words};
-pub use words::{Words, at_most, first_word, read_words};
+pub mod text;

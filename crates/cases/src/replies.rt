@@ -1,91 +1,107 @@
 // What a call replied, in words: a refusal, an area's untouched rest, the set in an answer area that was full of fives before.
-ghost use Rattle.std.specs.Prelude.{◌≤◌, length};
-
-use crate::{say, say_number, say_words};
 use engine::Reply;
+use std::{fmt, io};
 
-// Are the words all this one?
-fn all_are(words: &[u32], word: u32) -> bool {
-    let mut i: usize = 0;
-    while i < words.len() {
-        if words[i] != word {
-            return false;
+/// Words, with a space before each.
+#[derive(Clone, Copy, Debug)]
+pub struct Spaced<'a>(pub &'a [u32]);
+
+impl fmt::Display for Spaced<'_> {
+    fn fmt<W: fmt::Write>(&self, f: &mut fmt::Formatter<W>) -> fmt::Result {
+        for word in self.0 {
+            write!(f, " {word}")?;
         }
-        i += 1;
-    }
-    true
-}
-
-// Is the rest of an area that was full of this word as it was?
-pub fn say_rest(words: &[u32], word: u32) {
-    if all_are(words, word) {
-        say(b", the rest stays");
-    } else {
-        say(b", THE REST IS TOUCHED");
+        Ok(())
     }
 }
 
-fn say_verdict(verdict: u32) {
-    if verdict == 0 {
-        say(b"exact, ");
-    } else if verdict == 1 {
-        say(b"lower, ");
-    } else {
-        say(b"upper, ");
+/// Whether the rest of an area that was full of one word is as it was.
+#[derive(Clone, Copy, Debug)]
+pub struct Rest<'a> {
+    pub words: &'a [u32],
+    pub was: u32,
+}
+
+impl fmt::Display for Rest<'_> {
+    fn fmt<W: fmt::Write>(&self, f: &mut fmt::Formatter<W>) -> fmt::Result {
+        let was = self.was;
+        if self.words.iter().all(|word| *word == was) {
+            write!(f, ", the rest stays")
+        } else {
+            write!(f, ", THE REST IS TOUCHED")
+        }
     }
 }
 
-fn say_form(form: u32) {
-    if form == 0 {
-        say(b"only ");
-    } else {
-        say(b"all but ");
+/// The set at the front of an answer area that was full of fives: its form, its count, its rows if they are few, and whether the rest of the area
+/// stays.
+#[derive(Clone, Copy, Debug)]
+pub struct SetIn<'a>(pub &'a [u32]);
+
+impl fmt::Display for SetIn<'_> {
+    fn fmt<W: fmt::Write>(&self, f: &mut fmt::Formatter<W>) -> fmt::Result {
+        let answer = self.0;
+        if answer.len() < 642 {
+            return Ok(());
+        }
+        let form = if answer[0] == 0 { "only" } else { "all but" };
+        let count = answer[1];
+        write!(f, "{form} {count}")?;
+        if count <= 128 {
+            let (rows, words) = answer[2..].split_at(5 * count as usize);
+            if count <= 4 {
+                let rows = Spaced(rows);
+                write!(f, ":{rows}")?;
+            }
+            let rest = Rest { words, was: 5 };
+            write!(f, "{rest}")?;
+        }
+        Ok(())
     }
 }
 
-// The rows of a set if they are few, and whether the rest of the area stays.
-fn say_rows(answer: &[u32], count: u32)
-    requires { (642 ≤ length answer.now) × (count ≤ 128) }
-{
-    let end = 2 + 5 * count as usize;
-    if count <= 4 {
-        say(b":");
-        say_words(&answer[2..end]);
-    }
-    say_rest(&answer[end..], 5);
+/// The refusal of a call that reads a policy or a query.
+#[derive(Clone, Copy, Debug)]
+pub struct RefusedCall {
+    pub number: u32,
+    pub part: u32,
 }
 
-// The set at the front of an answer area that was full of fives: its form, its count and its rows.
-fn say_set(answer: &[u32]) {
-    if answer.len() < 642 {
-        return;
-    }
-    say_form(answer[0]);
-    let count = answer[1];
-    say_number(count);
-    if count <= 128 {
-        say_rows(answer, count);
+impl fmt::Display for RefusedCall {
+    fn fmt<W: fmt::Write>(&self, f: &mut fmt::Formatter<W>) -> fmt::Result {
+        let number = self.number;
+        let part = self.part;
+        write!(f, "refused {number}, part {part}")
     }
 }
 
-pub fn say_refusal(number: u32, part: u32) {
-    say(b"refused ");
-    say_number(number);
-    say(b", part ");
-    say_number(part);
+fn verdict_name(verdict: u32) -> &'static str {
+    match verdict {
+        0 => "exact",
+        1 => "lower",
+        _ => "upper",
+    }
 }
 
-pub fn say_reply(reply: Reply, answer: &[u32]) {
+/// Prints the reply to a query, whose answer area was full of fives before.
+pub fn print_reply(rt: &impl Print, reply: Reply, answer: &[u32]) -> io::Result<()> {
     match reply {
         Reply::Answered { verdict, draws } => {
-            say_verdict(verdict);
-            say_number(draws);
-            say(b" draws, ");
-            say_set(answer);
+            print!(rt;
+                "{}, {draws} draws, {}",
+                verdict_name(verdict),
+                SetIn(answer)
+            )
         }
         Reply::Refused { number, part } => {
-            say_refusal(number, part);
-            say_rest(answer, 5);
+            print!(rt;
+                "{}{}",
+                RefusedCall { number, part },
+                Rest {
+                    words: answer,
+                    was: 5
+                }
+            )
         }
     }
 }

@@ -1,4 +1,4 @@
-// Converts the dates and the minutes of its input, and prints what it found. Each line of `stdout` was checked by hand against document 02, N4.
+// Converts the dates and the minutes of its input, and prints what it found. Each line of `stdout` was checked by hand.
 // How words are written is said in the crate `cases`. A line is one of these:
 //
 //     NAME|minutes YEAR MONTH DAY HOUR MINUTE      prints the minutes of the date
@@ -7,90 +7,65 @@
 // A line without bars is a heading.
 #![tactic(auto)]
 
-ghost use Rattle.std.specs.Prelude.{◌≤◌, length};
-
 use calendar::{Date, Minute};
-use cases::{
-    after, cell_end, first_word, is_at, is_bar, next_line, read_words, say, say_number, say_words,
-};
+use cases::input::read_input;
+use cases::text::Text;
 use refusals::Refusal;
+use std::alloc::{AllocError, Global};
+use std::io;
 
-fn say_refused(refusal: Refusal) {
-    say(b": refused ");
-    say_number(u32::from(refusal));
+fn print_refusal(rt: &impl Print, refusal: Refusal) -> io::Result<()> {
+    print!(rt; ": refused {}", u32::from(refusal))
 }
 
-fn say_minutes(outcome: Result<Minute, Refusal>) {
-    match outcome {
-        Ok(Minute(count)) => {
-            say(b": ");
-            say_number(count);
-        }
-        Err(refusal) => say_refused(refusal),
-    }
-}
-
-fn say_dated(outcome: Result<Date, Refusal>) {
-    match outcome {
-        Ok(date) => {
-            let words = [date.year, date.month, date.day, date.hour, date.minute];
-            say(b":");
-            say_words(&words);
-        }
-        Err(refusal) => say_refused(refusal),
-    }
-}
-
-// The minutes of the date that is written at `at`.
-fn minutes_at(text: &[u8], at: usize)
-    requires { at ≤ length text.now }
-{
-    let mut words = [0u32; 5];
-    read_words(text, at, &mut words);
+// The date whose five numbers stand here. A number that is missing is 0.
+fn date_in(alloc: Global, mut text: Text<'_>) -> Result<Date, AllocError> {
+    let mut words = [0; 5];
+    text.words_over(alloc, &mut words)?;
     let [year, month, day, hour, minute] = words;
-    let date = Date {
+    Ok(Date {
         year,
         month,
         day,
         hour,
         minute,
-    };
-    say_minutes(Minute::try_from(date));
+    })
 }
 
-// What a line asks at `at`.
-fn convert(text: &[u8], at: usize)
-    requires { at ≤ length text.now }
-{
-    if is_at(text, at, b'm') {
-        minutes_at(text, at);
-    } else {
-        say_dated(Date::try_from(Minute(first_word(text, at))));
+// Prints what a line asks behind its bar.
+fn convert(rt: &(impl Print + AllocGlobal), mut text: Text<'_>) -> io::Result<()> {
+    if text.passes(b"m") {
+        return match Minute::try_from(date_in(rt.alloc(), text)?) {
+            Ok(Minute(minutes)) => print!(rt; ": {minutes}"),
+            Err(refusal) => print_refusal(rt, refusal),
+        };
+    }
+    match Date::try_from(Minute(text.first_word(rt.alloc())?)) {
+        Ok(
+            Date {
+                year,
+                month,
+                day,
+                hour,
+                minute,
+            },
+        ) => print!(rt; ": {year} {month} {day} {hour} {minute}"),
+        Err(refusal) => print_refusal(rt, refusal),
     }
 }
 
-// One line.
-fn line(text: &[u8], at: usize)
-    requires { at ≤ length text.now }
-{
-    let name = cell_end(text, at);
-    say(&text[at..name]);
-    if is_bar(text, name) {
-        convert(text, after(text, name));
+fn line(rt: &(impl Print + AllocGlobal), mut text: Text<'_>) -> io::Result<()> {
+    rt.write_all(text.cell())?;
+    if text.passes(b"|") {
+        convert(rt, text)?;
     }
-    say(b"\n");
+    println!(rt;)
 }
 
-fn run(text: &[u8]) {
-    let mut at: usize = 0;
-    while at < text.len() {
-        line(text, at);
-        at = next_line(text, at);
+fn main(rt: HostRuntime) -> io::Result<()> {
+    let input = read_input(&rt)?;
+    for text in Text::new(&input).lines() {
+        line(&rt, text)?;
     }
-}
-
-fn main() {
-    let mut text = io::large_buffer();
-    let count = io::read_full(0, &mut text);
-    run(&text[0..count]);
+    Ok(())
 }

@@ -1,5 +1,5 @@
-// Files into real stores what the lines of its input say, and prints what it found. Each line of `stdout` was checked by hand against document
-// 01, "Store and filing", and document 02, N1, N4 and N5. How words are written is said in the crate `cases`. A line is one of these:
+// Files into real stores what the lines of its input say, and prints what it found. Each line of `stdout` was checked by
+// hand. How words are written is said in the crate `cases`. A line is one of these:
 //
 //     NAME|WORDS                   files the words as a certificate, and prints the reply with the count that the store has then
 //     NAME|WORDS|LENGTH            the same with a store of so many words, not 16001
@@ -12,198 +12,132 @@
 // `file`, `store`, `link` and `links` lines keep the stores (`cases::storing`). Any other line is printed.
 #![tactic(auto)]
 
-ghost use Rattle.std.specs.Prelude.{◌≤◌, ◌<◌, length};
+ghost use Rattle.std.specs.Prelude.{◌<◌};
 
+use cases::input::read_input;
 use cases::storing::keep;
-use cases::{
-    after, at_most, cell_end, first_word, is_bar, next_line, past, read_words, say, say_number,
-};
+use cases::text::Text;
 use certificates::{LINK_WORDS, RECORD_WORDS};
-use store::{Filing, certificates_of, file, file_link};
+use std::io;
+use store::{Certificates, Filing, Kind, Links, certificates_of, file_record};
 
-fn say_filing(filing: Filing) {
+fn print_filing(rt: &impl Print, filing: Filing) -> io::Result<()> {
     match filing {
-        Filing::Filed => say(b": Filed"),
-        Filing::Held => say(b": Held"),
-        Filing::Refused(refusal) => {
-            say(b": Refused ");
-            say_number(refusal.into());
-        }
+        Filing::Filed => print!(rt; ": Filed"),
+        Filing::Held => print!(rt; ": Held"),
+        Filing::Refused(refusal) => print!(rt; ": Refused {}", u32::from(refusal)),
     }
 }
 
-fn say_count(store: &[u32]) {
-    if 0 < store.len() {
-        say(b", count ");
-        say_number(store[0]);
-    }
-}
-
-// Files the words, and prints the reply with the count that the store has then.
-fn try_certificate(store: &mut [u32], words: &[u32]) {
-    say_filing(file(store, words));
-    say_count(store);
-}
-
-// The same for a link.
-fn try_link(links: &mut [u32], words: &[u32]) {
-    say_filing(file_link(links, words));
-    say_count(links);
-}
-
-// How many words of a store are lent: the number after the bar at `at`, or `usual` if there is no bar.
-fn length_at(text: &[u8], at: usize, usual: u32, most: usize) -> usize
-    requires { at ≤ length text.now }
-    ensures { result ≤ most }
-{
-    if is_bar(text, at) {
-        at_most(first_word(text, after(text, at)), most)
+// Files the words that stand here, no more than `most`, into as many words of the store as the line says, or `usual`, and prints the reply with the
+// count that the store has then.
+fn try_record<K: Kind>(
+    rt: &(impl Print + AllocGlobal),
+    mut text: Text<'_>,
+    most: usize,
+    store: &mut [u32],
+    usual: usize,
+) -> io::Result<()> {
+    let record = text.words(rt.alloc(), most)?;
+    let lent = if text.passes(b"|") {
+        text.first_word(rt.alloc())? as usize
     } else {
-        at_most(usual, most)
-    }
-}
-
-// Files the words at `at`: at most eleven, one more than a certificate has.
-fn certificate_at(text: &[u8], at: usize, store: &mut [u32])
-    requires { at ≤ length text.now }
-{
-    let mut words = [0u32; 11];
-    let read = read_words(text, at, &mut words);
-    let count = read.count;
-    let end = length_at(text, read.next, 16001, store.len());
-    try_certificate(&mut store[0..end], &words[0..count]);
-}
-
-// Files the words at `at`: at most six, one more than a link has.
-fn link_at(text: &[u8], at: usize, links: &mut [u32])
-    requires { at ≤ length text.now }
-{
-    let mut words = [0u32; 6];
-    let read = read_words(text, at, &mut words);
-    let count = read.count;
-    let end = length_at(text, read.next, 1281, links.len());
-    try_link(&mut links[0..end], &words[0..count]);
-}
-
-// Files what stands after the bar at `at`.
-fn try_at(text: &[u8], at: usize, store: &mut [u32], links: &mut [u32])
-    requires { at ≤ length text.now }
-{
-    let cell = after(text, at);
-    let link = past(text, cell, b"link");
-    if cell < link {
-        link_at(text, link, links);
-    } else {
-        certificate_at(text, cell, store);
-    }
-}
-
-// What stands after so many words: a record fills a line.
-fn say_gap(count: usize, width: usize)
-    requires { 0 < width }
-{
-    if count % width == 0 {
-        say(b"\n");
-    } else {
-        say(b" ");
+        usual
+    };
+    let end = lent.min(store.len());
+    let store = &mut store[..end];
+    print_filing(rt, file_record::<K>(store, &record))?;
+    match store.first() {
+        Some(count) => print!(rt; ", count {count}"),
+        None => Ok(()),
     }
 }
 
 // Prints the words, so many to a line.
-fn show(words: &[u32], width: usize)
+fn show(rt: &impl Print, words: &[u32], width: usize) -> io::Result<()>
     requires { 0 < width }
 {
-    let mut i: usize = 0;
-    while i < words.len() {
-        say_number(words[i]);
-        i += 1;
-        say_gap(i, width);
+    for (i, word) in words.iter().enumerate() {
+        let gap = if (i + 1) % width == 0 { "\n" } else { " " };
+        print!(rt; "{word}{gap}")?;
     }
+    Ok(())
 }
 
-fn words_at(text: &[u8], at: usize, store: &[u32], width: usize)
-    requires { (at ≤ length text.now) × (0 < width) }
+// Prints the words of the store from the first place that stands here to the second.
+fn show_between(
+    rt: &(impl Print + AllocGlobal),
+    mut text: Text<'_>,
+    store: &[u32],
+    width: usize,
+) -> io::Result<()>
+    requires { 0 < width }
 {
-    let mut ends = [0u32; 2];
-    read_words(text, at, &mut ends);
-    let end = at_most(ends[1], store.len());
-    let from = at_most(ends[0], end);
-    show(&store[from..end], width);
+    let mut ends = [0; 2];
+    text.words_over(rt.alloc(), &mut ends)?;
+    let [from, end] = ends;
+    let end = (end as usize).min(store.len());
+    let from = (from as usize).min(end);
+    show(rt, &store[from..end], width)
 }
 
-fn part_at(text: &[u8], at: usize, store: &[u32])
-    requires { at ≤ length text.now }
-{
-    let mut name = [0u32; 3];
-    read_words(text, at, &mut name);
-    show(
-        certificates_of(store, name[0], name[1], name[2]),
-        RECORD_WORDS,
-    );
-}
-
-// Prints the words that a line asks for; of any other it says no.
-fn look(text: &[u8], at: usize, store: &[u32], links: &[u32]) -> bool
-    requires { at ≤ length text.now }
-{
-    let linked = past(text, at, b"words of links ");
-    if at < linked {
-        words_at(text, linked, links, LINK_WORDS);
-        return true;
+// Does what a line without bars says.
+fn act(
+    rt: &(impl Print + AllocGlobal),
+    line: Text<'_>,
+    store: &mut [u32],
+    links: &mut [u32],
+) -> io::Result<()> {
+    if keep(rt.alloc(), line, store, links)? {
+        return Ok(());
     }
-    let filed = past(text, at, b"words ");
-    if at < filed {
-        words_at(text, filed, store, RECORD_WORDS);
-        return true;
-    }
-    let part = past(text, at, b"part ");
-    if at < part {
-        part_at(text, part, store);
-        return true;
-    }
-    false
-}
-
-// A line without bars.
-fn act(text: &[u8], at: usize, end: usize, store: &mut [u32], links: &mut [u32])
-    requires { (at ≤ end) × (end ≤ length text.now) }
-{
-    if keep(text, at, store, links) {
-        return;
-    }
-    if look(text, at, store, links) {
-        return;
-    }
-    say(&text[at..end]);
-    say(b"\n");
-}
-
-// One line.
-fn line(text: &[u8], at: usize, store: &mut [u32], links: &mut [u32])
-    requires { at ≤ length text.now }
-{
-    let end = cell_end(text, at);
-    if is_bar(text, end) {
-        say(&text[at..end]);
-        try_at(text, end, store, links);
-        say(b"\n");
+    let mut text = line;
+    if text.passes(b"words of links ") {
+        show_between(rt, text, links, LINK_WORDS)
+    } else if text.passes(b"words ") {
+        show_between(rt, text, store, RECORD_WORDS)
+    } else if text.passes(b"part ") {
+        let mut name = [0; 3];
+        text.words_over(rt.alloc(), &mut name)?;
+        let [key, number, polarity] = name;
+        show(
+            rt,
+            certificates_of(store, key, number, polarity),
+            RECORD_WORDS,
+        )
     } else {
-        act(text, at, end, store, links);
+        rt.write_all(text.cell())?;
+        println!(rt;)
     }
 }
 
-fn run(text: &[u8], store: &mut [u32], links: &mut [u32]) {
-    let mut at: usize = 0;
-    while at < text.len() {
-        line(text, at, store, links);
-        at = next_line(text, at);
+fn line(
+    rt: &(impl Print + AllocGlobal),
+    line: Text<'_>,
+    store: &mut [u32],
+    links: &mut [u32],
+) -> io::Result<()> {
+    let mut text = line;
+    let name = text.cell();
+    if !text.passes(b"|") {
+        return act(rt, line, store, links);
     }
+    rt.write_all(name)?;
+    // A word more is read than the record has.
+    if text.passes(b"link") {
+        try_record::<Links>(rt, text, LINK_WORDS + 1, links, 1281)?;
+    } else {
+        try_record::<Certificates>(rt, text, RECORD_WORDS + 1, store, 16001)?;
+    }
+    println!(rt;)
 }
 
-fn main() {
-    let mut text = io::large_buffer();
-    let count = io::read_full(0, &mut text);
+fn main(rt: HostRuntime) -> io::Result<()> {
+    let input = read_input(&rt)?;
     let mut store = [77u32; 16002];
     let mut links = [77u32; 1282];
-    run(&text[0..count], &mut store, &mut links);
+    for text in Text::new(&input).lines() {
+        line(&rt, text, &mut store, &mut links)?;
+    }
+    Ok(())
 }

@@ -1,0 +1,242 @@
+// The lines of a text, and the words in their cells.
+ghost use Rattle.std.specs.Prelude.{◌<◌, ◌≤◌, ◌≡◌, length, vec_len, IfOk, IsSome, IsNone};
+ghost use Rattle.std.specs.Iterator.{at_most};
+
+use rows::FIRST_KEY;
+use std::alloc::{AllocError, Global};
+
+/// A text from some place on.
+#[derive(Clone, Copy, Debug)]
+pub struct Text<'a> {
+    rest: &'a [u8],
+}
+
+/// The lines of a text: of each the whole text from its start on. An empty line hides the one after it.
+#[derive(Debug, Drop)]
+pub struct Lines<'a> {
+    rest: &'a [u8],
+}
+
+impl<'a> Iterator for Lines<'a> {
+    type Item = Text<'a>;
+
+    ghost remaining = { λ lines. at_most (length lines.rest.now) };
+
+    fn next(&mut self) -> Option<Text<'a>> {
+        let rest = self.rest;
+        let (_, behind) = rest.split_first()?;
+        self.rest = match behind.iter().position(|byte| *byte == b'\n') {
+            Some(end) => &behind[end + 1..],
+            None => &behind[behind.len()..],
+        };
+        Some(Text { rest })
+    }
+}
+
+// The digit that a byte is, and 10 for any other byte.
+fn digit(byte: u8) -> u32 {
+    char::from(byte).to_digit(10).unwrap_or(10)
+}
+
+// Does this byte end a cell?
+fn ends_cell(byte: u8) -> bool {
+    byte == b'|' || byte == b'\n'
+}
+
+// The words that were read, where the latest group begins among them, and which word of that group counts up.
+#[derive(Debug, Drop)]
+struct Reading {
+    words: Vec<u32>,
+    most: usize,
+    group: usize,
+    rising: Option<usize>,
+    ghost few: { vec_len words ≤ most },
+    ghost inside: { group ≤ vec_len words },
+}
+
+impl Reading {
+    fn new(alloc: Global, most: usize) -> Self
+        ensures { result.most ≡ most }
+    {
+        Reading {
+            words: Vec::new(alloc),
+            most,
+            group: 0,
+            rising: None,
+        }
+    }
+
+    fn start_group(&mut self)
+        ensures { self.new.most ≡ self.old.most }
+    {
+        self.group = self.words.len();
+        self.rising = None;
+    }
+
+    // The word that is put in next is the one of its group that counts up.
+    fn raise_next(&mut self)
+        ensures { self.new.most ≡ self.old.most }
+    {
+        self.rising = Some(self.words.len() - self.group);
+    }
+
+    fn into_words(self) -> Vec<u32>
+        ensures { vec_len result ≤ self.most }
+    {
+        self.words
+    }
+
+    // Puts a word in so many times, as far as there is room.
+    fn put(&mut self, word: u32, times: u32) -> Result<(), AllocError>
+        ensures { self.new.most ≡ self.old.most }
+    {
+        let count = self
+            .words
+            .len()
+            .saturating_add(times as usize)
+            .min(self.most);
+        self.words.resize(count, word)
+    }
+
+    // Puts the latest group in until it stands so many times, each time with the word that counts up one higher, as far as there is room.
+    fn repeat_group(&mut self, alloc: Global, times: u32) -> Result<(), AllocError>
+        ensures { self.new.most ≡ self.old.most }
+    {
+        let group = self.words[self.group..].to_vec(alloc)?;
+        for higher in 1..times {
+            if self.words.len() == self.most {
+                break;
+            }
+            for (i, word) in group.iter().enumerate() {
+                let word = if self.rising == Some(i) {
+                    word.wrapping_add(higher)
+                } else {
+                    *word
+                };
+                self.put(word, 1)?;
+            }
+        }
+        self.start_group();
+        Ok(())
+    }
+}
+
+impl<'a> Text<'a> {
+    pub fn new(text: &'a [u8]) -> Self {
+        Text { rest: text }
+    }
+
+    pub fn lines(self) -> Lines<'a> {
+        Lines { rest: self.rest }
+    }
+
+    /// Goes past these bytes, if they stand here.
+    pub fn passes(&mut self, bytes: &[u8]) -> bool {
+        let Some(rest) = self.rest.strip_prefix(bytes) else {
+            return false;
+        };
+        self.rest = rest;
+        true
+    }
+
+    /// Goes past one byte, if there is one: what ended a cell.
+    pub fn skip(&mut self) {
+        if let Some((_, rest)) = self.rest.split_first() {
+            self.rest = rest;
+        }
+    }
+
+    /// Goes to the bar or the line's end that ends this cell, and returns what stands before it.
+    pub fn cell(&mut self) -> &'a [u8] {
+        let text = self.rest;
+        let end = text
+            .iter()
+            .position(|byte| ends_cell(*byte))
+            .unwrap_or(text.len());
+        self.rest = &text[end..];
+        &text[..end]
+    }
+
+    // The number whose first digit stands here, modulo 2^32. It has a first digit, whatever byte that is.
+    fn number(&mut self) -> u32
+        ensures { 0 < length self.old.rest.now → length self.new.rest.now < length self.old.rest.now }
+    {
+        let Some((first, behind)) = self.rest.split_first() else {
+            return 0;
+        };
+        let count = behind
+            .iter()
+            .take_while(|byte| byte.is_ascii_digit())
+            .count();
+        self.rest = &behind[count..];
+        behind[..count].iter().fold(
+            digit(*first),
+            |value, byte| value.wrapping_mul(10).wrapping_add(digit(*byte)),
+        )
+    }
+
+    // The number behind this byte, if the byte stands here and is not the text's last.
+    fn number_after(&mut self, byte: u8) -> Option<u32>
+        ensures none { IsNone result → self.new ≡ self.old }
+        ensures some { IsSome result → length self.new.rest.now < length self.old.rest.now }
+    {
+        match self.rest.split_first() {
+            Some((first, behind)) if *first == byte && !behind.is_empty() => {
+                self.rest = behind;
+                Some(self.number())
+            }
+            _ => None,
+        }
+    }
+
+    // The word that starts here: a number, or a key.
+    fn word(&mut self) -> u32
+        ensures { 0 < length self.old.rest.now → length self.new.rest.now < length self.old.rest.now }
+    {
+        match self.number_after(b'k') {
+            Some(number) => number.wrapping_add(FIRST_KEY),
+            None => self.number(),
+        }
+    }
+
+    /// The words up to a bar or the line's end, but no more than `most`. It goes to what ended them.
+    pub fn words(&mut self, alloc: Global, most: usize) -> Result<Vec<u32>, AllocError>
+        ensures { IfOk result (λ words. vec_len words ≤ most) }
+    {
+        let mut read = Reading::new(alloc, most);
+        while let Some((first, behind)) = self.rest.split_first() {
+            match *first {
+                b'|' | b'\n' => break,
+                b'(' => {
+                    self.rest = behind;
+                    read.start_group();
+                }
+                b')' => {
+                    self.rest = behind;
+                    read.repeat_group(alloc, self.number_after(b'*').unwrap_or(1))?;
+                }
+                b'k' | b'0'..=b'9' => {
+                    let word = self.word();
+                    if self.rest.first() == Some(&b'.') {
+                        read.raise_next();
+                    }
+                    read.put(word, self.number_after(b'*').unwrap_or(1))?;
+                }
+                _ => self.rest = behind,
+            }
+        }
+        Ok(read.into_words())
+    }
+
+    /// Writes the words up to a bar or the line's end over the first of these, as far as there is room.
+    pub fn words_over(&mut self, alloc: Global, words: &mut [u32]) -> Result<(), AllocError> {
+        let read = self.words(alloc, words.len())?;
+        words[..read.len()].copy_from_slice(&read);
+        Ok(())
+    }
+
+    /// The first word of this cell, or 0.
+    pub fn first_word(mut self, alloc: Global) -> Result<u32, AllocError> {
+        Ok(self.words(alloc, 1)?.first().copied().unwrap_or(0))
+    }
+}
