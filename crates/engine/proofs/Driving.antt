@@ -21,16 +21,18 @@ use Rattle.policy_table.specs.Entries.{entry_place, entries_from, declared_as, d
 use Rattle.policy_table.proofs.Declared.{known_more}
 use Rattle.policy_table.proofs.PartAnswers.{table_parts, inside, Listed, listed_of}
 use Rattle.meaning.specs.Reading.{done, refused}
-use Rattle.read_values.specs.Answers.{Filled, set_read_is, IfDone}
+use Rattle.read_values.specs.Answers.{Filled}
+use Rattle.read_values.specs.Outcomes.{outcome, IfOk}
 use Rattle.read_values.specs.From.{From, with_sets, sets_in, names, sets, SoundFrom}
-use Rattle.read_values.specs.declared.Read.{Read}
-use Rattle.read_values.specs.declared.Read.TheVariants as read
+use Rattle.std.specs.Prelude.{Result, Ok, Err}
+use Rattle.refusals.specs.Numbers.{number, part_number}
+use Rattle.refusals.specs.declared.Refusal.{Refusal}
+use Rattle.refusals.specs.declared.Part.TheVariants as part
+use Rattle.refusals.specs.declared.Refused as Failed
 use Rattle.read_expressions.specs.Readers.{reading, AskWhole, SayWhole}
 use Rattle.demands.specs.Query.{Outcome, answered, read_from, answer_area}
 use Rattle.demands.specs.Query as Query
 use Rattle.engine.specs.Reply.{reply_for}
-use Rattle.engine.specs.declared.answering.Progress.{Progress}
-use Rattle.engine.specs.declared.answering.Progress.TheVariants.{Done, Refused}
 use Rattle.engine.specs.declared.Reply.TheVariants.{Answered, Refused}
 use Rattle.engine.specs.Steps.{Ready, ReadyPolicy, left_to_read, SoundIf, ReadDefinitions, ReadAll}
 use Rattle.engine.proofs.Placing.{sets_length, sound_more, sets_more}
@@ -143,9 +145,9 @@ module _ (f : From) (q : Expr) (v : Verdict) (k : ℕ) where
   unfolding read_from
   reading_refused h = rw (h, read_from)
 
-pub done_filled : {f : From} {ws : List ℕ} {k : ℕ} {area : List ℕ} {r : Read} {total : ℕ} → SayWhole f ws k r area → r ≡ read.Done total → Filled area
-unfolding IfDone
-done_filled {area = area} say e = subst (λ (x : Read). IfDone Filled x area) e say.filled
+pub done_filled : {f : From} {ws : List ℕ} {k : ℕ} {area : List ℕ} {total : ℕ} → SayWhole f ws k (Ok total) area → Filled area
+unfolding IfOk
+done_filled say = say.filled
 
 -- ---- the definitions
 
@@ -199,48 +201,47 @@ module _ {count : ℕ} {f : From} {draws : ℕ} (before : ReadSoFar count f draw
           long = omega arith;
         }
 
-    module _ {r : Read} {scratch : List ℕ} (said : SayWhole f words draws r scratch) where
-      -- the next definition's reading comes to what the code answered
-      next_means : (query : List ℕ) (es : List Expr) (q : Expr) (v : Verdict) → check f.our_key f.policy query ≡ checked es q v →
-          (e : Expr) × (others : List Expr) × (read_from f.format (names f) es q v [] 0 ≡ read_from f.format (names f) (e ∷ others) q v (sets f) draws) × (reading f e [] draws ≡ set_read_is r scratch)
-          × Left f.our_key f.policy count (f.known + 1) others
-      next_means query es q v h =
-          let b = before.means query es q v h in
-          let n = next more b.left in
-          (n.e, n.others, b.goes ∙ ap (λ (xs : List Expr). read_from f.format (names f) xs q v (sets f) draws) n.is, said.means n.e (rw is n.parses), n.left)
+    -- the next definition's reading comes to what the code answered
+    next_means : {r : Result ℕ Refusal} {scratch : List ℕ} → SayWhole f words draws r scratch → (query : List ℕ) (es : List Expr) (q : Expr) (v : Verdict) → check f.our_key f.policy query ≡ checked es q v →
+        (e : Expr) × (others : List Expr) × (read_from f.format (names f) es q v [] 0 ≡ read_from f.format (names f) (e ∷ others) q v (sets f) draws) × (reading f e [] draws ≡ outcome (set_in scratch) r)
+        × Left f.our_key f.policy count (f.known + 1) others
+    next_means said query es q v h =
+        let b = before.means query es q v h in
+        let n = next more b.left in
+        (n.e, n.others, b.goes ∙ ap (λ (xs : List Expr). read_from f.format (names f) xs q v (sets f) draws) n.is, said.means n.e (rw is n.parses), n.left)
 
-      pub next_read : {total : ℕ} {definitions : List ℕ} → r ≡ read.Done total → 642 * f.known + 642 ≤ length f.defs → entry_place f.known + 4 ≤ length f.policy →
-          definitions ≡ put (642 * f.known) (set_words (set_in scratch)) f.defs →
-          ReadSoFar count (with_sets f definitions (f.known + 1)) total
-      unfolding set_read_is
-      next_read {total} is_done room fits e = subst (λ (z : List ℕ). ReadSoFar count (with_sets f z (f.known + 1)) total) (sym e) (record {
-        few = omega arith;
-        sound = sound_more before.sound (done_filled said is_done) room fits;
-        means = λ query es q v h.
-            let n = next_means query es q v h in
-            record {
-              rest = n.1;
-              left = n.4;
-              goes = n.2 ∙ read_done f n.0 n.1 q v draws (n.3 ∙ ap (λ (x : Read). set_read_is x scratch) is_done)
-                  ∙ ap (λ (ss : List RowSet). read_from f.format (names f) n.1 q v ss total) (sym (sets_more before.sound (done_filled said is_done) room fits));
-            };
-      })
+    pub next_read : {total : ℕ} {scratch definitions : List ℕ} → SayWhole f words draws (Ok total) scratch → 642 * f.known + 642 ≤ length f.defs → entry_place f.known + 4 ≤ length f.policy →
+        definitions ≡ put (642 * f.known) (set_words (set_in scratch)) f.defs →
+        ReadSoFar count (with_sets f definitions (f.known + 1)) total
+    unfolding outcome
+    next_read {total} said room fits e = subst (λ (z : List ℕ). ReadSoFar count (with_sets f z (f.known + 1)) total) (sym e) (record {
+      few = omega arith;
+      sound = sound_more before.sound (done_filled said) room fits;
+      means = λ query es q v h.
+          let n = next_means said query es q v h in
+          record {
+            rest = n.1;
+            left = n.4;
+            goes = n.2 ∙ read_done f n.0 n.1 q v draws n.3
+                ∙ ap (λ (ss : List RowSet). read_from f.format (names f) n.1 q v ss total) (sym (sets_more before.sound (done_filled said) room fits));
+          };
+    })
 
-      pub next_refused : {number : ℕ} → r ≡ read.Refused number → ReadDefinitions (with_sets f f.defs count) (Refused number f.known)
-      unfolding SoundIf left_to_read set_read_is
-      next_refused {number} is-refused = record {
-        sound = tt;
-        means = λ query es q v h.
-            let n = next_means query es q v h in
-            n.2 ∙ read_refused f n.0 n.1 q v draws (n.3 ∙ ap (λ (x : Read). set_read_is x scratch) is-refused) ∙ ap (Query.refused number) (sets_length f.known f.defs);
-      }
+    pub next_refused : {x : Refusal} {scratch : List ℕ} → SayWhole f words draws (Err x) scratch → ReadDefinitions (with_sets f f.defs count) (Err (record { refusal = x; part = part.Definition f.known }))
+    unfolding SoundIf left_to_read outcome
+    next_refused {x} said = record {
+      sound = tt;
+      means = λ query es q v h.
+          let n = next_means said query es q v h in
+          n.2 ∙ read_refused f n.0 n.1 q v draws n.3 ∙ ap (Query.refused (number x)) (sets_length f.known f.defs);
+    }
 
-  pub all_read : count ≤ f.known → ReadDefinitions (with_sets f f.defs count) (Done draws)
+  pub all_read : count ≤ f.known → ReadDefinitions (with_sets f f.defs count) (Ok draws)
   unfolding SoundIf left_to_read
   all_read h =
       let few = before.few in
       let e : f.known ≡ count = omega arith in
-      subst (λ (n : ℕ). ReadDefinitions (with_sets f f.defs n) (Done draws)) e (record {
+      subst (λ (n : ℕ). ReadDefinitions (with_sets f f.defs n) (Ok draws)) e (record {
         sound = before.sound;
         means = λ query es q v p.
             let b = before.means query es q v p in
@@ -249,47 +250,50 @@ module _ {count : ℕ} {f : From} {draws : ℕ} (before : ReadSoFar count f draw
 
 -- ---- the query, after the definitions
 
-module _ {f : From} {progress : Progress} (said : ReadDefinitions f progress) where
-  pub definition_refused : {query : List ℕ} {number part verdict : ℕ} {area : List ℕ} → progress ≡ Refused number part → ReadAll f.our_key f.format (names f) f.policy query verdict area (Refused number part) area
+module _ {f : From} {query : List ℕ} {verdict : ℕ} {area : List ℕ} where
+  pub definition_refused : {x : Failed.Refused} {n m : ℕ} → ReadDefinitions f (Err x) → n ≡ number x.refusal → m ≡ part_number x.part →
+      ReadAll f.our_key f.format (names f) f.policy query verdict area (Refused n m) area
   unfolding left_to_read reply_for answer_area
-  definition_refused {query} {number} {part} {area = area} e = record {
+  definition_refused {x} said is of = record {
     means = λ es q v h w.
-        let o : read_from f.format (names f) es q v [] 0 ≡ Query.refused number part = said.means query es q v h ∙ ap (left_to_read f q v) e in
-        (ap reply_for (sym o), ap (λ (x : Outcome). answer_area x area) (sym o));
+        let o : read_from f.format (names f) es q v [] 0 ≡ Query.refused (number x.refusal) (part_number x.part) = said.means query es q v h in
+        (rw (is, of) (ap reply_for (sym o)), ap (λ (x : Outcome). answer_area x area) (sym o));
   }
 
-  module _ {before : ℕ} (is_done : progress ≡ Done before) (counted : get_or f.policy 1 0 ≡ f.known) where
-    pub query_asked : {query definitions₀ scratch₀ scratch : List ℕ} → Ready f.stores f.our_key f.policy query definitions₀ scratch₀ → length scratch ≡ length scratch₀ → AskWhole f query scratch
-    unfolding SoundIf
-    query_asked {query} ready size =
-        let space = ready.space in
-        record {
-          sound = subst (SoundIf f) is_done said.sound;
-          e = ready.q;
-          parses = query_parses f.our_key f.policy query counted ready.passes;
-          long = omega arith;
-        }
-
-    module _ {query : List ℕ} {r : Read} {scratch : List ℕ} (answer : SayWhole f query before r scratch) where
-      goes : (es : List Expr) (q : Expr) (v : Verdict) → check f.our_key f.policy query ≡ checked es q v → read_from f.format (names f) es q v [] 0 ≡ read_from f.format (names f) [] q v (sets f) before
-      unfolding left_to_read
-      goes es q v h = said.means query es q v h ∙ ap (left_to_read f q v) is_done
-
-      reads : {es : List Expr} {q : Expr} {v : Verdict} → check f.our_key f.policy query ≡ checked es q v → reading f q [] before ≡ set_read_is r scratch
-      reads {q = q} h = answer.means q (query_parses f.our_key f.policy query counted h)
-
-      pub query_refused : {number verdict : ℕ} {area : List ℕ} → r ≡ read.Refused number → ReadAll f.our_key f.format (names f) f.policy query verdict area (Refused number query_part) area
-      unfolding set_read_is reply_for answer_area
-      query_refused {number} {area = area} e = record {
-        means = λ es q v h w.
-            let o : read_from f.format (names f) es q v [] 0 ≡ Query.refused number query_part = goes es q v h ∙ reading_refused f q v before (reads h ∙ ap (λ (x : Read). set_read_is x scratch) e) in
-            (ap reply_for (sym o), ap (λ (x : Outcome). answer_area x area) (sym o));
+module _ {f : From} {before : ℕ} (said : ReadDefinitions f (Ok before)) (counted : get_or f.policy 1 0 ≡ f.known) where
+  pub query_asked : {query definitions₀ scratch₀ scratch : List ℕ} → Ready f.stores f.our_key f.policy query definitions₀ scratch₀ → length scratch ≡ length scratch₀ → AskWhole f query scratch
+  unfolding SoundIf
+  query_asked {query} ready size =
+      let space = ready.space in
+      record {
+        sound = said.sound;
+        e = ready.q;
+        parses = query_parses f.our_key f.policy query counted ready.passes;
+        long = omega arith;
       }
 
-      pub query_answered : {draws verdict : ℕ} {area now : List ℕ} → r ≡ read.Done draws → now ≡ written (set_in scratch) area → ReadAll f.our_key f.format (names f) f.policy query verdict area (Answered verdict draws) now
-      unfolding set_read_is reply_for answer_area
-      query_answered {draws} {area = area} e is = record {
-        means = λ es q v h w.
-            let o : read_from f.format (names f) es q v [] 0 ≡ answered v draws (set_in scratch) = goes es q v h ∙ query_done f q v before (reads h ∙ ap (λ (x : Read). set_read_is x scratch) e) in
-            (ap (λ (x : ℕ). Answered x draws) (sym w) ∙ ap reply_for (sym o), is ∙ ap (λ (x : Outcome). answer_area x area) (sym o));
-      }
+  goes : (query : List ℕ) (es : List Expr) (q : Expr) (v : Verdict) → check f.our_key f.policy query ≡ checked es q v → read_from f.format (names f) es q v [] 0 ≡ read_from f.format (names f) [] q v (sets f) before
+  unfolding left_to_read
+  goes query es q v h = said.means query es q v h
+
+  module _ {query scratch : List ℕ} where
+    reads : {r : Result ℕ Refusal} → SayWhole f query before r scratch → {es : List Expr} {q : Expr} {v : Verdict} → check f.our_key f.policy query ≡ checked es q v → reading f q [] before ≡ outcome (set_in scratch) r
+    reads answer {q = q} h = answer.means q (query_parses f.our_key f.policy query counted h)
+
+    pub query_refused : {x : Refusal} {n verdict : ℕ} {area : List ℕ} → SayWhole f query before (Err x) scratch → n ≡ number x →
+        ReadAll f.our_key f.format (names f) f.policy query verdict area (Refused n query_part) area
+    unfolding outcome reply_for answer_area
+    query_refused {x} {area = area} answer is = record {
+      means = λ es q v h w.
+          let o : read_from f.format (names f) es q v [] 0 ≡ Query.refused (number x) query_part = goes query es q v h ∙ reading_refused f q v before (reads answer h) in
+          (rw is (ap reply_for (sym o)), ap (λ (x : Outcome). answer_area x area) (sym o));
+    }
+
+    pub query_answered : {draws verdict : ℕ} {area now : List ℕ} → SayWhole f query before (Ok draws) scratch → now ≡ written (set_in scratch) area →
+        ReadAll f.our_key f.format (names f) f.policy query verdict area (Answered verdict draws) now
+    unfolding outcome reply_for answer_area
+    query_answered {draws} {area = area} answer is = record {
+      means = λ es q v h w.
+          let o : read_from f.format (names f) es q v [] 0 ≡ answered v draws (set_in scratch) = goes query es q v h ∙ query_done f q v before (reads answer h) in
+          (ap (λ (x : ℕ). Answered x draws) (sym w) ∙ ap reply_for (sym o), is ∙ ap (λ (x : Outcome). answer_area x area) (sym o));
+    }

@@ -8,7 +8,7 @@ ghost use Rattle.rows.specs.Layout.{set_room};
 ghost use Rattle.demands.specs.Query.{definition_room, scratch_room, lent};
 ghost use Rattle.engine.specs.Reply.{Replied};
 
-use crate::answering::read_all;
+use crate::answering::{Asked, read_all};
 use judging::{Judgement, judge};
 use refusals::{BAD_LINK, BAD_STORE, NO_PART, SHORT_AREA};
 use rows::SET_ROOM;
@@ -75,18 +75,15 @@ pub fn query<'a>(
                     part: NO_PART,
                 };
             }
-            read_all(
+            let asked = Asked {
                 policy,
                 query,
                 our_key,
                 minute,
                 store,
                 links,
-                verdict,
-                answer,
-                definitions,
-                scratch,
-            )
+            };
+            read_all(&asked, verdict, answer, definitions, scratch)
         }
     }
 }

@@ -19,22 +19,22 @@ use Rattle.meaning.specs.Reading.{Result, done, refused, Reading, after, read}
 use Rattle.meaning.proofs.Steps.{either}
 use Rattle.read_values.specs.Values.{Unchanged, passing}
 use Rattle.policy_places.specs.Places.{StandsBody, StandsAbsent, SomeRow, SomeExpr, SomeGuard, PastRow, PastExpr, IsGuard}
-use Rattle.read_values.specs.Answers.{Filled, tested_is, IfDone}
+use Rattle.read_values.specs.Answers.{Filled}
+use Rattle.read_values.specs.Outcomes.{outcome, tested, IfOk}
 use Rattle.read_values.specs.From.{From, scope_in}
 use Rattle.read_steps.specs.Areas.{Gathering, Kept}
-use Rattle.read_steps.specs.Steps.{rows_read_is, SayHead}
+use Rattle.read_steps.specs.Steps.{SayHead}
 use Rattle.read_expressions.specs.Room.{room_of, body_room}
 use Rattle.read_expressions.specs.Readers.{reading, gathering, Means, MeansBody, AskHas, AskBody, AskDraw, AskAbsent, SayExpr, SayExprHas, SayBody, SayDraw, SayAbsent}
 use Rattle.policy_places.proofs.Places.{on_head, on_draw, on_same, on_different, on_absent, in_head, in_draw, in_same, in_different, in_absent, expr_some, inside, row_length}
 use Rattle.read_values.proofs.Held.{same_passes, different_passes}
 use Rattle.policy_places.proofs.Past.{operand_here, over_is, over_here}
-use Rattle.read_values.proofs.Lent.{unchanged_self, unchanged_then, bound_after}
+use Rattle.read_values.proofs.Unchanged.{unchanged_self, unchanged_then, bound_after}
 use Rattle.sets.proofs.Front.{SameFront, rows_same}
 use Rattle.read_steps.proofs.Areas.{gathering_same, kept_self, kept_then, given_back, back_length, back_part, back_front, back_kept, part_length}
 use Rattle.read_expressions.proofs.Exprs.{done_means, done_filled, some_room}
-use Rattle.read_values.specs.declared.Read.{Read}
-use Rattle.read_values.specs.declared.Read.TheVariants.{Done, Refused}
-use Rattle.read_values.specs.declared.Tested as Tested
+use Rattle.std.specs.Prelude.{Result as Outcome, Ok, Err}
+use Rattle.refusals.specs.declared.Refusal.{Refusal}
 use Rattle.policy.specs.declared.Term as HeldTerm
 use Rattle.policy.specs.declared.Guard as HeldGuard
 use Rattle.policy.specs.declared.Guard.TheVariants.{Draw, Same, Different, Absent}
@@ -137,7 +137,7 @@ module _ {f : From} {ws : List ℕ} {at left : ℕ} {values : List ℕ} {count :
 
 -- ---- what is said, guard by guard
 
-module _ {f : From} {ws : List ℕ} {at left : ℕ} {values : List ℕ} {count k free : ℕ} {entry : List ℕ} {r : Read} where
+module _ {f : From} {ws : List ℕ} {at left : ℕ} {values : List ℕ} {count k free : ℕ} {entry : List ℕ} {r : Outcome ℕ Refusal} where
   pub say_head : {area : List ℕ} → left ≡ 0 → SayHead ws at (take count values) k entry r area → SayBody f ws at left values count k free entry r values area
   unfolding read
   say_head {area} z g = record {
@@ -146,7 +146,7 @@ module _ {f : From} {ws : List ℕ} {at left : ℕ} {values : List ℕ} {count k
     kept = g.kept free;
     means = record {
       says = λ b s.
-          on_head (λ x. StandsBody (scope_in f) count ws at left x → gathering f x (take count values) (rows_in entry) k ≡ rows_read_is r area) s z (λ ts h. g.means count ts (in_head h)) s;
+          on_head (λ x. StandsBody (scope_in f) count ws at left x → gathering f x (take count values) (rows_in entry) k ≡ outcome (rows_in area) r) s z (λ ts h. g.means count ts (in_head h)) s;
     };
   }
 
@@ -158,7 +158,7 @@ module _ {f : From} {ws : List ℕ} {at left : ℕ} {values : List ℕ} {count k
       kept = g.kept;
       means = record {
         says = λ b s.
-            on_draw (λ x. StandsBody (scope_in f) count ws at left x → gathering f x (take count values) (rows_in entry) k ≡ rows_read_is r area) s z i (λ e p c h. g.means.says e p c (in_draw h)) s;
+            on_draw (λ x. StandsBody (scope_in f) count ws at left x → gathering f x (take count values) (rows_in entry) k ≡ outcome (rows_in area) r) s z i (λ e p c h. g.means.says e p c (in_draw h)) s;
       };
     }
 
@@ -169,7 +169,7 @@ module _ {f : From} {ws : List ℕ} {at left : ℕ} {values : List ℕ} {count k
       kept = g.kept;
       means = record {
         says = λ b s.
-            on_absent (λ x. StandsBody (scope_in f) count ws at left x → gathering f x (take count values) (rows_in entry) k ≡ rows_read_is r area) s z i (λ t e c h. g.means.says t e c (in_absent h)) s;
+            on_absent (λ x. StandsBody (scope_in f) count ws at left x → gathering f x (take count values) (rows_in entry) k ≡ outcome (rows_in area) r) s z i (λ t e c h. g.means.says t e c (in_absent h)) s;
       };
     }
 
@@ -183,15 +183,15 @@ module _ {f : From} {ws : List ℕ} {at left : ℕ} {values : List ℕ} {count k
         says = λ b h.
             let c = compared f (take count values) z t i h in
             c.gathers (rows_in entry) k
-            ∙ first_of (passing (take count values) g) (gathering f c.rest (take count values) (rows_in entry)) (λ j. done (rows_in entry) j) k (rows_read_is r area) e
+            ∙ first_of (passing (take count values) g) (gathering f c.rest (take count values) (rows_in entry)) (λ j. done (rows_in entry) j) k (outcome (rows_in area) r) e
             (s.means.says c.rest c.here);
       };
     }
 
 -- a comparison that fails: the rows found so far are left as they are
 pub say_fails : {f : From} {ws : List ℕ} {at left : ℕ} {values : List ℕ} {count k free : ℕ} {area : List ℕ} → (left ≡ 0 → ⊥) → Gathering area → {g : HeldGuard.Guard} → Compares g → IsGuard ws at g →
-    passing (take count values) g ≡ false → SayBody f ws at left values count k free area (Done k) values area
-unfolding IfDone rows_read_is
+    passing (take count values) g ≡ false → SayBody f ws at left values count k free area (Ok k) values area
+unfolding IfOk outcome
 say_fails {f} {values} {count} {k} {area} z gathered {g} t i e = record {
   unchanged = unchanged_self;
   gathering = gathered;
@@ -205,13 +205,13 @@ say_fails {f} {values} {count} {k} {area} z gathered {g} t i e = record {
 }
 
 -- said of values that those in scope had already before
-pub body_since : {f : From} {ws : List ℕ} {at left : ℕ} {first values : List ℕ} {count k free : ℕ} {entry : List ℕ} {r : Read} {later area : List ℕ} → Unchanged count first values →
+pub body_since : {f : From} {ws : List ℕ} {at left : ℕ} {first values : List ℕ} {count k free : ℕ} {entry : List ℕ} {r : Outcome ℕ Refusal} {later area : List ℕ} → Unchanged count first values →
     SayBody f ws at left values count k free entry r later area → SayBody f ws at left first count k free entry r later area
 body_since {f} {ws} {at} {left} {count} {k} {entry} {r} {area} u s = record {
   unchanged = unchanged_then u s.unchanged;
   gathering = s.gathering;
   kept = s.kept;
-  means = subst (λ (vs : Values). MeansBody f ws at left count vs k (rows_in entry) (rows_read_is r area)) u.front s.means;
+  means = subst (λ (vs : Values). MeansBody f ws at left count vs k (rows_in entry) (outcome (rows_in area) r)) u.front s.means;
 }
 
 -- ---- an area that was lent from `free` on, and given back
@@ -267,16 +267,18 @@ module _ {f : From} {ws : List ℕ} {at left : ℕ} {values : List ℕ} {count :
     pub rest_after : {rest : ℕ} → PastExpr ws operand rest → at < rest
     rest_after next = let e = over_is past q.here next in omega (arith, expr_some q.e count)
 
-    pub ask_absent_rest : {rest : ℕ} {later back : List ℕ} → PastExpr ws operand rest → Unchanged count values later → Back area free back → AskBody f ws rest left later count back free
-    ask_absent_rest next u o =
+    pub ask_absent_rest : {rest : ℕ} {later back : List ℕ} {scope : ℕ} → PastExpr ws operand rest → Unchanged count values later → scope ≡ count → Back area free back →
+        AskBody f ws rest left later scope back free
+    ask_absent_rest {rest} {later} {back} next u same o =
         let r = q.rest in
         let l = o.size in
-        record {
+        subst (λ (n : ℕ). AskBody f ws rest left later n back free) (sym same)
+        (record {
           ask = record { sound = q.ask.sound; bound = bound_after u q.ask.bound; gathering = gathering_same o.front q.ask.gathering; behind = q.ask.behind };
           b = q.b;
           here = over_here past q.here next;
           room = omega arith;
-        }
+        })
 
 -- what is read and then tested, by the test's answer
 after_has : {A B : Type 0} (m : Result A) (h : A → Bool) (g : Bool → Reading B) → after m (λ s. g (h s)) ≡ after (after m (λ s i. done (h s) i)) g
@@ -284,43 +286,46 @@ unfolding after
 after_has (done a k) h g = refl
 after_has (refused n) h g = refl
 
-module _ {f : From} {ws : List ℕ} {at left : ℕ} {values : List ℕ} {count k free : ℕ} {area : List ℕ} {operand : ℕ} (past : PastRow ws at operand) {o : Tested.Tested} {later : List ℕ}
-    (said : SayExprHas f ws operand at values count k o later) {back : List ℕ} (b : Back area free back) where
-  answered : {x : Tested.Tested} → o ≡ x → {t : List Term} {e : Expr} {c : Body} → StandsAbsent (scope_in f) count ws at left t e c →
+module _ {f : From} {ws : List ℕ} {at left : ℕ} {values : List ℕ} {count k free : ℕ} {area : List ℕ} {operand : ℕ} (past : PastRow ws at operand) {later back : List ℕ} (b : Back area free back) where
+  answered : {x : Outcome (Bool × ℕ) Refusal} → SayExprHas f ws operand at values count k x later → {t : List Term} {e : Expr} {c : Body} → StandsAbsent (scope_in f) count ws at left t e c →
       gathering f (absent t e c) (take count values) (rows_in area) k
-      ≡ after (tested_is x) (λ y. either y (λ i. done (rows_in area) i) (gathering f c (take count values) (rows_in area)))
+      ≡ after (tested x) (λ y. either y (λ i. done (rows_in area) i) (gathering f c (take count values) (rows_in area)))
   unfolding read
-  answered d {t} {e} {c} s =
+  answered said {t} {e} {c} s =
       after_has (reading f e (take count values) k) (λ x. has x (row_of (take count values) t)) (λ y. either y (λ i. done (rows_in area) i) (gathering f c (take count values) (rows_in area)))
       ∙ ap (λ (a : Result Bool). after a (λ y. either y (λ i. done (rows_in area) i) (gathering f c (take count values) (rows_in area))))
-      (said.means.says e (operand_here past s) t s.row ∙ ap tested_is d)
+      (said.means.says e (operand_here past s) t s.row)
 
-  pub absent_refused : {n : ℕ} → o ≡ Tested.TheVariants.Refused n → SayAbsent f ws at left values count k free area (Refused n) later back
-  unfolding after tested_is IfDone rows_read_is
-  absent_refused d = record { unchanged = said.unchanged; gathering = tt; kept = b.kept; means = record { says = λ t e c s. answered d s } }
+  pub absent_refused : {x : Refusal} → SayExprHas f ws operand at values count k (Err x) later → SayAbsent f ws at left values count k free area (Err x) later back
+  unfolding after tested IfOk outcome
+  absent_refused said = record { unchanged = said.unchanged; gathering = tt; kept = b.kept; means = record { says = λ t e c s. answered said s } }
 
-  module _ (g : Gathering area) where
-    pub absent_has : {j : ℕ} → o ≡ Tested.TheVariants.Has j → SayAbsent f ws at left values count k free area (Done j) later back
-    unfolding after tested_is IfDone rows_read_is
-    absent_has {j} d = record {
+  module _ (g : Gathering area) {has : Bool} {j : ℕ} (said : SayExprHas f ws operand at values count k (Ok (has, j)) later) where
+    answered_as : {y : Bool} → has ≡ y → {t : List Term} {e : Expr} {c : Body} → StandsAbsent (scope_in f) count ws at left t e c →
+        gathering f (absent t e c) (take count values) (rows_in area) k ≡ either y (λ i. done (rows_in area) i) (gathering f c (take count values) (rows_in area)) j
+    unfolding after tested
+    answered_as is {t} {e} {c} s = answered said s ∙ ap (λ (y : Bool). either y (λ i. done (rows_in area) i) (gathering f c (take count values) (rows_in area)) j) is
+
+    pub absent_has : has ≡ true → SayAbsent f ws at left values count k free area (Ok j) later back
+    unfolding IfOk outcome
+    absent_has is = record {
       unchanged = said.unchanged;
       gathering = gathering_same b.front g;
       kept = b.kept;
-      means = record { says = λ t e c s. answered d s ∙ ap (λ (xs : List Row). done xs j) (sym (back_rows b g)) };
+      means = record { says = λ t e c s. answered_as is s ∙ ap (λ (xs : List Row). done xs j) (sym (back_rows b g)) };
     }
 
-    pub absent_lacks : {j rest : ℕ} {r : Read} {last after : List ℕ} → o ≡ Tested.TheVariants.Lacks j → PastExpr ws operand rest →
-        SayBody f ws rest left later count j free back r last after → SayAbsent f ws at left values count k free area r last after
-    unfolding after tested_is
-    absent_lacks {j} {r} {after} d next s =
-        let since = body_since said.unchanged s in
+    pub absent_lacks : {rest scope : ℕ} {r : Outcome ℕ Refusal} {last after : List ℕ} → has ≡ false → PastExpr ws operand rest → scope ≡ count →
+        SayBody f ws rest left later scope j free back r last after → SayAbsent f ws at left values count k free area r last after
+    absent_lacks {rest} {r = r} {last = last} {after = after} is next same s =
+        let since = body_since said.unchanged (subst (λ (n : ℕ). SayBody f ws rest left later n j free back r last after) same s) in
         record {
           unchanged = since.unchanged;
           gathering = s.gathering;
           kept = kept_then b.kept s.kept;
           means = record {
             says = λ t e c w.
-                answered d w ∙ ap (λ (xs : List Row). gathering f c (take count values) xs j) (sym (back_rows b g)) ∙ since.means.says c (over_here past w next);
+                answered_as is w ∙ ap (λ (xs : List Row). gathering f c (take count values) xs j) (sym (back_rows b g)) ∙ since.means.says c (over_here past w next);
           };
         }
 
@@ -332,12 +337,12 @@ pub record Operand (f : From) (ws : List ℕ) (at : ℕ) (values : List ℕ) (co
   pub means : Means f ws at count (take count values) k (done (set_in (drop free back)) j)
 
 pub operand : (area : List ℕ) (free : ℕ) {ys : List ℕ} (inside : free ≤ length area) → 642 ≤ free → (size : length ys ≡ length (take (length area - free) (drop free area))) →
-    {f : From} {ws : List ℕ} {at : ℕ} {values : List ℕ} {count k : ℕ} {r : Read} {later : List ℕ} {j : ℕ} → SayExpr f ws at values count k r later ys → r ≡ Done j →
+    {f : From} {ws : List ℕ} {at : ℕ} {values : List ℕ} {count k : ℕ} {later : List ℕ} {j : ℕ} → SayExpr f ws at values count k (Ok j) later ys →
     Operand f ws at values count k area free (given_back area free ys inside size) j
-operand area free {ys} inside behind size {f} {ws} {at} {values} {count} {k} {r} {later} {j} s e =
+operand area free {ys} inside behind size {f} {ws} {at} {values} {count} {k} {later} {j} s =
     let b : drop free (given_back area free ys inside size) ≡ ys = back_part area free ys inside size in
     record {
       lent = given_back_lem area free ys inside behind size;
-      filled = subst Filled (sym b) (done_filled s e);
-      means = subst (λ (l : List ℕ). Means f ws at count (take count values) k (done (set_in l) j)) (sym b) (done_means s e);
+      filled = subst Filled (sym b) (done_filled s);
+      means = subst (λ (l : List ℕ). Means f ws at count (take count values) k (done (set_in l) j)) (sym b) (done_means s);
     }

@@ -10,7 +10,8 @@ use Rattle.policy_places.proofs.Places.{whole_here}
 use Rattle.read_values.specs.From.{From, scope_in}
 use Rattle.read_expressions.specs.Room.{room_of, body_room, Theorem}
 use Rattle.read_expressions.specs.Readers.{AskExpr, SayExpr, AskWhole, SayWhole}
-use Rattle.read_values.specs.declared.Read.{Read}
+use Rattle.std.specs.Prelude.{Result as Outcome}
+use Rattle.refusals.specs.declared.Refusal.{Refusal}
 
 -- each level and each draw adds one set at most
 mutual
@@ -48,5 +49,5 @@ module _ {f : From} {ws : List ℕ} {values area : List ℕ} where
         room = omega (arith, room_enough (scope_in f) q.e (parse_fits (scope_in f) ws q.e q.parses));
       }
 
-  pub say_whole : {k : ℕ} {r : Read} {later : List ℕ} → SayExpr f ws 0 values 0 k r later area → SayWhole f ws k r area
+  pub say_whole : {k : ℕ} {r : Outcome ℕ Refusal} {later : List ℕ} → SayExpr f ws 0 values 0 k r later area → SayWhole f ws k r area
   say_whole s = record { filled = s.filled; means = λ e h. s.means.says e (whole_here (scope_in f) ws e h) }

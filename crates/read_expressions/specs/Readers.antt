@@ -1,9 +1,9 @@
 -- What the readers ask and what they say, of whatever stands in the words. `values` are those lent to a reader, of which the first `count` are in scope;
 -- `vs` are these.
-use Rattle.std.specs.Prelude.{ℕ, ◌+◌, ◌*◌, ◌≤◌, ◌≡◌, Bool, List, [], length, take, drop}
+use Rattle.std.specs.Prelude.{ℕ, ◌+◌, ◌*◌, ◌≤◌, ◌≡◌, Bool, List, [], length, take, drop, Result as Outcome}
 use Rattle.rows.specs.Row.{Row}
 use Rattle.rows.specs.Sets.{RowSet, has, combined}
-use Rattle.rows.specs.Layout.{set_room, rows_in}
+use Rattle.rows.specs.Layout.{set_room, rows_in, set_in}
 use Rattle.policy.specs.Syntax.{Term, Slot, Expr, Body, draw, absent}
 use Rattle.policy.specs.Words.{fresh}
 use Rattle.policy.specs.Parse.{parse, parsed}
@@ -11,13 +11,12 @@ use Rattle.meaning.specs.Values.{Values, row_of}
 use Rattle.meaning.specs.Reading.{Result, done, Reading, after, small, draw_each, read, gather}
 use Rattle.read_values.specs.Values.{Bound, Unchanged}
 use Rattle.policy_places.specs.Places.{Stands, StandsRow, StandsPattern, StandsBody, StandsTwo, StandsDraw, StandsAbsent}
-use Rattle.read_values.specs.Answers.{Filled, set_read_is, tested_is, IfDone}
+use Rattle.read_values.specs.Answers.{Filled}
+use Rattle.read_values.specs.Outcomes.{outcome, tested, IfOk}
 use Rattle.read_values.specs.From.{From, scope_in, names, sets, SoundFrom}
 use Rattle.read_steps.specs.Areas.{Gathering, Kept}
-use Rattle.read_steps.specs.Steps.{rows_read_is}
 use Rattle.read_expressions.specs.Room.{room_of, body_room}
-use Rattle.read_values.specs.declared.Read.{Read}
-use Rattle.read_values.specs.declared.Tested.{Tested}
+use Rattle.refusals.specs.declared.Refusal.{Refusal}
 
 abbrev pub reading : From → Expr → Values → Reading RowSet
 reading f = read f.format (names f) (sets f)
@@ -37,10 +36,10 @@ pub record AskExpr (f : From) (ws : List ℕ) (at : ℕ) (values : List ℕ) (co
   pub here : Stands (scope_in f) count ws at e
   pub room : set_room * room_of e ≤ length area
 
-pub record SayExpr (f : From) (ws : List ℕ) (at : ℕ) (values : List ℕ) (count k : ℕ) (r : Read) (values_now area : List ℕ) : Type 0 where
+pub record SayExpr (f : From) (ws : List ℕ) (at : ℕ) (values : List ℕ) (count k : ℕ) (r : Outcome ℕ Refusal) (values_now area : List ℕ) : Type 0 where
   pub unchanged : Unchanged count values values_now
-  pub filled : IfDone Filled r area
-  pub means : Means f ws at count (take count values) k (set_read_is r area)
+  pub filled : IfOk Filled r area
+  pub means : Means f ws at count (take count values) k (outcome (set_in area) r)
 
 -- whether the row that the terms written at `row` come to belongs to it
 pub record MeansHas (f : From) (ws : List ℕ) (at row count : ℕ) (vs : Values) (k : ℕ) (a : Result Bool) : Type 0 where
@@ -52,9 +51,9 @@ pub record AskHas (f : From) (ws : List ℕ) (at row : ℕ) (values : List ℕ) 
   pub ts : List Term
   pub tested : StandsRow count ws row ts
 
-pub record SayExprHas (f : From) (ws : List ℕ) (at row : ℕ) (values : List ℕ) (count k : ℕ) (r : Tested) (values_now : List ℕ) : Type 0 where
+pub record SayExprHas (f : From) (ws : List ℕ) (at row : ℕ) (values : List ℕ) (count k : ℕ) (r : Outcome (Bool × ℕ) Refusal) (values_now : List ℕ) : Type 0 where
   pub unchanged : Unchanged count values values_now
-  pub means : MeansHas f ws at row count (take count values) k (tested_is r)
+  pub means : MeansHas f ws at row count (take count values) k (tested r)
 
 -- ---- a union or a difference
 
@@ -71,10 +70,10 @@ pub record AskTwo (f : From) (ws : List ℕ) (at : ℕ) (values : List ℕ) (cou
   pub left : set_room * room_of x ≤ length area
   pub right : set_room + set_room * room_of y ≤ length area
 
-pub record SayTwo (f : From) (ws : List ℕ) (at : ℕ) (minus : Bool) (values : List ℕ) (count k : ℕ) (r : Read) (values_now area : List ℕ) : Type 0 where
+pub record SayTwo (f : From) (ws : List ℕ) (at : ℕ) (minus : Bool) (values : List ℕ) (count k : ℕ) (r : Outcome ℕ Refusal) (values_now area : List ℕ) : Type 0 where
   pub unchanged : Unchanged count values values_now
-  pub filled : IfDone Filled r area
-  pub means : MeansTwo f ws at minus count (take count values) k (set_read_is r area)
+  pub filled : IfOk Filled r area
+  pub means : MeansTwo f ws at minus count (take count values) k (outcome (set_in area) r)
 
 -- ---- the guards of a comprehension: with the rows found so far they gather `a`. From `free` on the area is theirs
 
@@ -134,23 +133,23 @@ pub record AskAbsent (f : From) (ws : List ℕ) (at left : ℕ) (values : List �
   pub rest : free + set_room * body_room b ≤ length area
 
 -- what all four say, M being what is gathered
-pub record SayGuards (M : Result (List Row) → Type 0) (values : List ℕ) (count free : ℕ) (entry : List ℕ) (r : Read) (values_now area : List ℕ) : Type 0 where
+pub record SayGuards (M : Result (List Row) → Type 0) (values : List ℕ) (count free : ℕ) (entry : List ℕ) (r : Outcome ℕ Refusal) (values_now area : List ℕ) : Type 0 where
   pub unchanged : Unchanged count values values_now
-  pub gathering : IfDone Gathering r area
+  pub gathering : IfOk Gathering r area
   pub kept : Kept free entry area
-  pub means : M (rows_read_is r area)
+  pub means : M (outcome (rows_in area) r)
 
-abbrev pub SayBody : From → List ℕ → ℕ → ℕ → List ℕ → ℕ → ℕ → ℕ → List ℕ → Read → List ℕ → List ℕ → Type 0
+abbrev pub SayBody : From → List ℕ → ℕ → ℕ → List ℕ → ℕ → ℕ → ℕ → List ℕ → Outcome ℕ Refusal → List ℕ → List ℕ → Type 0
 SayBody f ws at left values count k free entry = SayGuards (MeansBody f ws at left count (take count values) k (rows_in entry)) values count free entry
 
-abbrev pub SayDraw : From → List ℕ → ℕ → ℕ → List ℕ → ℕ → ℕ → ℕ → List ℕ → Read → List ℕ → List ℕ → Type 0
+abbrev pub SayDraw : From → List ℕ → ℕ → ℕ → List ℕ → ℕ → ℕ → ℕ → List ℕ → Outcome ℕ Refusal → List ℕ → List ℕ → Type 0
 SayDraw f ws at left values count k free entry = SayGuards (MeansDraw f ws at left count (take count values) k (rows_in entry)) values count free entry
 
-abbrev pub SayEach : From → List ℕ → ℕ → ℕ → ℕ → List ℕ → ℕ → ℕ → ℕ → List ℕ → Read → List ℕ → List ℕ → Type 0
+abbrev pub SayEach : From → List ℕ → ℕ → ℕ → ℕ → List ℕ → ℕ → ℕ → ℕ → List ℕ → Outcome ℕ Refusal → List ℕ → List ℕ → Type 0
 SayEach f ws pattern rest left values count k free entry =
     SayGuards (MeansEach f ws pattern rest left count (take count values) (rows_in (drop free entry)) k (rows_in entry)) values count free entry
 
-abbrev pub SayAbsent : From → List ℕ → ℕ → ℕ → List ℕ → ℕ → ℕ → ℕ → List ℕ → Read → List ℕ → List ℕ → Type 0
+abbrev pub SayAbsent : From → List ℕ → ℕ → ℕ → List ℕ → ℕ → ℕ → ℕ → List ℕ → Outcome ℕ Refusal → List ℕ → List ℕ → Type 0
 SayAbsent f ws at left values count k free entry = SayGuards (MeansAbsent f ws at left count (take count values) k (rows_in entry)) values count free entry
 
 -- ---- a whole definition or query
@@ -161,6 +160,6 @@ pub record AskWhole (f : From) (ws area : List ℕ) : Type 0 where
   pub parses : parse (scope_in f) ws ≡ parsed e
   pub long : 16384 ≤ length area
 
-pub record SayWhole (f : From) (ws : List ℕ) (k : ℕ) (r : Read) (area : List ℕ) : Type 0 where
-  pub filled : IfDone Filled r area
-  pub means : (e : Expr) → parse (scope_in f) ws ≡ parsed e → reading f e [] k ≡ set_read_is r area
+pub record SayWhole (f : From) (ws : List ℕ) (k : ℕ) (r : Outcome ℕ Refusal) (area : List ℕ) : Type 0 where
+  pub filled : IfOk Filled r area
+  pub means : (e : Expr) → parse (scope_in f) ws ≡ parsed e → reading f e [] k ≡ outcome (set_in area) r

@@ -1,8 +1,9 @@
 // The readers of expressions and of guards, which call each other. An expression's set is left at the area's front; what lies behind it is free.
 // A comprehension gathers its rows at the front, and from `free` on the area is free: below it lie the sets that are drawn from.
-// The values of the `count` variables in scope are lent down the calls: a reader may write behind them and leaves them as they were.
+// The variables in scope are lent down the calls: a reader may bind more of them, and leaves those that it was lent as they were.
 #![tactic(auto)]
 
+ghost use Rattle.std.specs.Prelude.{◌≡◌};
 ghost use Rattle.read_values.specs.From.{from};
 ghost use Rattle.read_expressions.specs.Readers.{AskExpr, AskTwo, AskBody, AskDraw, AskEach, AskAbsent, AskHas, SayExpr, SayTwo, SayBody, SayDraw, SayEach, SayAbsent, SayExprHas, AskWhole, SayWhole};
 
@@ -11,424 +12,244 @@ use policy_places::guard_at;
 use policy_places::skip::{skip_expr, skip_pattern, skip_row};
 use read_leaves::{leaf_has, read_leaf};
 use read_steps::{Drawn, combine_parts, draw_next, has_row, insert_head};
-pub use read_values::{Given, Read};
-use read_values::{Tested, passes, told};
-use refusals::COMPLEMENT_DRAWN;
+use read_values::{Bindings, Lent};
+use refusals::Refusal;
 use row_words::wide;
 use rows::SET_ROOM;
 use sets::clear;
 
+// What is left of a comprehension: so many guards from `at` on, then its head. From `free` on the area is theirs.
+#[derive(Clone, Copy)]
+struct Body {
+    at: usize,
+    left: u32,
+    free: usize,
+}
+
 // An expression, by its code.
 #[cycle(readers)]
 fn read_expr(
-    words: &[u32],
+    lent: &Lent<'_>,
     at: usize,
-    values: &mut [u32; 16],
-    count: usize,
+    bindings: &mut Bindings,
     draws: u32,
     area: &mut [u32],
-    given: Given,
-    store: &[u32],
-    defs: &[u32],
-    links: &[u32],
-    policy: &[u32],
-) -> Read
-    requires { AskExpr (from given store.now defs.now links.now policy.now) words.now at values.old count area.old }
-    ensures { SayExpr (from given store.now defs.now links.now policy.now) words.now at values.old count draws result values.new area.new }
+) -> Result<u32, Refusal>
+    requires { AskExpr (from lent.now) lent.now.words.now at bindings.old.values bindings.old.count area.old }
+    ensures says { SayExpr (from lent.now) lent.now.words.now at bindings.old.values bindings.old.count draws result bindings.new.values area.new }
+    ensures same { bindings.new.count ≡ bindings.old.count }
 {
-    let code = words[at];
+    let code = lent.words[at];
     if !is_node(code) {
-        return read_leaf(
-            words, at, values, count, draws, area, given, store, defs, links, policy,
-        );
+        return read_leaf(lent, at, bindings, draws, area);
     }
     if code == CODE_COMPREHENSION {
-        let left = words[at + 1];
+        let left = lent.words[at + 1];
         clear(area, 0);
-        return read_guards(
-            words,
-            at + 2,
-            values,
-            count,
-            draws,
-            area,
-            given,
-            store,
-            defs,
-            links,
-            policy,
+        let body = Body {
+            at: at + 2,
             left,
-            SET_ROOM,
-        );
+            free: SET_ROOM,
+        };
+        return read_guards(lent, body, bindings, draws, area);
     }
-    read_two(
-        words,
-        at + 1,
-        values,
-        count,
-        draws,
-        area,
-        given,
-        store,
-        defs,
-        links,
-        policy,
-        code == CODE_DIFFERENCE,
-    )
+    read_two(lent, at + 1, code == CODE_DIFFERENCE, bindings, draws, area)
 }
 
 // A union or a difference: the right operand is read into the area behind the left one's set.
 #[cycle(readers)]
 fn read_two(
-    words: &[u32],
+    lent: &Lent<'_>,
     at: usize,
-    values: &mut [u32; 16],
-    count: usize,
+    minus: bool,
+    bindings: &mut Bindings,
     draws: u32,
     area: &mut [u32],
-    given: Given,
-    store: &[u32],
-    defs: &[u32],
-    links: &[u32],
-    policy: &[u32],
-    minus: bool,
-) -> Read
-    requires { AskTwo (from given store.now defs.now links.now policy.now) words.now at values.old count area.old }
-    ensures { SayTwo (from given store.now defs.now links.now policy.now) words.now at minus values.old count draws result values.new area.new }
+) -> Result<u32, Refusal>
+    requires { AskTwo (from lent.now) lent.now.words.now at bindings.old.values bindings.old.count area.old }
+    ensures says { SayTwo (from lent.now) lent.now.words.now at minus bindings.old.values bindings.old.count draws result bindings.new.values area.new }
+    ensures same { bindings.new.count ≡ bindings.old.count }
 {
-    match read_expr(
-        words, at, values, count, draws, area, given, store, defs, links, policy,
-    ) {
-        Read::Refused(n) => Read::Refused(n),
-        Read::Done(used) => {
-            let second = skip_expr(words, at);
-            match read_expr(
-                words,
-                second,
-                values,
-                count,
-                used,
-                &mut area[SET_ROOM..],
-                given,
-                store,
-                defs,
-                links,
-                policy,
-            ) {
-                Read::Refused(n) => Read::Refused(n),
-                Read::Done(total) => combine_parts(minus, total, area),
-            }
-        }
-    }
+    let used = read_expr(lent, at, bindings, draws, area)?;
+    let second = skip_expr(lent.words, at);
+    let total = read_expr(lent, second, bindings, used, &mut area[SET_ROOM..])?;
+    combine_parts(minus, total, area)
 }
 
 // The guards left, then the head.
 #[cycle(readers)]
 fn read_guards(
-    words: &[u32],
-    at: usize,
-    values: &mut [u32; 16],
-    count: usize,
+    lent: &Lent<'_>,
+    body: Body,
+    bindings: &mut Bindings,
     draws: u32,
     area: &mut [u32],
-    given: Given,
-    store: &[u32],
-    defs: &[u32],
-    links: &[u32],
-    policy: &[u32],
-    left: u32,
-    free: usize,
-) -> Read
-    requires { AskBody (from given store.now defs.now links.now policy.now) words.now at left values.old count area.old free }
-    ensures { SayBody (from given store.now defs.now links.now policy.now) words.now at left values.old count draws free area.old result values.new area.new }
+) -> Result<u32, Refusal>
+    requires { AskBody (from lent.now) lent.now.words.now body.at body.left bindings.old.values bindings.old.count area.old body.free }
+    ensures says { SayBody (from lent.now) lent.now.words.now body.at body.left bindings.old.values bindings.old.count draws body.free area.old result bindings.new.values area.new }
+    ensures same { bindings.new.count ≡ bindings.old.count }
 {
-    if left == 0 {
+    if body.left == 0 {
         // Named, so that the answer's two parts are not written apart where calls write theirs, and read back together: see `row_of`.
-        let gathered = insert_head(words, at, values, count, draws, area);
+        let gathered = insert_head(lent, body.at, bindings, draws, area);
         return gathered;
     }
-    let guard = guard_at(words, at);
+    let left = body.left - 1;
+    let free = body.free;
+    let guard = guard_at(lent.words, body.at);
     match guard {
-        Guard::Draw => read_draw(
-            words,
-            at + 1,
-            values,
-            count,
-            draws,
-            area,
-            given,
-            store,
-            defs,
-            links,
-            policy,
-            left - 1,
-            free,
-        ),
-        Guard::Same(_, _) | Guard::Different(_, _) => {
-            if passes(values, count, guard) {
-                return read_guards(
-                    words,
-                    at + 5,
-                    values,
-                    count,
-                    draws,
-                    area,
-                    given,
-                    store,
-                    defs,
-                    links,
-                    policy,
-                    left - 1,
-                    free,
-                );
-            }
-            Read::Done(draws)
+        Guard::Draw => {
+            let rest = Body {
+                at: body.at + 1,
+                left,
+                free,
+            };
+            read_draw(lent, rest, bindings, draws, area)
         }
-        Guard::Absent => read_absent(
-            words,
-            at + 1,
-            values,
-            count,
-            draws,
-            area,
-            given,
-            store,
-            defs,
-            links,
-            policy,
-            left - 1,
-            free,
-        ),
+        Guard::Same(_, _) | Guard::Different(_, _) => {
+            if bindings.passes(guard) {
+                let rest = Body {
+                    at: body.at + 5,
+                    left,
+                    free,
+                };
+                return read_guards(lent, rest, bindings, draws, area);
+            }
+            Ok(draws)
+        }
+        Guard::Absent => {
+            let rest = Body {
+                at: body.at + 1,
+                left,
+                free,
+            };
+            read_absent(lent, rest, bindings, draws, area)
+        }
     }
 }
 
 // A draw: its operand is read into the free area, and then its rows are drawn.
 #[cycle(readers)]
 fn read_draw(
-    words: &[u32],
-    at: usize,
-    values: &mut [u32; 16],
-    count: usize,
+    lent: &Lent<'_>,
+    body: Body,
+    bindings: &mut Bindings,
     draws: u32,
     area: &mut [u32],
-    given: Given,
-    store: &[u32],
-    defs: &[u32],
-    links: &[u32],
-    policy: &[u32],
-    left: u32,
-    free: usize,
-) -> Read
-    requires { AskDraw (from given store.now defs.now links.now policy.now) words.now at left values.old count area.old free }
-    ensures { SayDraw (from given store.now defs.now links.now policy.now) words.now at left values.old count draws free area.old result values.new area.new }
+) -> Result<u32, Refusal>
+    requires { AskDraw (from lent.now) lent.now.words.now body.at body.left bindings.old.values bindings.old.count area.old body.free }
+    ensures says { SayDraw (from lent.now) lent.now.words.now body.at body.left bindings.old.values bindings.old.count draws body.free area.old result bindings.new.values area.new }
+    ensures same { bindings.new.count ≡ bindings.old.count }
 {
-    match read_expr(
-        words,
-        at,
-        values,
-        count,
-        draws,
-        &mut area[free..],
-        given,
-        store,
-        defs,
-        links,
-        policy,
-    ) {
-        Read::Refused(n) => Read::Refused(n),
-        Read::Done(before) => {
-            let pattern = skip_expr(words, at);
-            let rest = skip_pattern(words, pattern);
-            let form = area[free];
-            if form != 0 {
-                return Read::Refused(COMPLEMENT_DRAWN);
-            }
-            draw_rows(
-                words, rest, values, count, before, area, given, store, defs, links, policy, left,
-                free, pattern,
-            )
-        }
+    let free = body.free;
+    let before = read_expr(lent, body.at, bindings, draws, &mut area[free..])?;
+    let pattern = skip_expr(lent.words, body.at);
+    let rest = Body {
+        at: skip_pattern(lent.words, pattern),
+        left: body.left,
+        free,
+    };
+    if area[free] != 0 {
+        return Err(Refusal::ComplementDrawn);
     }
+    draw_rows(lent, pattern, rest, bindings, before, area)
 }
 
-// The rows of the set at `free`, drawn in turn: for each that matches the pattern the guards that follow, at `at`, are read.
+// The rows of the set at `free`, drawn in turn: for each that matches the pattern the guards that follow are read.
 #[cycle(readers)]
 fn draw_rows(
-    words: &[u32],
-    at: usize,
-    values: &mut [u32; 16],
-    count: usize,
+    lent: &Lent<'_>,
+    pattern: usize,
+    body: Body,
+    bindings: &mut Bindings,
     draws: u32,
     area: &mut [u32],
-    given: Given,
-    store: &[u32],
-    defs: &[u32],
-    links: &[u32],
-    policy: &[u32],
-    left: u32,
-    free: usize,
-    pattern: usize,
-) -> Read
-    requires { AskEach (from given store.now defs.now links.now policy.now) words.now pattern at left values.old count area.old free }
-    ensures { SayEach (from given store.now defs.now links.now policy.now) words.now pattern at left values.old count draws free area.old result values.new area.new }
+) -> Result<u32, Refusal>
+    requires { AskEach (from lent.now) lent.now.words.now pattern body.at body.left bindings.old.values bindings.old.count area.old body.free }
+    ensures says { SayEach (from lent.now) lent.now.words.now pattern body.at body.left bindings.old.values bindings.old.count draws body.free area.old result bindings.new.values area.new }
+    ensures same { bindings.new.count ≡ bindings.old.count }
 {
+    let count = bindings.count;
+    let free = body.free;
+    let rest = Body {
+        at: body.at,
+        left: body.left,
+        free: free + SET_ROOM,
+    };
     let listed = wide(area[free + 1]);
     let mut used = draws;
     let mut i: usize = 0;
+    // A loop: the index moves on by as many rows as were drawn.
     while i < listed {
-        match draw_next(
-            words,
-            pattern,
-            values,
-            count,
-            used,
-            area,
-            free,
-            i,
-            given.format,
-        ) {
-            Drawn::Refused(n) => {
-                return Read::Refused(n);
-            }
-            Drawn::End(total) => {
-                return Read::Done(total);
-            }
-            Drawn::Matches { next, draws, scope } => {
+        match draw_next(lent, pattern, bindings, used, &area[free..], i)? {
+            Drawn::End(total) => return Ok(total),
+            Drawn::Matches { next, draws } => {
                 i = next;
-                match read_guards(
-                    words,
-                    at,
-                    values,
-                    scope,
-                    draws,
-                    area,
-                    given,
-                    store,
-                    defs,
-                    links,
-                    policy,
-                    left,
-                    free + SET_ROOM,
-                ) {
-                    Read::Refused(n) => {
-                        return Read::Refused(n);
-                    }
-                    Read::Done(d) => {
-                        used = d;
-                    }
-                }
+                let read = read_guards(lent, rest, bindings, draws, area);
+                bindings.count = count;
+                used = read?;
             }
         }
     }
-    Read::Done(used)
+    Ok(used)
 }
 
 // An absent guard: its row is looked for in its operand, and where it is missing the guards that follow are read.
 #[cycle(readers)]
 fn read_absent(
-    words: &[u32],
-    at: usize,
-    values: &mut [u32; 16],
-    count: usize,
+    lent: &Lent<'_>,
+    body: Body,
+    bindings: &mut Bindings,
     draws: u32,
     area: &mut [u32],
-    given: Given,
-    store: &[u32],
-    defs: &[u32],
-    links: &[u32],
-    policy: &[u32],
-    left: u32,
-    free: usize,
-) -> Read
-    requires { AskAbsent (from given store.now defs.now links.now policy.now) words.now at left values.old count area.old free }
-    ensures { SayAbsent (from given store.now defs.now links.now policy.now) words.now at left values.old count draws free area.old result values.new area.new }
+) -> Result<u32, Refusal>
+    requires { AskAbsent (from lent.now) lent.now.words.now body.at body.left bindings.old.values bindings.old.count area.old body.free }
+    ensures says { SayAbsent (from lent.now) lent.now.words.now body.at body.left bindings.old.values bindings.old.count draws body.free area.old result bindings.new.values area.new }
+    ensures same { bindings.new.count ≡ bindings.old.count }
 {
-    let operand = skip_row(words, at);
-    match expr_has(
-        words,
-        operand,
-        values,
-        count,
-        draws,
-        &mut area[free..],
-        given,
-        store,
-        defs,
-        links,
-        policy,
-        at,
-    ) {
-        Tested::Refused(n) => Read::Refused(n),
-        Tested::Has(used) => Read::Done(used),
-        Tested::Lacks(used) => {
-            let rest = skip_expr(words, operand);
-            read_guards(
-                words, rest, values, count, used, area, given, store, defs, links, policy, left,
-                free,
-            )
-        }
+    let free = body.free;
+    let operand = skip_row(lent.words, body.at);
+    let (has, used) = expr_has(lent, operand, body.at, bindings, draws, &mut area[free..])?;
+    if has {
+        return Ok(used);
     }
+    let rest = Body {
+        at: skip_expr(lent.words, operand),
+        left: body.left,
+        free,
+    };
+    read_guards(lent, rest, bindings, used, area)
 }
 
 // Whether the row written at `row` belongs to an expression, which is read into the area unless it is a leaf.
 #[cycle(readers)]
 fn expr_has(
-    words: &[u32],
+    lent: &Lent<'_>,
     at: usize,
-    values: &mut [u32; 16],
-    count: usize,
+    row: usize,
+    bindings: &mut Bindings,
     draws: u32,
     area: &mut [u32],
-    given: Given,
-    store: &[u32],
-    defs: &[u32],
-    links: &[u32],
-    policy: &[u32],
-    row: usize,
-) -> Tested
-    requires { AskHas (from given store.now defs.now links.now policy.now) words.now at row values.old count area.old }
-    ensures { SayExprHas (from given store.now defs.now links.now policy.now) words.now at row values.old count draws result values.new }
+) -> Result<(bool, u32), Refusal>
+    requires { AskHas (from lent.now) lent.now.words.now at row bindings.old.values bindings.old.count area.old }
+    ensures says { SayExprHas (from lent.now) lent.now.words.now at row bindings.old.values bindings.old.count draws result bindings.new.values }
+    ensures same { bindings.new.count ≡ bindings.old.count }
 {
-    let code = words[at];
-    if !is_node(code) {
-        return leaf_has(
-            words, at, values, count, draws, area, given, store, defs, links, policy, row,
-        );
+    if !is_node(lent.words[at]) {
+        return leaf_has(lent, at, row, bindings, draws, area);
     }
-    match read_expr(
-        words, at, values, count, draws, area, given, store, defs, links, policy,
-    ) {
-        Read::Refused(n) => Tested::Refused(n),
-        Read::Done(used) => told(has_row(words, row, values, count, area), used),
-    }
+    let used = read_expr(lent, at, bindings, draws, area)?;
+    Ok((has_row(lent, row, bindings, area), used))
 }
 
-// A whole definition or query that was checked: sound stores, the sets of the definitions before it, and the draws made so far.
-pub fn read_whole(
-    words: &[u32],
-    draws: u32,
-    area: &mut [u32],
-    given: Given,
-    store: &[u32],
-    defs: &[u32],
-    links: &[u32],
-    policy: &[u32],
-) -> Read
-    requires { AskWhole (from given store.now defs.now links.now policy.now) words.now area.old }
-    ensures { SayWhole (from given store.now defs.now links.now policy.now) words.now draws result area.new }
+/// A whole definition or query that was checked: sound stores, the sets of the definitions before it, and the draws made so far. `Ok` has the draws made then.
+pub fn read_whole(lent: &Lent<'_>, draws: u32, area: &mut [u32]) -> Result<u32, Refusal>
+    requires { AskWhole (from lent.now) lent.now.words.now area.old }
+    ensures { SayWhole (from lent.now) lent.now.words.now draws result area.new }
 {
-    let mut values = [0u32; 16];
-    read_expr(
-        words,
-        0,
-        &mut values,
-        0,
-        draws,
-        area,
-        given,
-        store,
-        defs,
-        links,
-        policy,
-    )
+    let mut bindings = Bindings {
+        values: [0; 16],
+        count: 0,
+    };
+    read_expr(lent, 0, &mut bindings, draws, area)
 }

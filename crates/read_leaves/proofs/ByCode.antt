@@ -13,11 +13,11 @@ use Rattle.policy.specs.Leaf.{Leaf, leaf_code, leaf_words}
 use Rattle.meaning.specs.Values.{Values, row_of}
 use Rattle.meaning.specs.Reading.{Result, done, after, small, rows_of, read_leaf}
 use Rattle.policy_places.specs.Places.{StandsLeaf, SomeLeaf}
-use Rattle.read_values.specs.Answers.{Filled, set_read_is, tested_is, IfDone}
+use Rattle.read_values.specs.Answers.{Filled}
+use Rattle.read_values.specs.Outcomes.{outcome, tested, IfOk}
 use Rattle.read_values.specs.From.{From, sets_in, scope_in, names, sets}
-use Rattle.read_values.specs.declared.Read as Read
-use Rattle.read_values.specs.declared.Read.TheVariants.{Done, Refused}
-use Rattle.read_values.specs.declared.Tested as Tested
+use Rattle.std.specs.Prelude.{Result as Outcome, Ok, Err}
+use Rattle.refusals.specs.declared.Refusal.{Refusal}
 use Rattle.policy_table.proofs.Declared.{length_declared}
 use Rattle.policy_places.proofs.Places.{at_word}
 use Rattle.policy_places.proofs.Leaves.{on_definition, on_listed, on_rows, in_finite, in_cofinite, in_definition, in_listed}
@@ -68,8 +68,8 @@ module _ {ws : List ℕ} {at : ℕ} (d : get_or ws at 0 ≡ 3 → ⊥) (l : get_
       on_rows (λ y. StandsLeaf x.scope x.n ws at y → (1 ≤ get_or ws at 0) × (get_or ws at 0 ≤ 2)) x.here d l v
       (λ rs s. let c = at_word s.words in (omega arith, omega arith)) (λ rs s. let c = at_word s.words in (omega arith, omega arith)) x.here
 
-  pub leaf_rows : {f : From} {vs : Values} {k : ℕ} {area : List ℕ} → SayRows ws (at + 1) (get_or ws at 0 - 1) vs area → SayLeaf f ws at vs k (Done k) area
-  unfolding read_leaf IfDone set_read_is leaf_words leaf_code formed
+  pub leaf_rows : {f : From} {vs : Values} {k : ℕ} {area : List ℕ} → SayRows ws (at + 1) (get_or ws at 0 - 1) vs area → SayLeaf f ws at vs k (Ok k) area
+  unfolding read_leaf IfOk outcome leaf_words leaf_code formed
   leaf_rows {f} {vs} {k} {area} s = record {
     filled = s.filled;
     means = λ n x h.
@@ -81,47 +81,44 @@ module _ {ws : List ℕ} {at : ℕ} (d : get_or ws at 0 ≡ 3 → ⊥) (l : get_
 module _ (f : From) {ws : List ℕ} {at : ℕ} {vs : Values} {k : ℕ} where
   -- ---- a name
 
-  pub leaf_name : {r : Read.Read} {area : List ℕ} → get_or ws at 0 ≡ 4 → SayListed f ws (at + 1) vs k r area → SayLeaf f ws at vs k r area
+  pub leaf_name : {r : Outcome ℕ Refusal} {area : List ℕ} → get_or ws at 0 ≡ 4 → SayListed f ws (at + 1) vs k r area → SayLeaf f ws at vs k r area
   unfolding read_leaf
   leaf_name {r} {area} c s = record {
     filled = s.filled;
-    means = λ n x h. on_listed (λ y. StandsLeaf (scope_in f) n ws at y → read_leaf (names f) (sets f) y vs k ≡ set_read_is r area) h c (λ t m p o g. s.means t m p o (in_listed g)) h;
+    means = λ n x h. on_listed (λ y. StandsLeaf (scope_in f) n ws at y → read_leaf (names f) (sets f) y vs k ≡ outcome (set_in area) r) h c (λ t m p o g. s.means t m p o (in_listed g)) h;
   }
 
-  pub leaf_name_has : {row : ℕ} {r : Tested.Tested} → get_or ws at 0 ≡ 4 → SayListedHas f ws (at + 1) row vs k r → SayLeafHas f ws at row vs k r
+  pub leaf_name_has : {row : ℕ} {r : Outcome (Bool × ℕ) Refusal} → get_or ws at 0 ≡ 4 → SayListedHas f ws (at + 1) row vs k r → SayLeafHas f ws at row vs k r
   unfolding read_leaf
   leaf_name_has {r} c s = record {
     means = λ n x h m ts g.
-        on_listed (λ y. StandsLeaf (scope_in f) n ws at y → after (read_leaf (names f) (sets f) y vs k) (λ z i. done (has z (row_of vs ts)) i) ≡ tested_is r) h c
+        on_listed (λ y. StandsLeaf (scope_in f) n ws at y → after (read_leaf (names f) (sets f) y vs k) (λ z i. done (has z (row_of vs ts)) i) ≡ tested r) h c
         (λ t l p o q. s.means t l p o (in_listed q) m ts g) h;
   }
 
   -- ---- any leaf: a look into the set that is read for it
 
-  looked_into : {row : ℕ} {set : List ℕ} {used : ℕ} {b : Bool} {r : Tested.Tested} → ((n : ℕ) (x : Leaf) → StandsLeaf (scope_in f) n ws at x → read_leaf (names f) (sets f) x vs k ≡ done (set_in set) used) →
-      SayHas ws row vs set b → tested_is r ≡ done b used → SayLeafHas f ws at row vs k r
-  unfolding after
-  looked_into {used} reads s e = record {
+  looked_into : {row : ℕ} {set : List ℕ} {used : ℕ} {b : Bool} → ((n : ℕ) (x : Leaf) → StandsLeaf (scope_in f) n ws at x → read_leaf (names f) (sets f) x vs k ≡ done (set_in set) used) →
+      SayHas ws row vs set b → SayLeafHas f ws at row vs k (Ok (b, used))
+  unfolding after tested
+  looked_into {used} reads s = record {
     means = λ n x h m ts g.
-        ap (λ (a : Result RowSet). after a (λ z i. done (has z (row_of vs ts)) i)) (reads n x h) ∙ ap (λ (b : Bool). done b used) (s.means m ts g) ∙ sym e;
+        ap (λ (a : Result RowSet). after a (λ z i. done (has z (row_of vs ts)) i)) (reads n x h) ∙ ap (λ (b : Bool). done b used) (s.means m ts g);
   }
 
-  module _ {a : Read.Read} {area : List ℕ} (says : SayLeaf f ws at vs k a area) where
-    pub leaf_refused : {row n : ℕ} → a ≡ Refused n → SayLeafHas f ws at row vs k (Tested.TheVariants.Refused n)
-    unfolding after set_read_is tested_is
-    leaf_refused e = record {
-      means = λ n x h m ts g.
-          ap (λ (u : Result RowSet). after u (λ z i. done (has z (row_of vs ts)) i)) (says.means n x h ∙ ap (λ (u : Read.Read). set_read_is u area) e);
-    }
+  module _ {area : List ℕ} where
+    pub leaf_refused : {row : ℕ} {x : Refusal} → SayLeaf f ws at vs k (Err x) area → SayLeafHas f ws at row vs k (Err x)
+    unfolding after outcome tested
+    leaf_refused says = record { means = λ n x h m ts g. ap (λ (u : Result RowSet). after u (λ z i. done (has z (row_of vs ts)) i)) (says.means n x h) }
 
-    module _ {used : ℕ} (is : a ≡ Done used) where
+    module _ {used : ℕ} (says : SayLeaf f ws at vs k (Ok used) area) where
       pub leaf_filled : Filled area
-      unfolding IfDone
-      leaf_filled = subst (λ (u : Read.Read). IfDone Filled u area) is says.filled
+      unfolding IfOk
+      leaf_filled = says.filled
 
-      pub leaf_looked : {row : ℕ} {b : Bool} {r : Tested.Tested} → SayHas ws row vs area b → tested_is r ≡ done b used → SayLeafHas f ws at row vs k r
-      unfolding set_read_is
-      leaf_looked = looked_into (λ n x h. says.means n x h ∙ ap (λ (u : Read.Read). set_read_is u area) is)
+      pub leaf_looked : {row : ℕ} {b : Bool} → SayHas ws row vs area b → SayLeafHas f ws at row vs k (Ok (b, used))
+      unfolding outcome
+      leaf_looked = looked_into (λ n x h. says.means n x h)
 
 -- ---- a definition
 
@@ -132,11 +129,11 @@ module _ (f : From) {ws : List ℕ} {at d : ℕ} {set : List ℕ} (c : get_or ws
       on_definition (λ y. StandsLeaf (scope_in f) n ws at y → read_leaf (names f) (sets f) y vs k ≡ done (set_in set) k) h c
       (λ e g. ap (λ (z : RowSet). done z k) (ap (λ (i : ℕ). get_or (sets f) i (only [])) (sym (number ∙ (in_definition g).number)) ∙ sym s.means)) h
 
-  pub leaf_definition : {vs : Values} {k : ℕ} (to : List ℕ) {area : List ℕ} → 642 ≤ length to → area ≡ written (set_in set) to → SayLeaf f ws at vs k (Done k) area
-  unfolding IfDone set_read_is
+  pub leaf_definition : {vs : Values} {k : ℕ} (to : List ℕ) {area : List ℕ} → 642 ≤ length to → area ≡ written (set_in set) to → SayLeaf f ws at vs k (Ok k) area
+  unfolding IfOk outcome
   leaf_definition {vs} {k} to {area} long e =
       let z = copied_stands set s.filled.sound to long e in
       record { filled = stands_filled z; means = λ n x h. definition_read vs k n x h ∙ ap (λ (y : RowSet). done y k) (sym z.set) }
 
-  pub leaf_definition_has : {vs : Values} {k row : ℕ} {b : Bool} {r : Tested.Tested} → SayHas ws row vs set b → tested_is r ≡ done b k → SayLeafHas f ws at row vs k r
+  pub leaf_definition_has : {vs : Values} {k row : ℕ} {b : Bool} → SayHas ws row vs set b → SayLeafHas f ws at row vs k (Ok (b, k))
   leaf_definition_has {vs} {k} = looked_into f (definition_read vs k)

@@ -1,3 +1,4 @@
+pub mod Certified
 pub mod Listed
 pub mod ByCode
 pub mod Literals

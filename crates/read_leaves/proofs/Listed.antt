@@ -19,16 +19,14 @@ use Rattle.meaning.specs.Values.{Values, value, row_of}
 use Rattle.meaning.specs.Reading.{Result, done, after, small, read_name}
 use Rattle.policy_places.specs.Places.{StandsName, SomeName}
 use Rattle.policy_places.proofs.Places.{at_word, at_next}
-use Rattle.read_values.specs.Answers.{set_read_is, tested_is, IfDone}
+use Rattle.read_values.specs.Outcomes.{outcome, tested, IfOk}
 use Rattle.read_values.specs.From.{From, sets_in, scope_in, names, sets}
-use Rattle.read_values.specs.declared.Read as Read
-use Rattle.read_values.specs.declared.Read.TheVariants.{Done}
-use Rattle.read_values.specs.declared.Tested as Tested
+use Rattle.std.specs.Prelude.{Result as Outcome, Ok}
+use Rattle.refusals.specs.declared.Refusal.{Refusal}
 use Rattle.read_values.proofs.Answers.{stands_filled}
 use Rattle.read_steps.specs.Steps.{SayHas}
-use Rattle.read_names.specs.Names.{SayName, SayNameHas}
 use Rattle.read_names.proofs.Named.{polarity_back, name_here}
-use Rattle.read_leaves.specs.Leaves.{SayDefinition, origin_if, SayOwn, AskOwn, SayOwnSet, AskName, SayListed, SayListedHas}
+use Rattle.read_leaves.specs.Leaves.{SayDefinition, origin_if, SayOwn, AskOwn, SayOwnSet, SayCertified, SayCertifiedHas, AskName, SayListed, SayListedHas}
 
 -- ---- under our own key or not
 
@@ -49,11 +47,11 @@ module _ {ours : ℕ} {ws : List ℕ} {at : ℕ} where
       go : (s : Scope) → s.our_key ≡ ours → (t : Term) (n : ℕ) (p : Polarity) (o : Origin) → StandsName s ws at t n p o → o ≡ origin_if (eqb (get_or ws (at + 1) 0) ours) s n p
       go s k (atom a) n p o h =
           let e : eqb a s.our_key ≡ eqb (get_or ws (at + 1) 0) ours = rw (k, at_word (at_next h.words)) in
-          h.origin.is ∙ tested (eqb a s.our_key) ∙ ap (λ (b : Bool). origin_if b s n p) e
+          h.origin.is ∙ either_origin (eqb a s.our_key) ∙ ap (λ (b : Bool). origin_if b s n p) e
         where
-          tested : (b : Bool) → (elim b as (λ c. Origin) [ true ↦ by_definition (definition_of s.available n p) | false ↦ by_certificates ]) ≡ origin_if b s n p
-          tested true = refl
-          tested false = refl
+          either_origin : (b : Bool) → (elim b as (λ c. Origin) [ true ↦ by_definition (definition_of s.available n p) | false ↦ by_certificates ]) ≡ origin_if b s n p
+          either_origin true = refl
+          either_origin false = refl
       go s k (var i) n p o h = let one = at_word h.words in absurd (omega arith)
 
 -- ---- the set of the definition
@@ -102,17 +100,17 @@ module _ (f : From) {ws : List ℕ} {at : ℕ} (vs : Values) (k : ℕ) where
         let e : o ≡ by_definition (definition_of (declared_in f.policy f.known) n p) = own.means (scope_in f) refl t n p o h ∙ ap (λ (b : Bool). origin_if b (scope_in f) n p) is in
         ap (λ (x : Origin). read_name (names f) (sets f) (value vs t) n p x k) e ∙ ap (λ (z : RowSet). done z k) (sym (s.means (scope_in f) t n p o h))
 
-    pub listed_own : (to : List ℕ) {area : List ℕ} → 642 ≤ length to → area ≡ written (set_in set) to → SayListed f ws at vs k (Done k) area
-    unfolding IfDone set_read_is
+    pub listed_own : (to : List ℕ) {area : List ℕ} → 642 ≤ length to → area ≡ written (set_in set) to → SayListed f ws at vs k (Ok k) area
+    unfolding IfOk outcome
     listed_own to long e =
         let z = copied_stands set s.filled.sound to long e in
         record { filled = stands_filled z; means = λ t n p o h. own_read t n p o h ∙ ap (λ (y : RowSet). done y k) (sym z.set) }
 
-    pub listed_own_has : {row : ℕ} {found : Bool} {r : Tested.Tested} → SayHas ws row vs set found → tested_is r ≡ done found k → SayListedHas f ws at row vs k r
-    unfolding after
-    listed_own_has g e = record {
+    pub listed_own_has : {row : ℕ} {found : Bool} → SayHas ws row vs set found → SayListedHas f ws at row vs k (Ok (found, k))
+    unfolding after tested
+    listed_own_has g = record {
       means = λ t n p o h m ts st.
-          ap (λ (x : Result RowSet). after x (λ z i. done (has z (row_of vs ts)) i)) (own_read t n p o h) ∙ ap (λ (x : Bool). done x k) (g.means m ts st) ∙ sym e;
+          ap (λ (x : Result RowSet). after x (λ z i. done (has z (row_of vs ts)) i)) (own_read t n p o h) ∙ ap (λ (x : Bool). done x k) (g.means m ts st);
     }
 
   -- its certificates
@@ -123,10 +121,10 @@ module _ (f : From) {ws : List ℕ} {at : ℕ} (vs : Values) (k : ℕ) where
         let e : o ≡ by_certificates = own.means (scope_in f) refl t n p o h ∙ ap (λ (b : Bool). origin_if b (scope_in f) n p) is in
         ap (λ (x : Origin). read_name (names f) (sets f) (value vs t) n p x k) e
 
-    pub listed_certified : {r : Read.Read} {area : List ℕ} → SayName (names f) ws at vs k r area → SayListed f ws at vs k r area
+    pub listed_certified : {r : Outcome ℕ Refusal} {area : List ℕ} → SayCertified (names f) ws at vs k r area → SayListed f ws at vs k r area
     listed_certified s = record { filled = s.filled; means = λ t n p o h. certified h ∙ s.means t n p h.words }
 
-    pub listed_certified_has : {row : ℕ} {r : Tested.Tested} → SayNameHas (names f) ws at row vs k r → SayListedHas f ws at row vs k r
+    pub listed_certified_has : {row : ℕ} {r : Outcome (Bool × ℕ) Refusal} → SayCertifiedHas (names f) ws at row vs k r → SayListedHas f ws at row vs k r
     listed_certified_has s = record {
       means = λ t n p o h m ts g. ap (λ (x : Result RowSet). after x (λ z i. done (has z (row_of vs ts)) i)) (certified h) ∙ s.means t n p h.words m ts g;
     }

@@ -24,11 +24,11 @@ use Rattle.policy_places.specs.Places.{StandsLeaf, IsTerm}
 use Rattle.policy_table.proofs.Declared.{length_declared}
 use Rattle.policy_places.proofs.Places.{at_front}
 use Rattle.policy_places.proofs.Leaves.{on_vetted, in_vetted}
-use Rattle.read_values.specs.Answers.{set_read_is, tested_is, IfDone}
+use Rattle.read_values.specs.Outcomes.{outcome, tested, IfOk}
 use Rattle.read_values.specs.From.{From, sets_in, scope_in, names, sets}
-use Rattle.read_values.specs.declared.Read as Read
-use Rattle.read_values.specs.declared.Read.TheVariants.{Done}
-use Rattle.read_values.specs.declared.Tested as Tested
+use Rattle.std.specs.Prelude.{Result as Outcome, Ok}
+use Rattle.refusals.specs.declared.Refusal.{Refusal}
+use Rattle.refusals.specs.Numbers.{number}
 use Rattle.read_values.proofs.Answers.{stands_filled}
 use Rattle.read_leaves.specs.Leaves.{SayDefinition, SayAmong, AskName, SayListed, SayListedHas, AskLeaf, SayLeaf, SayLeafHas}
 
@@ -65,36 +65,36 @@ looks_up {known} {defs} {ws} {at} vs {x} {key} {set} {r} i v number s e = record
 
 module _ (f : From) {ws : List ℕ} {at : ℕ} {vs : Values} (k : ℕ) (c : get_or ws at 0 ≡ 8) where
   -- whatever is said of a reading that is tested so
-  tested : {b a : Bool} → SayAmong f.known f.defs ws at vs b → b ≡ a → (P : Result RowSet → Type 0) (n : ℕ) {x : Leaf} → StandsLeaf (scope_in f) n ws at x →
+  as_tested : {b a : Bool} → SayAmong f.known f.defs ws at vs b → b ≡ a → (P : Result RowSet → Type 0) (n : ℕ) {x : Leaf} → StandsLeaf (scope_in f) n ws at x →
       ((t : Term) (m : ℕ) (o : Origin) (d : ℕ) → StandsLeaf (scope_in f) n ws at (vetted t m o d) → P (either a (λ i. done (only []) i) (read_name (names f) (sets f) (value vs t) m plus o) k)) → P (read_leaf (names f) (sets f) x vs k)
   unfolding read_leaf
-  tested s e P n h g =
+  as_tested s e P n h g =
       on_vetted (λ y. StandsLeaf (scope_in f) n ws at y → P (read_leaf (names f) (sets f) y vs k)) h c
       (λ t m o d i. subst (λ (b : Bool). P (either b (λ i. done (only []) i) (read_name (names f) (sets f) (value vs t) m plus o) k)) (sym (s.means (scope_in f) n t m o d i ∙ e)) (g t m o d i)) h
 
   -- the issuer is there
   module _ {b : Bool} (s : SayAmong f.known f.defs ws at vs b) (there : b ≡ true) where
-    pub vetted_none : (entry : List ℕ) {area : List ℕ} → 642 ≤ length entry → area ≡ written (formed 0 []) entry → SayLeaf f ws at vs k (Done k) area
-    unfolding IfDone set_read_is formed
+    pub vetted_none : (entry : List ℕ) {area : List ℕ} → 642 ≤ length entry → area ≡ written (formed 0 []) entry → SayLeaf f ws at vs k (Ok k) area
+    unfolding IfOk outcome formed
     vetted_none entry {area} long e =
         let z = cleared_stands 0 entry long e in
-        record { filled = stands_filled z; means = λ n x h. tested s there (λ u. u ≡ done (set_in area) k) n h (λ t m o d i. ap (λ (y : RowSet). done y k) (sym z.set)) }
+        record { filled = stands_filled z; means = λ n x h. as_tested s there (λ u. u ≡ done (set_in area) k) n h (λ t m o d i. ap (λ (y : RowSet). done y k) (sym z.set)) }
 
-    pub vetted_lacks : {row : ℕ} {r : Tested.Tested} → tested_is r ≡ done false k → SayLeafHas f ws at row vs k r
-    unfolding after has lists
-    vetted_lacks {r} e = record {
-      means = λ n x h m ts g. tested s there (λ u. after u (λ z i. done (has z (row_of vs ts)) i) ≡ tested_is r) n h (λ t m o d i. sym e);
+    pub vetted_lacks : {row : ℕ} → SayLeafHas f ws at row vs k (Ok (false, k))
+    unfolding after has lists tested
+    vetted_lacks = record {
+      means = λ n x h m ts g. as_tested s there (λ u. after u (λ z i. done (has z (row_of vs ts)) i) ≡ done false k) n h (λ t m o d i. refl);
     }
 
   -- it is absent
   module _ {b : Bool} (s : SayAmong f.known f.defs ws at vs b) (gone : b ≡ false) where
-    pub vetted_read : {r : Read.Read} {area : List ℕ} → SayListed f ws (at + 1) vs k r area → SayLeaf f ws at vs k r area
+    pub vetted_read : {r : Outcome ℕ Refusal} {area : List ℕ} → SayListed f ws (at + 1) vs k r area → SayLeaf f ws at vs k r area
     vetted_read {r} {area} y = record {
       filled = y.filled;
-      means = λ n x h. tested s gone (λ u. u ≡ set_read_is r area) n h (λ t m o d i. y.means t m plus o (in_vetted i).name);
+      means = λ n x h. as_tested s gone (λ u. u ≡ outcome (set_in area) r) n h (λ t m o d i. y.means t m plus o (in_vetted i).name);
     }
 
-    pub vetted_looked : {row : ℕ} {r : Tested.Tested} → SayListedHas f ws (at + 1) row vs k r → SayLeafHas f ws at row vs k r
+    pub vetted_looked : {row : ℕ} {r : Outcome (Bool × ℕ) Refusal} → SayListedHas f ws (at + 1) row vs k r → SayLeafHas f ws at row vs k r
     vetted_looked {r} y = record {
-      means = λ n x h m ts g. tested s gone (λ u. after u (λ z i. done (has z (row_of vs ts)) i) ≡ tested_is r) n h (λ t l o d i. y.means t l plus o (in_vetted i).name m ts g);
+      means = λ n x h m ts g. as_tested s gone (λ u. after u (λ z i. done (has z (row_of vs ts)) i) ≡ tested r) n h (λ t l o d i. y.means t l plus o (in_vetted i).name m ts g);
     }

@@ -1,5 +1,5 @@
 -- What the readers of leaves ask and say, of whatever stands in the words.
-use Rattle.std.specs.Prelude.{ℕ, ◌≤◌, ◌<◌, ◌≡◌, Bool, true, false, List, [], ◌∷◌, length, get_or}
+use Rattle.std.specs.Prelude.{ℕ, ◌≤◌, ◌<◌, ◌≡◌, Bool, true, false, List, [], ◌∷◌, length, get_or, Result as Outcome}
 use Rattle.rows.specs.Sets.{only, has}
 use Rattle.rows.specs.Layout.{formed, set_in}
 use Rattle.rows.specs.Name.{Polarity}
@@ -8,13 +8,14 @@ use Rattle.policy.specs.Leaf.{Leaf, vetted}
 use Rattle.policy.specs.Syntax.{Term}
 use Rattle.policy_table.specs.Entries.{entry_place, declared_in}
 use Rattle.meaning.specs.Values.{Values, value, row_of}
+use Rattle.meaning.specs.Evidence.{Evidence}
 use Rattle.meaning.specs.Reading.{done, after, small, rows_of, read_name, read_leaf}
 use Rattle.read_values.specs.Values.{Bound}
-use Rattle.policy_places.specs.Places.{StandsName, StandsLeaf, StandsRow, StandsRows}
-use Rattle.read_values.specs.Answers.{Filled, set_read_is, tested_is, IfDone}
+use Rattle.policy_places.specs.Places.{At, name_words, StandsName, StandsLeaf, StandsRow, StandsRows}
+use Rattle.read_values.specs.Answers.{Filled}
+use Rattle.read_values.specs.Outcomes.{outcome, tested, IfOk}
 use Rattle.read_values.specs.From.{From, sets_in, scope_in, names, sets, SoundFrom}
-use Rattle.read_values.specs.declared.Read.{Read}
-use Rattle.read_values.specs.declared.Tested.{Tested}
+use Rattle.refusals.specs.declared.Refusal.{Refusal}
 
 -- the rows written there, in a set of this form
 pub record SayRows (ws : List ℕ) (at form : ℕ) (vs : Values) (area : List ℕ) : Type 0 where
@@ -56,6 +57,16 @@ pub record SayOwnSet (known : ℕ) (policy defs ws : List ℕ) (at : ℕ) (set :
   pub filled : Filled set
   pub means : (s : Scope) (t : Term) (n : ℕ) (p : Polarity) (o : Origin) → StandsName s ws at t n p o → set_in set ≡ get_or (sets_in known defs) (definition_of (declared_in policy known) n p) (only [])
 
+-- the certified rows of the name that stands there, where this evidence is held
+pub record SayCertified (held : Evidence) (ws : List ℕ) (at : ℕ) (vs : Values) (k : ℕ) (r : Outcome ℕ Refusal) (area : List ℕ) : Type 0 where
+  pub filled : IfOk Filled r area
+  pub means : (t : Term) (n : ℕ) (p : Polarity) → At ws at (name_words t n p) → small (held (value vs t) n p) k ≡ outcome (set_in area) r
+
+-- whether the row that the terms come to belongs to them, or the refusal that reading them meets
+pub record SayCertifiedHas (held : Evidence) (ws : List ℕ) (at row : ℕ) (vs : Values) (k : ℕ) (r : Outcome (Bool × ℕ) Refusal) : Type 0 where
+  pub means : (t : Term) (m : ℕ) (p : Polarity) → At ws at (name_words t m p) → (n : ℕ) (ts : List Term) → StandsRow n ws row ts →
+      after (small (held (value vs t) m p) k) (λ s i. done (has s (row_of vs ts)) i) ≡ tested r
+
 -- some name stands there
 pub record AskName (f : From) (ws : List ℕ) (at : ℕ) (values : List ℕ) (count : ℕ) : Type 0 where
   pub sound : SoundFrom f
@@ -67,14 +78,14 @@ pub record AskName (f : From) (ws : List ℕ) (at : ℕ) (values : List ℕ) (co
   pub here : StandsName (scope_in f) ws at t n p o
 
 -- whichever it is, its set is left at the area's front, k draws being made before
-pub record SayListed (f : From) (ws : List ℕ) (at : ℕ) (vs : Values) (k : ℕ) (r : Read) (area : List ℕ) : Type 0 where
-  pub filled : IfDone Filled r area
-  pub means : (t : Term) (n : ℕ) (p : Polarity) (o : Origin) → StandsName (scope_in f) ws at t n p o → read_name (names f) (sets f) (value vs t) n p o k ≡ set_read_is r area
+pub record SayListed (f : From) (ws : List ℕ) (at : ℕ) (vs : Values) (k : ℕ) (r : Outcome ℕ Refusal) (area : List ℕ) : Type 0 where
+  pub filled : IfOk Filled r area
+  pub means : (t : Term) (n : ℕ) (p : Polarity) (o : Origin) → StandsName (scope_in f) ws at t n p o → read_name (names f) (sets f) (value vs t) n p o k ≡ outcome (set_in area) r
 
 -- whether the row that the terms come to belongs to it, or the refusal that reading it meets
-pub record SayListedHas (f : From) (ws : List ℕ) (at row : ℕ) (vs : Values) (k : ℕ) (r : Tested) : Type 0 where
+pub record SayListedHas (f : From) (ws : List ℕ) (at row : ℕ) (vs : Values) (k : ℕ) (r : Outcome (Bool × ℕ) Refusal) : Type 0 where
   pub means : (t : Term) (n : ℕ) (p : Polarity) (o : Origin) → StandsName (scope_in f) ws at t n p o → (m : ℕ) (ts : List Term) → StandsRow m ws row ts →
-      after (read_name (names f) (sets f) (value vs t) n p o k) (λ s i. done (has s (row_of vs ts)) i) ≡ tested_is r
+      after (read_name (names f) (sets f) (value vs t) n p o k) (λ s i. done (has s (row_of vs ts)) i) ≡ tested r
 
 -- ---- a leaf
 
@@ -86,11 +97,11 @@ pub record AskLeaf (f : From) (ws : List ℕ) (at : ℕ) (values : List ℕ) (co
   pub here : StandsLeaf (scope_in f) count ws at x
 
 -- whichever it is, its set is left at the area's front, k draws being made before
-pub record SayLeaf (f : From) (ws : List ℕ) (at : ℕ) (vs : Values) (k : ℕ) (r : Read) (area : List ℕ) : Type 0 where
-  pub filled : IfDone Filled r area
-  pub means : (n : ℕ) (x : Leaf) → StandsLeaf (scope_in f) n ws at x → read_leaf (names f) (sets f) x vs k ≡ set_read_is r area
+pub record SayLeaf (f : From) (ws : List ℕ) (at : ℕ) (vs : Values) (k : ℕ) (r : Outcome ℕ Refusal) (area : List ℕ) : Type 0 where
+  pub filled : IfOk Filled r area
+  pub means : (n : ℕ) (x : Leaf) → StandsLeaf (scope_in f) n ws at x → read_leaf (names f) (sets f) x vs k ≡ outcome (set_in area) r
 
 -- whether the row that the terms come to belongs to it, or the refusal that reading it meets
-pub record SayLeafHas (f : From) (ws : List ℕ) (at row : ℕ) (vs : Values) (k : ℕ) (r : Tested) : Type 0 where
+pub record SayLeafHas (f : From) (ws : List ℕ) (at row : ℕ) (vs : Values) (k : ℕ) (r : Outcome (Bool × ℕ) Refusal) : Type 0 where
   pub means : (n : ℕ) (x : Leaf) → StandsLeaf (scope_in f) n ws at x → (m : ℕ) (ts : List Term) → StandsRow m ws row ts →
-      after (read_leaf (names f) (sets f) x vs k) (λ s i. done (has s (row_of vs ts)) i) ≡ tested_is r
+      after (read_leaf (names f) (sets f) x vs k) (λ s i. done (has s (row_of vs ts)) i) ≡ tested r

@@ -2,13 +2,14 @@
 // is the definition that it stands for. The readers of expressions call one function for all of them.
 #![tactic(auto)]
 
-ghost use Rattle.std.specs.Prelude.{ℕ, ◌+◌, ◌*◌, ◌≤◌, ◌<◌, ◌≡◌, length, get_or, take, drop};
+ghost use Rattle.std.specs.Prelude.{◌+◌, ◌≤◌, ◌<◌, ◌≡◌, true, length, get_or, take};
 ghost use Rattle.rows.specs.Layout.{set_room};
 ghost use Rattle.read_values.specs.Values.{Bound};
 ghost use Rattle.policy_places.specs.Places.{SomeName, SomeRow, SomeRows};
-ghost use Rattle.read_values.specs.Answers.{Filled};
-ghost use Rattle.read_values.specs.From.{from};
-ghost use Rattle.read_leaves.specs.Leaves.{SayRows, SayDefinition, SayAmong, SayOwn, AskOwn, SayOwnSet, AskName, SayListed, SayListedHas, AskLeaf, SayLeaf, SayLeafHas};
+ghost use Rattle.certificates.specs.Store.{sound_store};
+ghost use Rattle.certificates.specs.Link.{sound_links};
+ghost use Rattle.read_values.specs.From.{from, names, FilledSets};
+ghost use Rattle.read_leaves.specs.Leaves.{SayRows, SayDefinition, SayAmong, SayOwn, AskOwn, SayOwnSet, SayCertified, SayCertifiedHas, AskName, SayListed, SayListedHas, AskLeaf, SayLeaf, SayLeafHas};
 
 use policy::{CODE_DEFINITION, CODE_NAME, CODE_VETTED, TAG_ATOM};
 use policy_places::skip::skip_row;
@@ -16,134 +17,162 @@ use policy_places::term_at;
 use policy_table::definition_of;
 use read_names::{name_has, read_name};
 use read_steps::has_row;
-use read_values::{Given, Read, Tested, row_of, told, value_of};
+use read_values::{Bindings, Lent, Read, Tested};
+use refusals::Refusal;
 use row_words::row::Row;
 use row_words::wide;
 use rows::SET_ROOM;
 use sets::{clear, copy, has, insert};
 
 // The rows written there, in a set of this form: no more than a set lists, so there is room for each.
-fn read_rows(
-    words: &[u32],
-    at: usize,
-    values: &[u32; 16],
-    count: usize,
-    area: &mut [u32],
-    form: u32,
-)
-    requires { Bound values.now count × (form ≤ 1) × (set_room ≤ length area.old) × SomeRows words.now at }
-    ensures { SayRows words.now at form (take count values.now) area.new }
+fn read_rows(lent: &Lent<'_>, at: usize, bindings: &Bindings, area: &mut [u32], form: u32)
+    requires { Bound bindings.now.values bindings.now.count × (form ≤ 1) × (set_room ≤ length area.old) × SomeRows lent.now.words.now at }
+    ensures { SayRows lent.now.words.now at form (take bindings.now.count bindings.now.values) area.new }
 {
     clear(area, form);
-    let written = words[at];
     let mut next = at + 1;
-    let mut i: u32 = 0;
-    while i < written {
-        let row = row_of(words, next, values, count);
+    for _ in 0..lent.words[at] {
+        let row = lent.row_of(next, bindings);
         insert(area, row);
-        next = skip_row(words, next);
-        i += 1;
+        next = skip_row(lent.words, next);
     }
 }
 
 // The words from the set that was read for a definition on.
-fn definition_set<'a>(defs: &'a [u32], d: usize, given: Given) -> &'a [u32]
-    requires { (d < given.known) × ((i : ℕ) → i < given.known → Filled (drop (set_room * i) defs.now)) }
-    ensures { SayDefinition given.known d defs.now result.now }
+fn definition_set<'a>(lent: &Lent<'a>, d: usize) -> &'a [u32]
+    requires { (d < lent.now.known) × FilledSets lent.now.known lent.now.definitions.now }
+    ensures { SayDefinition lent.now.known d lent.now.definitions.now result.now }
 {
-    let base = SET_ROOM * d;
-    &defs[base..]
+    &lent.definitions[SET_ROOM * d..]
 }
 
 // Is the issuer of the name at `at` our own key, written there? (A variable that holds it is another matter.)
-fn is_own(words: &[u32], at: usize, given: Given) -> bool
-    requires { SomeName words.now at }
-    ensures { SayOwn given.our_key words.now at result }
+fn is_own(lent: &Lent<'_>, at: usize) -> bool
+    requires { SomeName lent.now.words.now at }
+    ensures { SayOwn lent.now.our_key lent.now.words.now at result }
 {
-    if words[at] != TAG_ATOM {
+    if lent.words[at] != TAG_ATOM {
         return false;
     }
-    words[at + 1] == given.our_key
+    lent.words[at + 1] == lent.our_key
 }
 
 // The words from the set on that was read for the definition that our own name at `at` stands for.
-fn own_set<'a>(words: &[u32], at: usize, given: Given, defs: &'a [u32], policy: &[u32]) -> &'a [u32]
-    requires { AskOwn given.our_key given.known policy.now words.now at × ((i : ℕ) → i < given.known → Filled (drop (set_room * i) defs.now)) }
-    ensures { SayOwnSet given.known policy.now defs.now words.now at result.now }
+fn own_set<'a>(lent: &Lent<'a>, at: usize) -> &'a [u32]
+    requires { AskOwn lent.now.our_key lent.now.known lent.now.policy.now lent.now.words.now at × FilledSets lent.now.known lent.now.definitions.now }
+    ensures { SayOwnSet lent.now.known lent.now.policy.now lent.now.definitions.now lent.now.words.now at result.now }
 {
-    let known = given.known;
-    let d = definition_of(policy, known, words[at + 2], words[at + 3]);
-    definition_set(defs, d, given)
+    let d = definition_of(
+        lent.policy,
+        lent.known,
+        lent.words[at + 2],
+        lent.words[at + 3],
+    );
+    definition_set(lent, d)
+}
+
+// The certified rows of the name at `at`.
+fn read_certified(
+    lent: &Lent<'_>,
+    at: usize,
+    bindings: &Bindings,
+    draws: u32,
+    area: &mut [u32],
+) -> Result<u32, Refusal>
+    requires { Bound bindings.now.values bindings.now.count × SomeName lent.now.words.now at × (sound_store lent.now.store.now ≡ true) × (sound_links lent.now.links.now ≡ true) × (set_room ≤ length area.old) }
+    ensures { SayCertified (names (from lent.now)) lent.now.words.now at (take bindings.now.count bindings.now.values) draws result area.new }
+{
+    match read_name(
+        lent.words,
+        at,
+        &bindings.values,
+        bindings.count,
+        draws,
+        area,
+        lent.minute,
+        lent.store,
+        lent.links,
+    ) {
+        Read::Done(used) => Ok(used),
+        Read::Refused(_) => Err(Refusal::TooManyRows),
+    }
+}
+
+// Whether the row written at `row` is among them.
+fn certified_has(
+    lent: &Lent<'_>,
+    at: usize,
+    row: usize,
+    bindings: &Bindings,
+    draws: u32,
+    area: &mut [u32],
+) -> Result<(bool, u32), Refusal>
+    requires { Bound bindings.now.values bindings.now.count × SomeName lent.now.words.now at × SomeRow lent.now.words.now row × (sound_store lent.now.store.now ≡ true) × (sound_links lent.now.links.now ≡ true) × (set_room ≤ length area.old) }
+    ensures { SayCertifiedHas (names (from lent.now)) lent.now.words.now at row (take bindings.now.count bindings.now.values) draws result }
+{
+    match name_has(
+        lent.words,
+        at,
+        &bindings.values,
+        bindings.count,
+        draws,
+        area,
+        lent.minute,
+        lent.store,
+        lent.links,
+        row,
+    ) {
+        Tested::Has(used) => Ok((true, used)),
+        Tested::Lacks(used) => Ok((false, used)),
+        Tested::Refused(_) => Err(Refusal::TooManyRows),
+    }
 }
 
 // A name: its certified rows, or under our own key those of the definition that it stands for.
 fn read_listed(
-    words: &[u32],
+    lent: &Lent<'_>,
     at: usize,
-    values: &[u32; 16],
-    count: usize,
+    bindings: &Bindings,
     draws: u32,
     area: &mut [u32],
-    given: Given,
-    store: &[u32],
-    defs: &[u32],
-    links: &[u32],
-    policy: &[u32],
-) -> Read
-    requires { AskName (from given store.now defs.now links.now policy.now) words.now at values.now count × (set_room ≤ length area.old) }
-    ensures { SayListed (from given store.now defs.now links.now policy.now) words.now at (take count values.now) draws result area.new }
+) -> Result<u32, Refusal>
+    requires { AskName (from lent.now) lent.now.words.now at bindings.now.values bindings.now.count × (set_room ≤ length area.old) }
+    ensures { SayListed (from lent.now) lent.now.words.now at (take bindings.now.count bindings.now.values) draws result area.new }
 {
-    if is_own(words, at, given) {
-        copy(own_set(words, at, given, defs, policy), area);
-        return Read::Done(draws);
+    if is_own(lent, at) {
+        copy(own_set(lent, at), area);
+        return Ok(draws);
     }
-    let minute = given.minute;
-    read_name(words, at, values, count, draws, area, minute, store, links)
+    read_certified(lent, at, bindings, draws, area)
 }
 
-// Whether the row written at `row` belongs to the name. A definition's rows are not copied for it.
+// Whether the row written at `row` belongs to the name. A definition's rows are not copied for it, so this is no look into the set that `read_listed` leaves:
+// of each pair here one copies a set, and the other looks where the set stands.
 fn listed_has(
-    words: &[u32],
+    lent: &Lent<'_>,
     at: usize,
-    values: &[u32; 16],
-    count: usize,
+    row: usize,
+    bindings: &Bindings,
     draws: u32,
     area: &mut [u32],
-    given: Given,
-    store: &[u32],
-    defs: &[u32],
-    links: &[u32],
-    policy: &[u32],
-    row: usize,
-) -> Tested
-    requires { AskName (from given store.now defs.now links.now policy.now) words.now at values.now count × (set_room ≤ length area.old) × SomeRow words.now row }
-    ensures { SayListedHas (from given store.now defs.now links.now policy.now) words.now at row (take count values.now) draws result }
+) -> Result<(bool, u32), Refusal>
+    requires { AskName (from lent.now) lent.now.words.now at bindings.now.values bindings.now.count × (set_room ≤ length area.old) × SomeRow lent.now.words.now row }
+    ensures { SayListedHas (from lent.now) lent.now.words.now at row (take bindings.now.count bindings.now.values) draws result }
 {
-    if is_own(words, at, given) {
-        let own = own_set(words, at, given, defs, policy);
-        return told(has_row(words, row, values, count, own), draws);
+    if is_own(lent, at) {
+        let own = own_set(lent, at);
+        return Ok((has_row(lent, row, bindings, own), draws));
     }
-    let minute = given.minute;
-    name_has(
-        words, at, values, count, draws, area, minute, store, links, row,
-    )
+    certified_has(lent, at, row, bindings, draws, area)
 }
 
 // Whether the one-atom row of code 8's issuer belongs to the definition that the code names.
-fn issuer_among(
-    words: &[u32],
-    at: usize,
-    values: &[u32; 16],
-    count: usize,
-    given: Given,
-    defs: &[u32],
-) -> bool
-    requires { Bound values.now count × (at + 6 ≤ length words.now) × (get_or words.now (at + 5) 0 < given.known) × ((i : ℕ) → i < given.known → Filled (drop (set_room * i) defs.now)) }
-    ensures { SayAmong given.known defs.now words.now at (take count values.now) result }
+fn issuer_among(lent: &Lent<'_>, at: usize, bindings: &Bindings) -> bool
+    requires { Bound bindings.now.values bindings.now.count × (at + 6 ≤ length lent.now.words.now) × (get_or lent.now.words.now (at + 5) 0 < lent.now.known) × FilledSets lent.now.known lent.now.definitions.now }
+    ensures { SayAmong lent.now.known lent.now.definitions.now lent.now.words.now at (take bindings.now.count bindings.now.values) result }
 {
-    let issuer = term_at(words, at + 1);
-    let key = value_of(values, count, issuer);
-    let set = definition_set(defs, wide(words[at + 5]), given);
+    let key = bindings.value_of(term_at(lent.words, at + 1));
+    let set = definition_set(lent, wide(lent.words[at + 5]));
     let row = Row {
         width: 1,
         atoms: [key, 0, 0, 0],
@@ -153,173 +182,91 @@ fn issuer_among(
 
 // Code 8: the name, if its issuer is absent from the definition, and no rows otherwise; the name is not read then.
 fn read_vetted(
-    words: &[u32],
+    lent: &Lent<'_>,
     at: usize,
-    values: &[u32; 16],
-    count: usize,
+    bindings: &Bindings,
     draws: u32,
     area: &mut [u32],
-    given: Given,
-    store: &[u32],
-    defs: &[u32],
-    links: &[u32],
-    policy: &[u32],
-) -> Read
-    requires { AskLeaf (from given store.now defs.now links.now policy.now) words.now at values.now count × (set_room ≤ length area.old) × (get_or words.now at 0 ≡ 8) }
-    ensures { SayLeaf (from given store.now defs.now links.now policy.now) words.now at (take count values.now) draws result area.new }
+) -> Result<u32, Refusal>
+    requires { AskLeaf (from lent.now) lent.now.words.now at bindings.now.values bindings.now.count × (set_room ≤ length area.old) × (get_or lent.now.words.now at 0 ≡ 8) }
+    ensures { SayLeaf (from lent.now) lent.now.words.now at (take bindings.now.count bindings.now.values) draws result area.new }
 {
-    if issuer_among(words, at, values, count, given, defs) {
+    if issuer_among(lent, at, bindings) {
         clear(area, 0);
-        Read::Done(draws)
+        Ok(draws)
     } else {
-        read_listed(
-            words,
-            at + 1,
-            values,
-            count,
-            draws,
-            area,
-            given,
-            store,
-            defs,
-            links,
-            policy,
-        )
+        read_listed(lent, at + 1, bindings, draws, area)
     }
 }
 
 // Whether the row written at `row` belongs to code 8.
 fn vetted_has(
-    words: &[u32],
+    lent: &Lent<'_>,
     at: usize,
-    values: &[u32; 16],
-    count: usize,
+    row: usize,
+    bindings: &Bindings,
     draws: u32,
     area: &mut [u32],
-    given: Given,
-    store: &[u32],
-    defs: &[u32],
-    links: &[u32],
-    policy: &[u32],
-    row: usize,
-) -> Tested
-    requires { AskLeaf (from given store.now defs.now links.now policy.now) words.now at values.now count × (set_room ≤ length area.old) × SomeRow words.now row × (get_or words.now at 0 ≡ 8) }
-    ensures { SayLeafHas (from given store.now defs.now links.now policy.now) words.now at row (take count values.now) draws result }
+) -> Result<(bool, u32), Refusal>
+    requires { AskLeaf (from lent.now) lent.now.words.now at bindings.now.values bindings.now.count × (set_room ≤ length area.old) × SomeRow lent.now.words.now row × (get_or lent.now.words.now at 0 ≡ 8) }
+    ensures { SayLeafHas (from lent.now) lent.now.words.now at row (take bindings.now.count bindings.now.values) draws result }
 {
-    if issuer_among(words, at, values, count, given, defs) {
-        return told(false, draws);
+    if issuer_among(lent, at, bindings) {
+        return Ok((false, draws));
     }
-    listed_has(
-        words,
-        at + 1,
-        values,
-        count,
-        draws,
-        area,
-        given,
-        store,
-        defs,
-        links,
-        policy,
-        row,
-    )
+    listed_has(lent, at + 1, row, bindings, draws, area)
 }
 
 // A leaf, by its code.
 pub fn read_leaf(
-    words: &[u32],
+    lent: &Lent<'_>,
     at: usize,
-    values: &[u32; 16],
-    count: usize,
+    bindings: &Bindings,
     draws: u32,
     area: &mut [u32],
-    given: Given,
-    store: &[u32],
-    defs: &[u32],
-    links: &[u32],
-    policy: &[u32],
-) -> Read
-    requires { AskLeaf (from given store.now defs.now links.now policy.now) words.now at values.now count × (set_room ≤ length area.old) }
-    ensures { SayLeaf (from given store.now defs.now links.now policy.now) words.now at (take count values.now) draws result area.new }
+) -> Result<u32, Refusal>
+    requires { AskLeaf (from lent.now) lent.now.words.now at bindings.now.values bindings.now.count × (set_room ≤ length area.old) }
+    ensures { SayLeaf (from lent.now) lent.now.words.now at (take bindings.now.count bindings.now.values) draws result area.new }
 {
-    let code = words[at];
+    let code = lent.words[at];
     if code == CODE_NAME {
-        return read_listed(
-            words,
-            at + 1,
-            values,
-            count,
-            draws,
-            area,
-            given,
-            store,
-            defs,
-            links,
-            policy,
-        );
+        return read_listed(lent, at + 1, bindings, draws, area);
     }
     if code == CODE_DEFINITION {
-        copy(definition_set(defs, wide(words[at + 1]), given), area);
-        return Read::Done(draws);
+        copy(definition_set(lent, wide(lent.words[at + 1])), area);
+        return Ok(draws);
     }
     if code == CODE_VETTED {
-        return read_vetted(
-            words, at, values, count, draws, area, given, store, defs, links, policy,
-        );
+        return read_vetted(lent, at, bindings, draws, area);
     }
     // a literal's code is one more than the form of its set
-    read_rows(words, at + 1, values, count, area, code - 1);
-    Read::Done(draws)
+    read_rows(lent, at + 1, bindings, area, code - 1);
+    Ok(draws)
 }
 
 // Whether the row written at `row` belongs to the leaf. A definition's rows are not copied for it, and a name's hardly ever.
 pub fn leaf_has(
-    words: &[u32],
+    lent: &Lent<'_>,
     at: usize,
-    values: &[u32; 16],
-    count: usize,
+    row: usize,
+    bindings: &Bindings,
     draws: u32,
     area: &mut [u32],
-    given: Given,
-    store: &[u32],
-    defs: &[u32],
-    links: &[u32],
-    policy: &[u32],
-    row: usize,
-) -> Tested
-    requires { AskLeaf (from given store.now defs.now links.now policy.now) words.now at values.now count × (set_room ≤ length area.old) × SomeRow words.now row }
-    ensures { SayLeafHas (from given store.now defs.now links.now policy.now) words.now at row (take count values.now) draws result }
+) -> Result<(bool, u32), Refusal>
+    requires { AskLeaf (from lent.now) lent.now.words.now at bindings.now.values bindings.now.count × (set_room ≤ length area.old) × SomeRow lent.now.words.now row }
+    ensures { SayLeafHas (from lent.now) lent.now.words.now at row (take bindings.now.count bindings.now.values) draws result }
 {
-    let code = words[at];
+    let code = lent.words[at];
     if code == CODE_NAME {
-        return listed_has(
-            words,
-            at + 1,
-            values,
-            count,
-            draws,
-            area,
-            given,
-            store,
-            defs,
-            links,
-            policy,
-            row,
-        );
+        return listed_has(lent, at + 1, row, bindings, draws, area);
     }
     if code == CODE_DEFINITION {
-        let set = definition_set(defs, wide(words[at + 1]), given);
-        return told(has_row(words, row, values, count, set), draws);
+        let set = definition_set(lent, wide(lent.words[at + 1]));
+        return Ok((has_row(lent, row, bindings, set), draws));
     }
     if code == CODE_VETTED {
-        return vetted_has(
-            words, at, values, count, draws, area, given, store, defs, links, policy, row,
-        );
+        return vetted_has(lent, at, row, bindings, draws, area);
     }
-    match read_leaf(
-        words, at, values, count, draws, area, given, store, defs, links, policy,
-    ) {
-        Read::Refused(n) => Tested::Refused(n),
-        Read::Done(used) => told(has_row(words, row, values, count, area), used),
-    }
+    let used = read_leaf(lent, at, bindings, draws, area)?;
+    Ok((has_row(lent, row, bindings, area), used))
 }

@@ -15,10 +15,12 @@ use Rattle.sets.proofs.Laid.{drop_take}
 use Rattle.sets.proofs.Standing.{sound_fit, stands_front}
 use Rattle.set_algebra.proofs.Standing.{combined_fit, combined_stands}
 use Rattle.meaning.specs.Reading.{done, small}
-use Rattle.read_values.specs.Answers.{Filled, set_read_is, IfDone}
+use Rattle.read_values.specs.Answers.{Filled}
+use Rattle.read_values.specs.Outcomes.{outcome, IfOk}
 use Rattle.read_steps.specs.Steps.{SayCombined}
 use Rattle.read_values.proofs.Answers.{stands_filled, small_few, small_many}
-use Rattle.read_values.specs.declared.Read.TheVariants.{Done, Refused}
+use Rattle.std.specs.Prelude.{Ok, Err}
+use Rattle.refusals.specs.declared.Refusal.TheVariants.{TooManyRows}
 
 module _ {area : List ℕ} (left : Filled area) (right : Filled (drop 642 area)) where
   pub two_rooms : 1284 ≤ length area
@@ -50,8 +52,8 @@ module _ {area : List ℕ} (left : Filled area) (right : Filled (drop 642 area))
 
   -- what was lent is back, and behind it the rest of the area
   module _ (minus : Bool) {k : ℕ} {after : List ℕ} {fits : Bool} (c : Combined (combined minus (set_in (take 1284 area)) (set_in (drop 642 (take 1284 area)))) (take 1284 area) after fits) where
-    pub value_fits : (behind : List ℕ) → fits ≡ true → SayCombined minus k area (Done k) (after ++ behind)
-    unfolding IfDone set_read_is
+    pub value_fits : (behind : List ℕ) → fits ≡ true → SayCombined minus k area (Ok k) (after ++ behind)
+    unfolding IfOk outcome
     value_fits behind e =
         let fit = combined_fit minus _ _ (sound_fit alone two_sets.left) (sound_fit (drop 642 alone) two_sets.right) in
         let there = combined_stands c e fit left_same.second in
@@ -63,6 +65,6 @@ module _ {area : List ℕ} (left : Filled area) (right : Filled (drop 642 area))
           means = ap (λ (v : RowSet). small v k) (sym (value_is minus)) ∙ small_few _ k (leb-true _ 128 (sym c.answer ∙ e)) ∙ ap (λ (v : RowSet). done v k) (sym s.set);
         }
 
-    pub value_too_large : {now : List ℕ} → fits ≡ false → SayCombined minus k area (Refused 13) now
-    unfolding IfDone set_read_is
+    pub value_too_large : {now : List ℕ} → fits ≡ false → SayCombined minus k area (Err TooManyRows) now
+    unfolding IfOk outcome
     value_too_large e = record { filled = tt; means = ap (λ (v : RowSet). small v k) (sym (value_is minus)) ∙ small_many _ k (leb-false _ 128 (sym c.answer ∙ e)) }

@@ -23,12 +23,14 @@ use Rattle.sets.proofs.Standing.{stands_rows, stands_form, formed_few, fit_size,
 use Rattle.meaning.specs.Values.{Values}
 use Rattle.meaning.specs.Reading.{done, refused, within}
 use Rattle.read_values.specs.Rows.{SayRow}
-use Rattle.read_values.specs.Answers.{Filled, IfDone}
+use Rattle.read_values.specs.Answers.{Filled}
+use Rattle.read_values.specs.Outcomes.{outcome, IfOk}
 use Rattle.read_steps.specs.Areas.{Gathering, Kept}
-use Rattle.read_steps.specs.Steps.{rows_read_is, SayHead, SayHas}
+use Rattle.read_steps.specs.Steps.{SayHead, SayHas}
 use Rattle.read_values.proofs.Answers.{stands_filled}
 use Rattle.read_steps.proofs.Areas.{kept_self, written_kept}
-use Rattle.read_values.specs.declared.Read.TheVariants.{Done, Refused}
+use Rattle.std.specs.Prelude.{Ok, Err}
+use Rattle.refusals.specs.declared.Refusal.TheVariants.{TooManyRows}
 
 pub row_is_wide : {ws : List ℕ} {at : ℕ} {vs : Values} {r : HeldRow.Row} → length r.atoms ≡ 4 → SayRow ws at vs r → Width (held.row_is r)
 row_is_wide {r} four s = let l = held_length r four s.few in let a = s.some in let b = s.few in record { some = omega arith; few = omega arith }
@@ -88,8 +90,8 @@ unfolding within
 within_many xs k h = rw (lt-leb (length xs) 128 h, within)
 
 module _ {ws : List ℕ} {at : ℕ} {vs : Values} {k : ℕ} {entry : List ℕ} (g : Gathering entry) {r : HeldRow.Row} (s : SayRow ws at vs r) {after : List ℕ} where
-  pub head_listed : Listed entry (held.row_is r) after → SayHead ws at vs k entry (Done k) after
-  unfolding IfDone rows_read_is
+  pub head_listed : Listed entry (held.row_is r) after → SayHead ws at vs k entry (Ok k) after
+  unfolding IfOk outcome
   head_listed l = record {
     gathering = record { filled = l.filled; finite = l.form ∙ g.finite };
     means = λ n ts h.
@@ -98,8 +100,8 @@ module _ {ws : List ℕ} {at : ℕ} {vs : Values} {k : ℕ} {entry : List ℕ} (
     kept = l.kept;
   }
 
-  pub head_no_room : NoRoom entry (held.row_is r) after → SayHead ws at vs k entry (Refused 13) after
-  unfolding IfDone rows_read_is
+  pub head_no_room : NoRoom entry (held.row_is r) after → SayHead ws at vs k entry (Err TooManyRows) after
+  unfolding IfOk outcome
   head_no_room n = record {
     gathering = tt;
     means = λ m ts h.

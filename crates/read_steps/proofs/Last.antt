@@ -19,12 +19,13 @@ use Rattle.meaning.specs.Values.{Values, row_of}
 use Rattle.meaning.specs.Reading.{within}
 use Rattle.policy_places.specs.Places.{StandsRow}
 use Rattle.read_values.specs.Rows.{SayAtom}
-use Rattle.read_values.specs.Answers.{Filled, IfDone}
-use Rattle.read_values.specs.declared.Read.TheVariants.{Done}
+use Rattle.read_values.specs.Answers.{Filled}
+use Rattle.read_values.specs.Outcomes.{outcome, IfOk}
+use Rattle.std.specs.Prelude.{Ok}
 use Rattle.policy_places.proofs.Places.{row_wide}
 use Rattle.read_values.proofs.Rows.{row_of_length}
 use Rattle.read_steps.specs.Areas.{Gathering}
-use Rattle.read_steps.specs.Steps.{rows_read_is, IsLast, SayIs, SayLast, SayHead}
+use Rattle.read_steps.specs.Steps.{IsLast, SayIs, SayLast, SayHead}
 use Rattle.read_steps.proofs.Areas.{kept_self}
 use Rattle.read_steps.proofs.Inserting.{within_few}
 
@@ -84,8 +85,8 @@ last_in : {x : Row} (xs : List Row) → IsLast x xs → x ∈ xs
 last_in xs l = let some = l.0 in subst (λ (y : Row). y ∈ xs) (sym l.1) (get_or-∈ xs (length xs - 1) [] (omega arith))
 
 -- to gather it again changes nothing
-pub head_known : {ws : List ℕ} {at : ℕ} {vs : Values} {k : ℕ} {entry : List ℕ} {r : Bool} → Gathering entry → SayLast ws at vs entry r → r ≡ true → SayHead ws at vs k entry (Done k) entry
-unfolding IfDone rows_read_is
+pub head_known : {ws : List ℕ} {at : ℕ} {vs : Values} {k : ℕ} {entry : List ℕ} {r : Bool} → Gathering entry → SayLast ws at vs entry r → r ≡ true → SayHead ws at vs k entry (Ok k) entry
+unfolding IfOk outcome
 head_known {vs} {k} {entry} g s e =
     let sound = g.filled.sound in
     record {

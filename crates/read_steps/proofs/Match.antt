@@ -27,7 +27,7 @@ use Rattle.read_values.specs.Values.{Bound, Unchanged}
 use Rattle.policy_places.specs.Places.{At, StandsPattern, SomePattern, IsSlot}
 use Rattle.read_steps.specs.Steps.{matched_is, SayMatch}
 use Rattle.policy_places.proofs.Places.{at_word, at_next, at_skip, at_long, term_length, slots_length, slots_scope, pattern_wide}
-use Rattle.read_values.proofs.Lent.{unchanged_self, unchanged_then, unchanged_less, unchanged_bind, take_bind, bound_bind}
+use Rattle.read_values.proofs.Unchanged.{unchanged_self, unchanged_then, unchanged_less, unchanged_bind, take_bind, bound_bind}
 
 -- ---- slots: `left` of them stand there, n variables being in scope
 
@@ -182,7 +182,7 @@ fitting {format} {ws} {at} area row room few e =
 
 -- rows that it does not fit do not match
 pub misfitting : {format : ℕ} {ws : List ℕ} {at : ℕ} {values : List ℕ} {count : ℕ} (area : List ℕ) (row : ℕ) → row + 5 ≤ length area → get_or area row 0 ≤ 4 →
-    fits format (get_or ws at 0) (get_or area row 0) ≡ false → SayMatch format ws at values count (row_in (five_at area row)) (record { ok = false; count = count }) values
+    fits format (get_or ws at 0) (get_or area row 0) ≡ false → SayMatch format ws at values count (row_in (five_at area row)) false values count
 unfolding matched_is
 misfitting {format} {values} {count} area row room few h = record {
   unchanged = unchanged_self;
@@ -190,6 +190,7 @@ misfitting {format} {values} {count} area row room few h = record {
       let w = (pattern_wide s).width in
       match_misfits format p (take count values) (row_in (five_at area row)) (rw (row_at_length area row room few, sym w) h);
   scope = λ p s e. let w : ◌≡◌ {A = ℕ} 0 1 = cc in absurd (omega arith);
+  back = λ e. refl;
 }
 
 module _ {ws : List ℕ} {at : ℕ} {values : List ℕ} {count : ℕ} {area : List ℕ} {row : ℕ} {values_now : List ℕ} {scope j : ℕ} (iv : Passed ws at values count area row values_now scope j) where
@@ -223,15 +224,16 @@ module _ {ws : List ℕ} {at : ℕ} {values : List ℕ} {count : ℕ} {area : Li
       decided {p} s = match_fits format p (take count values) (row_in (five_at area row)) (rw (sym (pattern_wide s).width) f.may)
 
       pub mismatched : {t : HeldTerm.Term} → j < get_or ws at 0 → IsSlot ws (at + 1 + 2 * j) (Old t) → (value (take scope values_now) (term_is t) ≡ get_or area (row + 1 + j) 0 → ⊥) →
-          SayMatch format ws at values count (row_in (five_at area row)) (record { ok = false; count = count }) values_now
+          SayMatch format ws at values count (row_in (five_at area row)) false values_now count
       unfolding matched_is
       mismatched less i e = record {
         unchanged = iv.unchanged;
         means = λ p s. decided s ∙ matching_fails iv.slots less f.long (f.atom j less) i e p (slots_inside b.scope s);
         scope = λ p s w. let z : ◌≡◌ {A = ℕ} 0 1 = cc in absurd (omega arith);
+        back = λ e. refl;
       }
 
-      pub matched : get_or ws at 0 ≤ j → SayMatch format ws at values count (row_in (five_at area row)) (record { ok = true; count = scope }) values_now
+      pub matched : get_or ws at 0 ≤ j → SayMatch format ws at values count (row_in (five_at area row)) true values_now scope
       unfolding match_first fresh matched_is
       matched h =
           let x : Row = row_in (five_at area row) in
@@ -240,4 +242,5 @@ module _ {ws : List ℕ} {at : ℕ} {values : List ℕ} {count : ℕ} {area : Li
             unchanged = iv.unchanged;
             means = λ p s. decided s ∙ iv.slots.means (some (take scope values_now)) (λ q l. ap (λ (u : List Slot). match_first u (take scope values_now) (drop j x)) (empty q l)) p (slots_inside b.scope s);
             scope = λ p s e. iv.slots.count scope (λ q l. let f = ap fresh (empty q l) in omega arith) p (slots_inside b.scope s);
+            back = λ e. let z : ◌≡◌ {A = ℕ} 0 1 = cc in absurd (omega arith);
           }

@@ -1,6 +1,6 @@
 -- A set at the front of an area, whether it is small enough to be an answer, and one draw more.
 use Prim.Native.Nat.{ℕ, ◌+◌, ◌≤◌, ◌<◌}
-use mathlib.Core.Path.{◌≡◌, sym, ◌∙◌, ap}
+use mathlib.Core.Path.{◌≡◌, sym, ◌∙◌}
 use mathlib.Core.List.{List, []}
 use lib.ListN.{length}
 use borrow.Author.Tests.{le-leb, lt-leb, lt-ltb, le-ltb}
@@ -9,9 +9,12 @@ use Rattle.rows.specs.Layout.{written, formed}
 use Rattle.rows.proofs.LayoutLaws.{formed_listing, formed_word}
 use Rattle.sets.proofs.Standing.{Stands, stands_rows, stands_form, cleared_stands}
 use Rattle.meaning.specs.Reading.{done, refused, small, tick}
-use Rattle.read_values.specs.Answers.{Filled, Empty, tick_is}
-use Rattle.read_values.specs.declared.Read.{Read}
-use Rattle.read_values.specs.declared.Read.TheVariants.{Done, Refused}
+use Rattle.read_values.specs.Answers.{Filled, Empty}
+use Rattle.read_values.specs.Outcomes.{outcome}
+use Rattle.std.specs.Prelude.{Ok, Err}
+use Rattle.refusals.specs.Numbers.{number}
+use Rattle.refusals.specs.declared.Refusal.{Refusal}
+use Rattle.refusals.specs.declared.Refusal.TheVariants.{TooManyDraws}
 
 pub stands_filled : {S : RowSet} {area : List ℕ} → Stands S area → Filled area
 stands_filled s = record { long = s.long; sound = s.sound }
@@ -34,20 +37,20 @@ small_many s k h = rw (lt-leb (length (listing s)) 128 h, small)
 
 -- one draw more, or one too many
 
-pub tick_counted : (k : ℕ) → k < 1000000 → tick_is (Done (k + 1)) ≡ tick k
-unfolding tick_is tick
+pub tick_counted : (k : ℕ) → k < 1000000 → outcome tt (Ok (k + 1)) ≡ tick k
+unfolding outcome tick
 tick_counted k h = rw (lt-ltb k 1000000 h, tick)
 
-pub tick_refused : (k : ℕ) → 1000000 ≤ k → tick_is (Refused 14) ≡ tick k
-unfolding tick_is tick
+pub tick_refused : (k : ℕ) → 1000000 ≤ k → outcome tt (Err TooManyDraws) ≡ tick k
+unfolding outcome tick
 tick_refused k h = rw (le-ltb k 1000000 h, tick)
 
 -- what a caller has from it
-module _ (k : ℕ) {r : Read} (says : tick_is r ≡ tick k) where
-  pub ticked_done : {j : ℕ} → r ≡ Done j → tick k ≡ done tt j
-  unfolding tick_is
-  ticked_done e = sym says ∙ ap tick_is e
 
-  pub ticked_refused : {n : ℕ} → r ≡ Refused n → tick k ≡ refused n
-  unfolding tick_is
-  ticked_refused e = sym says ∙ ap tick_is e
+pub ticked_done : (k j : ℕ) → outcome tt (Ok j) ≡ tick k → tick k ≡ done tt j
+unfolding outcome
+ticked_done k j says = sym says
+
+pub ticked_refused : (k : ℕ) (x : Refusal) → outcome tt (Err x) ≡ tick k → tick k ≡ refused (number x)
+unfolding outcome
+ticked_refused k x says = sym says

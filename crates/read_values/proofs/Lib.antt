@@ -1,4 +1,4 @@
 pub mod Held
 pub mod Rows
 pub mod Answers
-pub mod Lent
+pub mod Unchanged

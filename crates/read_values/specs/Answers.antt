@@ -22,11 +22,6 @@ unfoldable pub set_read_is : Read → List ℕ → Result RowSet
 set_read_is (Done k) area = done (set_in area) k
 set_read_is (Refused n) area = refused n
 
--- whether one draw more is made
-unfoldable pub tick_is : Read → Result (Unit {0})
-tick_is (Done k) = done tt k
-tick_is (Refused n) = refused n
-
 -- whether a row belongs
 unfoldable pub tested_is : Tested.Tested → Result Bool
 tested_is (Tested.TheVariants.Has k) = done true k

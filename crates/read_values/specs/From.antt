@@ -9,7 +9,7 @@ use Rattle.policy.specs.OwnKey.{Scope}
 use Rattle.policy_table.specs.Entries.{entry_place, declared_in}
 use Rattle.meaning.specs.Evidence.{Evidence, names_held}
 use Rattle.read_values.specs.Answers.{Filled}
-use Rattle.read_values.specs.declared.Given.{Given}
+use Rattle.read_values.specs.declared.Lent.{Lent}
 
 pub record From : Type 0 where
   pub minute : ℕ
@@ -21,15 +21,15 @@ pub record From : Type 0 where
   pub known : ℕ
 
 -- as the readers carry it
-abbrev pub from : Given → List ℕ → List ℕ → List ℕ → List ℕ → From
-from given store defs links policy = record {
-  minute = given.minute;
-  format = given.format;
-  our_key = given.our_key;
-  policy = policy;
-  stores = record { store = store; links = links };
-  defs = defs;
-  known = given.known;
+abbrev pub from : Lent → From
+from l = record {
+  minute = l.minute;
+  format = l.format;
+  our_key = l.our_key;
+  policy = l.policy.now;
+  stores = record { store = l.store.now; links = l.links.now };
+  defs = l.definitions.now;
+  known = l.known;
 }
 
 -- the same, so many definitions being read, their sets in this area
@@ -52,8 +52,12 @@ names f = names_held (held_in f.minute f.stores)
 abbrev pub sets : From → List RowSet
 sets f = sets_in f.known f.defs
 
+-- each of those sets lies there
+abbrev pub FilledSets : ℕ → List ℕ → Type 0
+FilledSets known defs = (d : ℕ) → d < known → Filled (drop (set_room * d) defs)
+
 pub record SoundFrom (f : From) : Type 0 where
   pub store : sound_store f.stores.store ≡ true
   pub links : sound_links f.stores.links ≡ true
   pub table : entry_place f.known ≤ length f.policy
-  pub defs : (d : ℕ) → d < f.known → Filled (drop (set_room * d) f.defs)
+  pub defs : FilledSets f.known f.defs

@@ -1,4 +1,5 @@
 pub mod Values
 pub mod Rows
 pub mod Answers
+pub mod Outcomes
 pub mod From

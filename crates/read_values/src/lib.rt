@@ -2,29 +2,43 @@
 // readers lend each other, variable 0 first.
 #![tactic(auto)]
 
-ghost use Rattle.std.specs.Prelude.{◌≡◌, take};
+ghost use Rattle.std.specs.Prelude.{◌≡◌, ◌+◌, ◌<◌, take, set};
 ghost use Rattle.policy.specs.Held.{term_is};
 ghost use Rattle.meaning.specs.Reading.{tick};
 ghost use Rattle.meaning.specs.Values.{value};
 ghost use Rattle.read_values.specs.Values.{Bound, passing};
 ghost use Rattle.policy_places.specs.Places.{SomeRow};
 ghost use Rattle.read_values.specs.Rows.{SayAtom, SayRow};
-ghost use Rattle.read_values.specs.Answers.{tick_is, tested_is};
+ghost use Rattle.read_values.specs.Answers.{tested_is};
+ghost use Rattle.read_values.specs.Outcomes.{outcome};
 ghost use Rattle.meaning.specs.Reading.{done};
 
 use policy::{Guard, Term};
 use policy_places::term_at;
-use refusals::TOO_MANY_DRAWS;
+use refusals::Refusal;
 use row_words::row::Row;
 use row_words::wide;
 
-// The numbers that stay the same through a reading: the minute that is asked about, the policy's format, our key, and how many definitions were read before.
+/// What stays the same through a reading: the words that are read, the stores and the minute at which they are looked into, the policy with its format and our
+/// key, and the sets of the definitions that were read before, `known` of them. It is passed by `&`: by value its slices are copied at each call.
 #[derive(Clone, Copy)]
-pub struct Given {
+pub struct Lent<'a> {
+    pub words: &'a [u32],
+    pub store: &'a [u32],
+    pub links: &'a [u32],
     pub minute: u32,
+    pub policy: &'a [u32],
     pub format: u32,
     pub our_key: u32,
+    pub definitions: &'a [u32],
     pub known: usize,
+}
+
+/// The values of the variables in scope, `count` of them, variable 0 first. Behind them a reader may write.
+#[derive(Clone, Copy)]
+pub struct Bindings {
+    pub values: [u32; 16],
+    pub count: usize,
 }
 
 // The draws made so far, or the number of a refusal.
@@ -44,14 +58,83 @@ pub enum Tested {
 
 const MOST_DRAWS: u32 = 1000000;
 
-// One draw more, unless as many were made as may be.
-pub fn tick(draws: u32) -> Read
-    ensures { tick_is result ≡ tick draws }
+/// One draw more, unless as many were made as may be.
+pub fn tick(draws: u32) -> Result<u32, Refusal>
+    ensures { outcome tt result ≡ tick draws }
 {
     if MOST_DRAWS <= draws {
-        return Read::Refused(TOO_MANY_DRAWS);
+        return Err(Refusal::TooManyDraws);
     }
-    Read::Done(draws + 1)
+    Ok(draws + 1)
+}
+
+impl Bindings {
+    // What a term comes to; a checked one names a variable in scope.
+    pub fn value_of(&self, term: Term) -> u32
+        requires { Bound self.now.values self.now.count }
+        ensures { result ≡ value (take self.now.count self.now.values) (term_is term) }
+    {
+        match term {
+            Term::Atom(a) => a,
+            Term::Variable(v) => {
+                let i = wide(v);
+                if i < self.count { self.values[i] } else { 0 }
+            }
+        }
+    }
+
+    // Whether a comparison passes: the two atoms are equal, or differ. A draw and an absent guard compare nothing; of them it says no.
+    pub fn passes(&self, guard: Guard) -> bool
+        requires { Bound self.now.values self.now.count }
+        ensures { result ≡ passing (take self.now.count self.now.values) guard }
+    {
+        match guard {
+            Guard::Same(x, y) => self.value_of(x) == self.value_of(y),
+            Guard::Different(x, y) => self.value_of(x) != self.value_of(y),
+            Guard::Draw | Guard::Absent => false,
+        }
+    }
+
+    // One variable more is in scope.
+    pub fn bind(&mut self, atom: u32)
+        requires { Bound self.old.values self.old.count × (self.old.count < 16) }
+        ensures values { self.new.values ≡ set self.old.values self.old.count atom }
+        ensures count { self.new.count ≡ self.old.count + 1 }
+    {
+        self.values[self.count] = atom;
+        self.count += 1;
+    }
+}
+
+impl Lent<'_> {
+    // What term `j` of a row of terms comes to; 0 behind the last.
+    pub fn atom_of(&self, at: usize, bindings: &Bindings, j: usize) -> u32
+        requires { Bound bindings.now.values bindings.now.count × SomeRow self.now.words.now at }
+        ensures { SayAtom self.now.words.now at (take bindings.now.count bindings.now.values) j result }
+    {
+        let width = self.words[at];
+        if wide(width) <= j {
+            return 0;
+        }
+        let term = term_at(self.words, at + 1 + 2 * j);
+        bindings.value_of(term)
+    }
+
+    // The row that the terms come to. Its atoms are not written one by one: a processor waits where words written apart are read back together.
+    pub fn row_of(&self, at: usize, bindings: &Bindings) -> Row
+        requires { Bound bindings.now.values bindings.now.count × SomeRow self.now.words.now at }
+        ensures { SayRow self.now.words.now at (take bindings.now.count bindings.now.values) result }
+    {
+        let width = self.words[at];
+        let a = self.atom_of(at, bindings, 0);
+        let b = self.atom_of(at, bindings, 1);
+        let c = self.atom_of(at, bindings, 2);
+        let d = self.atom_of(at, bindings, 3);
+        Row {
+            width,
+            atoms: [a, b, c, d],
+        }
+    }
 }
 
 pub fn told(has: bool, draws: u32) -> Tested
@@ -75,18 +158,6 @@ pub fn value_of(values: &[u32; 16], count: usize, term: Term) -> u32
             let i = wide(v);
             if i < count { values[i] } else { 0 }
         }
-    }
-}
-
-// Whether a comparison passes: the two atoms are equal, or differ. A draw and an absent guard compare nothing; of them it says no.
-pub fn passes(values: &[u32; 16], count: usize, guard: Guard) -> bool
-    requires { Bound values.now count }
-    ensures { result ≡ passing (take count values.now) guard }
-{
-    match guard {
-        Guard::Same(x, y) => value_of(values, count, x) == value_of(values, count, y),
-        Guard::Different(x, y) => value_of(values, count, x) != value_of(values, count, y),
-        Guard::Draw | Guard::Absent => false,
     }
 }
 
