@@ -16,7 +16,7 @@ use Rattle.row_words.specs.declared.row.Order.TheVariants.{Before, Same, After}
 use Rattle.rows.proofs.Case.{Case, is_true, is_false, split, never}
 use Rattle.rows.proofs.LayoutLaws.{row_length, sound_width}
 use Rattle.rows.proofs.Scan.{and_true_left, and_false_left, zeros_next, zeros_fails, zeros_end}
-use Rattle.rows.proofs.Order.{word_by_word, shorter_first, row_order}
+use Rattle.rows.proofs.Order.{word_by_word, shorter_first}
 
 -- ---- five words
 
@@ -263,43 +263,3 @@ module _ (r : Held.Row) (four : length r.atoms ≡ 4) (few : r.width ≤ 4) wher
       ap (λ (k : ℕ). get_or (row_words (row_is r)) k 0) e
       ∙ get_or-append-add (row_is r) (replicate (4 - length (row_is r)) 0) (j - 1 - length (row_is r)) 0
       ∙ get_or-replicate (4 - length (row_is r)) (j - 1 - length (row_is r)) 0 0 (omega arith)
-
--- a row in hand against the five words at a place, atom by atom
-pub record Against (r : Held.Row) (ws : List ℕ) (at : ℕ) : Type 0 where
-  pub room : at + 5 ≤ length ws
-  pub four : length r.atoms ≡ 4
-  pub few : r.width ≤ 4
-  pub narrow : get_or ws at 0 ≤ 4
-
-module _ {r : Held.Row} {ws : List ℕ} {at : ℕ} (a : Against r ws at) where
-  mine : length (row_is r) ≡ r.width
-  mine = held_length r a.four a.few
-
-  theirs : length (row_in (five_at ws at)) ≡ get_or ws at 0
-  theirs = row_at_length ws at a.room a.narrow
-
-  module _ (j : ℕ) (front : take j (row_is r) ≡ take j (row_in (five_at ws at))) where
-    pub compare_ends : r.width ≤ j → j < get_or ws at 0 → order_for row_before (row_is r) (row_in (five_at ws at)) ≡ Before
-    compare_ends h k = order_before row_order _ _ (row_ends _ _ j front (omega (arith, mine)) (omega (arith, theirs)))
-
-    pub compare_goes_on : j < r.width → get_or ws at 0 ≤ j → order_for row_before (row_is r) (row_in (five_at ws at)) ≡ After
-    compare_goes_on h k = order_after row_order _ _ (row_ends _ _ j (sym front) (omega (arith, theirs)) (omega (arith, mine)))
-
-    pub compare_same : r.width ≤ j → get_or ws at 0 ≤ j → order_for row_before (row_is r) (row_in (five_at ws at)) ≡ Same
-    compare_same h k = order_same row_order _ _ (sym (take_all j _ (omega (arith, mine))) ∙ front ∙ take_all j _ (omega (arith, theirs)))
-
-    module _ (h : j < r.width) (k : j < get_or ws at 0) where
-      here : get_or (row_is r) j 0 ≡ get_or r.atoms j 0
-      here = held_atom r j h
-
-      there : get_or (row_in (five_at ws at)) j 0 ≡ get_or ws (at + 1 + j) 0
-      there = row_at_atom ws at j a.narrow k
-
-      pub compare_less : get_or r.atoms j 0 < get_or ws (at + 1 + j) 0 → order_for row_before (row_is r) (row_in (five_at ws at)) ≡ Before
-      compare_less l = order_before row_order _ _ (row_differs _ _ j front (omega (arith, mine)) (omega (arith, theirs)) (omega (arith, here, there)))
-
-      pub compare_more : get_or ws (at + 1 + j) 0 < get_or r.atoms j 0 → order_for row_before (row_is r) (row_in (five_at ws at)) ≡ After
-      compare_more l = order_after row_order _ _ (row_differs _ _ j (sym front) (omega (arith, theirs)) (omega (arith, mine)) (omega (arith, here, there)))
-
-      pub compare_next : get_or r.atoms j 0 ≡ get_or ws (at + 1 + j) 0 → take (j + 1) (row_is r) ≡ take (j + 1) (row_in (five_at ws at))
-      compare_next e = front_next _ _ j front (omega (arith, mine)) (omega (arith, theirs)) (here ∙ e ∙ sym there)

@@ -39,10 +39,17 @@ impl Row {
         requires { (at + 5 ≤ length words.now) × (self.now.width ≤ 4) × (get_or words.now at 0 ≤ 4) }
         ensures { result ≡ ordering_for row_before (row_is self.now) (row_in (five_at words.now at)) }
     {
-        let mine = &self.atoms[..self.width as usize];
-        let first = at + 1;
-        let theirs = &words[first..first + words[at] as usize];
-        mine.cmp(theirs)
+        // A loop: on rows this short the slices' own `cmp` takes half as long again.
+        let mine = self.width as usize;
+        let theirs = words[at] as usize;
+        for j in 0..mine.min(theirs) {
+            let x = self.atoms[j];
+            let y = words[at + 1 + j];
+            if x != y {
+                return x.cmp(&y);
+            }
+        }
+        mine.cmp(&theirs)
     }
 
     /// Writes the row's five words at `at`, the unused atoms as 0.
