@@ -1,18 +1,19 @@
 -- Whether a record begins with words before others.
-use Prim.Native.Nat.{ℕ}
+use Prim.Native.Nat.{ℕ, ◌+◌, ◌-◌}
 use mathlib.Core.Path.{◌≡◌, sym, ◌∙◌, ap}
 use mathlib.Core.Bool.{Bool, true, false, not}
 use mathlib.Core.List.{List}
 use native.Mathlib.Omega.{arith}
 use lib.ListN.{length, take, drop}
-use lib.Seq.{take_all}
 use Rattle.rows.specs.Ordered.{words_before}
 use Rattle.rows.specs.Records.{begins_before}
 use Rattle.rows.proofs.Order.{words_order, not_both}
-use Rattle.row_words.specs.Values.{order_for}
-use Rattle.row_words.specs.declared.row.Order as Order
-use Rattle.row_words.specs.declared.row.Order.TheVariants.{Before, Same, After}
-use Rattle.row_words.proofs.RowLaws.{before_order, same_order, after_order}
+use Rattle.std.specs.declared.cmp.Ordering.{Ordering}
+use Rattle.std.specs.declared.cmp.Ordering.TheVariants.{Less, Equal, Greater}
+use Rattle.std.specs.Ordering.{nat_cmp}
+use Rattle.std.specs.Cmp.Lexicographic.{slice_cmp}
+use Rattle.row_words.specs.Values.{ordering_for}
+use Rattle.row_words.proofs.Orderings.{less_before, equal_same, greater_after, words_compared}
 
 module _ (area : List ℕ) (at : ℕ) (words : List ℕ) where
   abbrev front : List ℕ
@@ -34,15 +35,17 @@ module _ (area : List ℕ) (at : ℕ) (words : List ℕ) where
   begins_same true e = ap (λ (x : List ℕ). not (words_before words x)) e ∙ ap not (words_order.irreflexive words)
 
   -- as the code compares them
-  module _ (also : Bool) {o : Order.Order} (compared : o ≡ order_for words_before front (take (length words) words)) where
-    order_is : order_for words_before front words ≡ o
-    order_is = ap (order_for words_before front) (sym (take_all (length words) words (omega arith))) ∙ sym compared
+  module _ (also : Bool) {o : Ordering} (compared : o ≡ slice_cmp nat_cmp (take (at + length words - at) (drop at area)) words) where
+    order_is : ordering_for words_before front words ≡ o
+    order_is =
+        let s : length words ≡ at + length words - at = omega arith in
+        sym (words_compared front words) ∙ ap (λ (n : ℕ). slice_cmp nat_cmp (take n (drop at area)) words) s ∙ sym compared
 
-    pub words_before_lem : o ≡ Before → true ≡ begins_before also words (drop at area)
-    words_before_lem e = sym (begins_less also (before_order words_order front words (order_is ∙ e)))
+    pub front_less : o ≡ Less → true ≡ begins_before also words (drop at area)
+    front_less e = sym (begins_less also (less_before words_order front words (order_is ∙ e)))
 
-    pub words_same : o ≡ Same → also ≡ begins_before also words (drop at area)
-    words_same e = sym (begins_same also (same_order words_order front words (order_is ∙ e)))
+    pub front_equal : o ≡ Equal → also ≡ begins_before also words (drop at area)
+    front_equal e = sym (begins_same also (equal_same words_order front words (order_is ∙ e)))
 
-    pub words_after : o ≡ After → false ≡ begins_before also words (drop at area)
-    words_after e = sym (begins_more also (after_order words_order front words (order_is ∙ e)))
+    pub front_greater : o ≡ Greater → false ≡ begins_before also words (drop at area)
+    front_greater e = sym (begins_more also (greater_after words_order front words (order_is ∙ e)))

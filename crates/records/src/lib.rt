@@ -5,17 +5,15 @@ ghost use Rattle.std.specs.Prelude.{◌+◌, ◌*◌, ◌≤◌, ◌<◌, ◌≡
 ghost use Rattle.rows.specs.Ordered.{leading, PassFirst};
 ghost use Rattle.rows.specs.Records.{count_of, records_in, record_at, put_in, begins_before};
 
-use row_words::row::Order;
-use row_words::{compare_words, copy_up, write};
+use std::cmp::Ordering;
 
-// The words of record `i`.
+/// The words of record `i`.
 pub fn record_at<'a>(area: &'a [u32], width: usize, i: usize) -> &'a [u32]
     requires { 1 + width * (i + 1) ≤ length area.now }
     ensures { result.now ≡ record_at width area.now i }
 {
     let start = 1 + width * i;
-    let end = start + width;
-    &area[start..end]
+    &area[start..start + width]
 }
 
 // Do the words at `at` come before these, word by word? Where they are these, the answer is `also`.
@@ -23,14 +21,16 @@ fn begins_before(area: &[u32], at: usize, words: &[u32], also: bool) -> bool
     requires { at + length words.now ≤ length area.now }
     ensures { result ≡ begins_before also words.now (drop at area.now) }
 {
-    match compare_words(area, at, words, words.len()) {
-        Order::Before => true,
-        Order::Same => also,
-        Order::After => false,
+    let front = &area[at..at + words.len()];
+    match front.cmp(words) {
+        Ordering::Less => true,
+        Ordering::Equal => also,
+        Ordering::Greater => false,
     }
 }
 
-// How many records begin with words before these, with `also` those that begin with these too, by binary search.
+/// How many records begin with words before these, with `also` those that begin with these too, by binary search.
+// A loop: `partition_point` goes over arrays, and the width is a number at run time.
 pub fn count_before(area: &[u32], width: usize, words: &[u32], also: bool) -> usize
     requires in_bounds { (1 + width * count_of area.now ≤ length area.now) × (length words.now ≤ width) }
     requires pass_first { PassFirst (begins_before also words.now) (records_in width area.now) }
@@ -49,7 +49,7 @@ pub fn count_before(area: &[u32], width: usize, words: &[u32], also: bool) -> us
     low
 }
 
-// Puts a record in at a place, moves the later ones up and raises the count.
+/// Puts a record in at a place, moves the later ones up and raises the count.
 pub fn insert(area: &mut [u32], width: usize, place: usize, words: &[u32])
     requires whole_record { length words.now ≡ width }
     requires place_in_range { (place ≤ count_of area.old) × (count_of area.old < 4294967295) }
@@ -58,8 +58,8 @@ pub fn insert(area: &mut [u32], width: usize, place: usize, words: &[u32])
 {
     let count = area[0];
     let at = 1 + width * place;
-    let later = width * (count as usize - place);
-    copy_up(area, at, at + width, later);
-    write(area, at, words);
+    let end = 1 + width * count as usize;
+    area.copy_within(at..end, at + width);
+    area[at..at + width].copy_from_slice(words);
     area[0] = count + 1;
 }
