@@ -2,4 +2,4 @@ pub mod Places
 pub mod Leaves
 pub mod Held
 pub mod Past
-mod Codes
+pub mod Codes

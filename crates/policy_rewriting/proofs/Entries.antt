@@ -1,7 +1,8 @@
 -- The list of compromised keys, a definition by its number, and the words of a table's entry.
-use Prim.Native.Nat.{ℕ, zero, suc, ◌+◌, ◌-◌, ◌≤◌, ◌<◌}
+use Prim.Native.Nat.{ℕ, suc, ◌+◌, ◌-◌, ◌≤◌, ◌<◌}
+use Rattle.std.proofs.Common.{None}
 use mathlib.Core.Path.{◌≡◌, refl, sym, ◌∙◌, ap, subst}
-use mathlib.Core.Bool.{Bool, true, false, not}
+use mathlib.Core.Bool.{Bool, true, false}
 use mathlib.Core.List.{List, [], ◌∷◌, ◌++◌}
 use native.Mathlib.Omega.{arith}
 use lib.Dec.{eqb}
@@ -17,10 +18,8 @@ use Rattle.policy_places.proofs.Places.{whole_here}
 use Rattle.policy_table.specs.Entries.{entry_place, entries_from}
 use Rattle.policy_table.proofs.PartAnswers.{TableParts, table_parts}
 use Rattle.policy_rewriting.specs.Laid.{laid}
-use Rattle.policy_rewriting.specs.Walks.{sign_of, Answered, WalkedExpr, Roomy}
+use Rattle.policy_rewriting.specs.Walks.{Answered, WalkedExpr, Roomy, Vetted}
 use Rattle.policy_rewriting.specs.Output.{Passing, SayKeys, may_be, sign, AskDefinition, WalkedDefinition}
-use Rattle.policy_rewriting.specs.declared.vetting.Vetted.{Vetted}
-use Rattle.policy_rewriting.specs.declared.vetting.Vetted.TheVariants.{Broken}
 use Rattle.policy_rewriting.proofs.Walks.{then_laid}
 
 -- ---- the list of compromised keys
@@ -53,38 +52,20 @@ module _ (policy : List ℕ) where
 
 -- ---- a definition by its number
 
-pub plus_may : (keys minus : Bool) (i : ℕ) → minus ≡ false → true ≡ may_be keys i (sign_of minus)
-unfolding may_be sign_of
-plus_may keys m i e = rw e refl
-
-pub none_may : (keys minus : Bool) (i : ℕ) → minus ≡ true → keys ≡ false → false ≡ may_be keys i (sign_of minus)
-unfolding may_be sign_of
-none_may keys m i e f = rw (e, f) refl
-
-pub first_may : (keys minus : Bool) (i : ℕ) → minus ≡ true → keys ≡ true → eqb i 0 ≡ may_be keys i (sign_of minus)
-unfolding may_be sign_of
-first_may keys m zero e f = rw (e, f) refl
-first_may keys m (suc i) e f = rw (e, f) (ne_eqb (suc i) 0 (λ h. absurd (omega arith)))
-
-sign_word : (w : ℕ) → sign_of (not (eqb w 0)) ≡ polarity_of w
-unfolding sign_of polarity_of
-sign_word zero = refl
-sign_word (suc w) = rw (ne_eqb (suc w) 0 (λ h. absurd (omega arith))) refl
-
-module _ (policy : List ℕ) (i : ℕ) {at : ℕ} (place : at ≡ entry_place i) where
-  sign_at : sign_of (not (eqb (get_or policy (at + 1) 0) 0)) ≡ sign (entry_at policy (entry_place i))
+module _ (policy : List ℕ) (i : ℕ) {at : ℕ} (place : at ≡ entry_place i) {q : Polarity} (read : q ≡ polarity_of (get_or policy (at + 1) 0)) where
+  sign_at : q ≡ sign (entry_at policy (entry_place i))
   unfolding entry_at
-  sign_at = sign_word (get_or policy (at + 1) 0) ∙ ap (λ (a : ℕ). polarity_of (get_or policy (a + 1) 0)) place
+  sign_at = read ∙ ap (λ (a : ℕ). polarity_of (get_or policy (a + 1) 0)) place
 
-  pub definition_broken : {keys : Bool} {to : ℕ} {before after : List ℕ} → may_be keys i (sign_of (not (eqb (get_or policy (at + 1) 0) 0))) ≡ false → WalkedDefinition keys policy i to before Broken after
+  pub definition_broken : {keys : Bool} {to : ℕ} {before after : List ℕ} → may_be keys i q ≡ false → WalkedDefinition keys policy i to before None after
   unfolding Answered
   definition_broken {keys} h = record { walked = λ scope e p. record { answer = rw (sym (ap (may_be keys i) sign_at) ∙ h) refl } }
 
-  pub definition_walked : {keys : Bool} {to : ℕ} {ws before after : List ℕ} {r : Vetted} → may_be keys i (sign_of (not (eqb (get_or policy (at + 1) 0) 0))) ≡ true →
-      ws ≡ entry_words policy (entry_at policy (entry_place i)) → WalkedExpr keys (sign_of (not (eqb (get_or policy (at + 1) 0) 0))) ws 0 to before r after → WalkedDefinition keys policy i to before r after
+  pub definition_walked : {keys : Bool} {to : ℕ} {ws before after : List ℕ} {r : Vetted} → may_be keys i q ≡ true →
+      ws ≡ entry_words policy (entry_at policy (entry_place i)) → WalkedExpr keys q ws 0 to before r after → WalkedDefinition keys policy i to before r after
   definition_walked {keys} {to} {before = before} {after = after} {r = r} h f w =
       let is = entry_words policy (entry_at policy (entry_place i)) in
-      let here = subst (λ (p : Polarity). WalkedExpr keys p is 0 to before r after) sign_at (subst (λ (us : List ℕ). WalkedExpr keys (sign_of (not (eqb (get_or policy (at + 1) 0) 0))) us 0 to before r after) f w) in
+      let here = subst (λ (p : Polarity). WalkedExpr keys p is 0 to before r after) sign_at (subst (λ (us : List ℕ). WalkedExpr keys q us 0 to before r after) f w) in
       record { walked = λ scope e p. rw (sym (ap (may_be keys i) sign_at) ∙ h) (here.walked scope 0 e (whole_here scope is e p)) }
 
 -- what is asked of the walk over it
@@ -106,14 +87,15 @@ two_words ws at h =
     rw (a, b) refl
 
 pub entry_laid : (policy before : List ℕ) (i to size : ℕ) {at offset : ℕ} {a b after : List ℕ} → entry_place i + 4 ≤ length policy → at ≡ entry_place i →
-    (offset ≡ at + (at + 2 - at)) × (a ≡ laid at (take (at + 2 - at) (drop at policy)) before) → b ≡ laid offset (to ∷ []) a → after ≡ laid (offset + 1) (size ∷ []) b →
+    (offset ≡ at + length (take (at + 2 - at) (drop at policy))) × (a ≡ laid at (take (at + 2 - at) (drop at policy)) before) → b ≡ laid offset (to ∷ []) a → after ≡ laid (offset + 1) (size ∷ []) b →
     after ≡ laid (entry_place i) (entry_four (moved (entry_at policy (entry_place i)) to size)) before
 unfolding entry_four entry_at
 entry_laid policy before i to size {at} {offset} {a} {b} inside place l f g =
     let two : at + 2 - at ≡ 2 = omega arith in
     let here : List ℕ = get_or policy at 0 ∷ get_or policy (at + 1) 0 ∷ [] in
-    let first : a ≡ laid at here before = l.1 ∙ ap (λ (n : ℕ). laid at (take n (drop at policy)) before) two ∙ ap (λ (w : List ℕ). laid at w before) (two_words policy at (omega arith)) in
-    let ends : offset ≡ at + 2 = l.0 ∙ ap (λ (n : ℕ). at + n) two in
+    let same : take (at + 2 - at) (drop at policy) ≡ here = ap (λ (n : ℕ). take n (drop at policy)) two ∙ two_words policy at (omega arith) in
+    let first : a ≡ laid at here before = l.1 ∙ ap (λ (w : List ℕ). laid at w before) same in
+    let ends : offset ≡ at + 2 = l.0 ∙ ap (λ (w : List ℕ). at + length w) same in
     let ends₂ : offset + 1 ≡ at + 3 = omega arith in
     let second : b ≡ laid at (here ++ (to ∷ [])) before = then_laid at before here (to ∷ []) first (f ∙ ap (λ (n : ℕ). laid n (to ∷ []) a) ends) in
     then_laid at before (here ++ (to ∷ [])) (size ∷ []) second (g ∙ ap (λ (n : ℕ). laid n (size ∷ []) b) ends₂)

@@ -1,10 +1,10 @@
 -- Words laid one after the other, side by side, and over a whole area.
-use Prim.Native.Nat.{ℕ, zero, suc, ◌+◌, ◌-◌, ◌≤◌, ◌<◌}
+use Prim.Native.Nat.{ℕ, zero, suc, ◌+◌, ◌≤◌, ◌<◌}
 use mathlib.Core.Path.{◌≡◌, refl, sym, ◌∙◌, ap}
 use mathlib.Core.List.{List, [], ◌∷◌, ◌++◌}
 use native.Mathlib.Omega.{arith}
-use lib.ListN.{length, get_or, set, take, drop, length-drop}
-use lib.Seq.{take-suc, get_or-drop, length-take-le}
+use lib.ListN.{length, get_or, set, take, drop}
+use lib.Seq.{take-suc, length-take-le}
 use Rattle.policy_rewriting.specs.Laid.{laid}
 
 pub laid_none : (n : ℕ) (area : List ℕ) → laid n [] area ≡ area
@@ -73,45 +73,11 @@ laid_past zero w (a ∷ area) h = absurd (omega arith)
 laid_past (suc n) w [] h = refl
 laid_past (suc n) w (a ∷ area) h = ap (λ (l : List ℕ). a ∷ l) (laid_past n w area (omega arith))
 
--- the words from `start` up to `until`, so far
-pub record LayingWords (ws area₀ : List ℕ) (start to until : ℕ) (area : List ℕ) (next end : ℕ) : Type 0 where
-  pub onward : start ≤ next
-  pub within : next ≤ until
-  pub ends : end ≡ to + (next - start)
-  pub words : area ≡ laid to (take (next - start) (drop start ws)) area₀
-  pub size : length area ≡ length area₀
-
-pub none_laid : (ws area : List ℕ) {start to until : ℕ} → start ≤ until → LayingWords ws area start to until area start to
-none_laid ws area {start} {to} h =
-    let z : start - start ≡ 0 = omega arith in
-    record { onward = omega arith; within = h; ends = omega arith; words = rw z (sym (laid_none to area)); size = refl }
-
-pub one_laid : {ws area₀ area area' : List ℕ} {start to until next end : ℕ} → LayingWords ws area₀ start to until area next end → next < until → until ≤ length ws →
-    area' ≡ laid end (get_or ws next 0 ∷ []) area → LayingWords ws area₀ start to until area' (next + 1) (end + 1)
-one_laid {ws} {area₀} {area} {area'} {start} {to} {until} {next} {end} l h m e =
-    let o = l.onward in
-    let n = l.ends in
-    let k = next - start in
-    let there = take k (drop start ws) in
-    let long : k < length (drop start ws) = omega (arith, length-drop start ws) in
-    let here : start + k ≡ next = omega arith in
-    let more : take (suc k) (drop start ws) ≡ there ++ (get_or ws next 0 ∷ []) =
-    take-suc (drop start ws) k 0 long ∙ ap (λ (w : ℕ). there ++ (w ∷ [])) (get_or-drop start ws k 0 ∙ ap (λ (i : ℕ). get_or ws i 0) here) in
-    let last : end ≡ to + length there = omega (arith, length-take-le k (drop start ws) (omega arith)) in
-    let count : next + 1 - start ≡ suc k = omega arith in
-    record {
-      onward = omega arith;
-      within = omega arith;
-      ends = omega arith;
-      words =
-          e ∙ ap (λ (i : ℕ). laid i (get_or ws next 0 ∷ []) area) last ∙ ap (λ (a : List ℕ). laid (to + length there) (get_or ws next 0 ∷ []) a) l.words
-          ∙ laid_append to there (get_or ws next 0 ∷ []) area₀ ∙ ap (λ (u : List ℕ). laid to u area₀) (sym more ∙ ap (λ (c : ℕ). take c (drop start ws)) (sym count));
-      size = ap length e ∙ laid_length end (get_or ws next 0 ∷ []) area ∙ l.size;
-    }
-
-pub all_laid : {ws area₀ area : List ℕ} {start to until next end : ℕ} → LayingWords ws area₀ start to until area next end → until ≤ next →
-    (end ≡ to + (until - start)) × (area ≡ laid to (take (until - start) (drop start ws)) area₀)
-all_laid {ws} {area₀} {start = start} {to} {until} {next} l h =
-    let w = l.within in
-    let e : next ≡ until = omega arith in
-    (l.ends ∙ ap (λ (n : ℕ). to + (n - start)) e, l.words ∙ ap (λ (n : ℕ). laid to (take (n - start) (drop start ws)) area₀) e)
+-- one more of the words
+pub one_laid : (ws area₀ : List ℕ) (to i : ℕ) {area after : List ℕ} → i < length ws → area ≡ laid to (take i ws) area₀ → after ≡ laid (to + i) (get_or ws i 0 ∷ []) area →
+    after ≡ laid to (take (i + 1) ws) area₀
+one_laid ws area₀ to i {area} h l e =
+    let size : length (take i ws) ≡ i = length-take-le i ws (omega arith) in
+    let more : take (i + 1) ws ≡ take i ws ++ (get_or ws i 0 ∷ []) = (let n : i + 1 ≡ suc i = omega arith in ap (λ (k : ℕ). take k ws) n) ∙ take-suc ws i 0 h in
+    e ∙ (ap (λ (n : ℕ). laid (to + n) (get_or ws i 0 ∷ []) area) (sym size) ∙ (ap (λ (a : List ℕ). laid (to + length (take i ws)) (get_or ws i 0 ∷ []) a) l
+    ∙ (laid_append to (take i ws) (get_or ws i 0 ∷ []) area₀ ∙ ap (λ (u : List ℕ). laid to u area₀) (sym more))))

@@ -1,63 +1,49 @@
 -- The walk over a leaf.
 use Prim.Native.Nat.{ℕ, ◌+◌, ◌-◌, ◌≤◌}
+use Rattle.std.proofs.Common.{None}
 use mathlib.Core.Path.{◌≡◌, refl, sym, ◌∙◌, ap, subst}
-use mathlib.Core.Bool.{Bool, true, false, not}
+use mathlib.Core.Bool.{Bool, true, false}
 use mathlib.Core.List.{List, [], ◌∷◌, ◌++◌, append_assoc}
 use native.Mathlib.Omega.{arith}
 use lib.ListN.{length, get_or, take, drop, length-append}
 use Rattle.rows.specs.Name.{Polarity, plus, minus, polarity_word, same_polarity}
+use Rattle.rows.specs.Polarities.{polarity_is, polarity_number}
+use Rattle.rows.specs.declared.Polarity as Held
+use Rattle.rows.specs.declared.Polarity.TheVariants.{Plus, Minus}
 use Rattle.rows.proofs.Case.{never}
 use Rattle.policy.proofs.Basics.{impossible}
 use Rattle.policy.specs.OwnKey.{Scope, Origin}
 use Rattle.policy.specs.Leaf.{Leaf, finite, cofinite, definition, listed, vetted, leaf_code, leaf_rest, leaf_words}
 use Rattle.policy.specs.Syntax.{Term}
 use Rattle.policy.specs.Words.{term_words}
-use Rattle.policy.specs.Decode.{is_node}
+use Rattle.policy.specs.Codes.{guard_number}
+use Rattle.policy.specs.declared.codes.GuardCode.{GuardCode}
+use Rattle.policy.specs.declared.codes.GuardCode.TheVariants as guard
 use Rattle.policy.specs.External.{external_leaf, vet_leaf}
 use Rattle.policy_places.specs.Places.{At, name_words, StandsLeaf, SomeLeaf, PastLeaf}
 use Rattle.policy_places.proofs.Places.{at_skip, at_word, at_next, term_length}
 use Rattle.policy_places.proofs.Leaves.{on_listed, on_vetted, in_listed, name_length}
 use Rattle.policy_rewriting.specs.Laid.{laid}
-use Rattle.policy_rewriting.specs.Walks.{NodeRead, sign_of, vets, out_leaf, Laying, Answered, Walked, WalkedLeaf, Roomy}
-use Rattle.policy_rewriting.specs.declared.vetting.Node.{Node}
-use Rattle.policy_rewriting.specs.declared.vetting.Node.TheVariants as node
-use Rattle.policy_rewriting.specs.declared.vetting.Node.TheVariants.{Code}
-use Rattle.policy_rewriting.specs.declared.vetting.Vetted.TheVariants.{To, Broken}
+use Rattle.policy_rewriting.specs.Walks.{vets, out_leaf, Laying, Answered, Walked, WalkedLeaf, Roomy, To}
 use Rattle.policy_rewriting.proofs.Walks.{then_laid, copied, copy_room}
 
--- ---- a node's code
-
-pub node_code : {w none c : ℕ} {r : Node} → NodeRead w none r → r ≡ Code c → (c ≡ w) × (w ≡ none → ⊥)
-unfolding NodeRead
-node_code {w} {none} {c} {r} h e = rw e at h
-
-pub node_none : {w none : ℕ} {r : Node} → NodeRead w none r → r ≡ node.Broken → w ≡ none
-unfolding NodeRead
-node_none {w} {none} {r} h e = rw e at h
-
--- what is known of the code is known of the word
-pub code_node : {c w : ℕ} {b r : Bool} → c ≡ w → r ≡ is_node c → r ≡ b → is_node w ≡ b
-code_node e f g = ap is_node (sym e) ∙ sym f ∙ g
+-- ---- what is known of a code is known of its word
 
 pub code_laid : (to : ℕ) (before : List ℕ) {c w : ℕ} {after : List ℕ} → c ≡ w → after ≡ laid to (c ∷ []) before → after ≡ laid to (w ∷ []) before
 code_laid to before e h = h ∙ ap (λ (x : ℕ). laid to (x ∷ []) before) e
 
-pub sign_minus : (b : Bool) → b ≡ true → 1 ≡ polarity_word (sign_of b)
-unfolding polarity_word sign_of
-sign_minus b e = rw e refl
+pub no_draw : {w : ℕ} (c : GuardCode) → guard_number c ≡ w → (c ≡ guard.Draw → ⊥) → w ≡ 1 → ⊥
+no_draw guard.Draw e n h = n refl
+no_draw guard.Same e n h = absurd (omega arith)
+no_draw guard.Different e n h = absurd (omega arith)
+no_draw guard.Absent e n h = absurd (omega arith)
 
-pub sign_plus : (b : Bool) → b ≡ false → 0 ≡ polarity_word (sign_of b)
-unfolding polarity_word sign_of
-sign_plus b e = rw e refl
+-- ---- the polarity's word
 
-pub vets_keys : (keys m : Bool) → keys ≡ true → not m ≡ vets keys (sign_of m)
-unfolding vets sign_of
-vets_keys keys true e = rw e refl
-vets_keys keys false e = rw e refl
-
-pub vets_none : (keys m : Bool) → keys ≡ false → false ≡ vets keys (sign_of m)
-unfolding vets
-vets_none keys m e = rw e refl
+pub word_number : (p : Held.Polarity) → polarity_number p ≡ polarity_word (polarity_is p)
+unfolding polarity_word
+word_number Plus = refl
+word_number Minus = refl
 
 -- names alone are vetted
 kept_leaf : (keys : Bool) (p : Polarity) (x : Leaf) → (leaf_code x ≡ 4 → ⊥) → out_leaf keys p x ≡ x
@@ -162,19 +148,19 @@ module _ {keys : Bool} {p : Polarity} {ws : List ℕ} {at to : ℕ} {before : Li
         };
   }
 
-  pub vetted_broken : {after : List ℕ} → get_or ws at 0 ≡ 8 → WalkedLeaf keys p ws at to before Broken after
+  pub vetted_broken : {after : List ℕ} → get_or ws at 0 ≡ 8 → WalkedLeaf keys p ws at to before None after
   unfolding Answered external_leaf
   vetted_broken {after} c = record {
     walked = λ scope n x s.
-        on_vetted (λ y. Walked (external_leaf p y) at (length (leaf_words y)) to (leaf_words (out_leaf keys p y)) before Broken after) s c (λ t k o d. record { answer = refl });
+        on_vetted (λ y. Walked (external_leaf p y) at (length (leaf_words y)) to (leaf_words (out_leaf keys p y)) before None after) s c (λ t k o d. record { answer = refl });
   }
 
   module _ (c : get_or ws at 0 ≡ 4) where
-    pub name_broken : {after : List ℕ} → (get_or ws (at + 4) 0 ≡ polarity_word p → ⊥) → WalkedLeaf keys p ws at to before Broken after
+    pub name_broken : {after : List ℕ} → (get_or ws (at + 4) 0 ≡ polarity_word p → ⊥) → WalkedLeaf keys p ws at to before None after
     unfolding Answered external_leaf
     name_broken {after} h = record {
       walked = λ scope n x s.
-          on_listed (λ y. StandsLeaf scope n ws at y → Walked (external_leaf p y) at (length (leaf_words y)) to (leaf_words (out_leaf keys p y)) before Broken after) s c
+          on_listed (λ y. StandsLeaf scope n ws at y → Walked (external_leaf p y) at (length (leaf_words y)) to (leaf_words (out_leaf keys p y)) before None after) s c
           (λ t k q o g. record { answer = other_word p q (λ e. h (polarity_at ws at t k q (in_listed g).words ∙ e)) }) s;
     }
 

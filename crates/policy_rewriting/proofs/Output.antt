@@ -1,5 +1,6 @@
 -- The output of a whole policy: definition by definition it is laid, and what is laid in the end is the output.
 use Prim.Native.Nat.{ℕ, zero, suc, ◌+◌, ◌-◌, ◌*◌, ◌≤◌, ◌<◌}
+use Rattle.std.proofs.Common.{Some, None}
 use mathlib.Core.Path.{◌≡◌, refl, sym, ◌∙◌, ap, subst}
 use mathlib.Core.Bool.{Bool, true, false, ◌&&◌}
 use mathlib.Core.List.{List, [], ◌∷◌, ◌++◌, append_assoc}
@@ -27,11 +28,8 @@ use Rattle.policy.proofs.Vetting.{each_same}
 use Rattle.policy.proofs.Decoding.{parse_words}
 use Rattle.policy_table.specs.Entries.{entry_place}
 use Rattle.policy_rewriting.specs.Laid.{laid}
-use Rattle.policy_rewriting.specs.Walks.{vets, out_leaf, out, Answered, Walked, Roomy}
+use Rattle.policy_rewriting.specs.Walks.{vets, out_leaf, out, Answered, Walked, Roomy, Vetted, To}
 use Rattle.policy_rewriting.specs.Output.{Passing, SayKeys, may_be, sign, AskDefinition, WalkedDefinition, header_of, MeasuredAs}
-use Rattle.policy_rewriting.specs.declared.vetting.Vetted.{Vetted}
-use Rattle.policy_rewriting.specs.declared.vetting.Vetted.TheVariants as vetted
-use Rattle.policy_rewriting.specs.declared.Measured.TheVariants.{Words}
 use Rattle.policy_rewriting.proofs.Laid.{laid_none, laid_append, laid_apart}
 use Rattle.policy_rewriting.proofs.Entries.{word_first}
 use Rattle.policy_rewriting.proofs.Walks.{answer_told}
@@ -374,11 +372,11 @@ module _ {policy before : List ℕ} {g : Passing policy} {keys : Bool} {i to : �
           subst (λ (x : Entry). Walked (may_be keys i (sign x) && external_expr (sign x) next.e) 0 (length (expr_words next.e 0)) to (expr_words (out keys (sign x) next.e) 0) area r mid)
           (sym next.is) (w.walked (scope_of g.ours o.known) next.e parses)
 
-      pub next_broken : r ≡ vetted.Broken → is_external g.entries g.exprs ≡ false
+      pub next_broken : r ≡ None → is_external g.entries g.exprs ≡ false
       unfolding Answered
       next_broken e = rules_split ∙ ap (λ (b : Bool). b && rules_from keys (suc i) next.xs next.es) (answer_told walked_next e).answer
 
-      pub next_room : {past end : ℕ} → r ≡ vetted.To past end → (i ≤ 15) × (entry_place i + 4 ≤ length policy) × (to ≤ end) × (end ≤ 65536)
+      pub next_room : {past end : ℕ} → r ≡ To past end → (i ≤ 15) × (entry_place i + 4 ≤ length policy) × (to ≤ end) × (end ≤ 65536)
       unfolding Answered
       next_room e =
           let a = next_asked in
@@ -394,7 +392,7 @@ module _ {policy before : List ℕ} {g : Passing policy} {keys : Bool} {i to : �
           let most = sound.header.most in
           (omega arith, omega arith, omega arith, omega arith)
 
-      module _ {past end : ℕ} {after : List ℕ} (e : r ≡ vetted.To past end)
+      module _ {past end : ℕ} {after : List ℕ} (e : r ≡ To past end)
           (l : after ≡ laid (entry_place i) (entry_four (moved (entry_at policy (entry_place i)) to (end - to))) mid) where
         pub next_laid : OutputLeft g before keys (i + 1) end after
         unfolding Answered parts each placed outs
@@ -441,7 +439,7 @@ module _ {policy before : List ℕ} {g : Passing policy} {keys : Bool} {i to : �
 
   -- after the last
   pub all_laid : {after : List ℕ} → get_or policy 1 0 ≤ i → after ≡ laid 0 (header_of policy) area →
-      MeasuredAs (is_external g.entries g.exprs) (output policy g.entries g.exprs) before (Words to) after
+      MeasuredAs (is_external g.entries g.exprs) (output policy g.entries g.exprs) before (Some to) after
   unfolding MeasuredAs rules_from outs parts each placed
   all_laid {after} done l =
       let none : o.entries ≡ [] = no_elements o.entries (omega (arith, o.count)) in

@@ -1,5 +1,6 @@
 -- What is replied of a policy that passed 20 and 1 to 7, and the area after it.
 use Prim.Native.Nat.{ℕ, ◌≤◌, ◌<◌}
+use Rattle.std.proofs.Common.{Option, Some, None, Result}
 use mathlib.Core.Path.{◌≡◌, refl, sym, ◌∙◌, ap, subst}
 use mathlib.Core.Bool.{Bool, true, false, ◌&&◌}
 use mathlib.Core.List.{List, [], ◌∷◌, ◌++◌}
@@ -8,6 +9,7 @@ use lib.Dec.{leb}
 use lib.ListN.{length}
 use borrow.Author.Tests.{le-leb, lt-leb}
 use Rattle.refusals.specs.RefusalTable.{short_area, not_external, no_part}
+use Rattle.refusals.specs.declared.Refusal.{Refusal}
 use Rattle.rows.proofs.Case.{never}
 use Rattle.policy.specs.Definitions.{PolicyChecked, passed, check_policy}
 use Rattle.policy.specs.Definitions as Definitions
@@ -17,9 +19,7 @@ use Rattle.judging.specs.Reply.{JudgedAs}
 use Rattle.judging.specs.declared.PolicyJudgement.TheVariants as policy_judgement
 use Rattle.judging.specs.declared.PolicyJudged.{PolicyJudged}
 use Rattle.judging.proofs.JudgeAnswers.{policy_passes, policy_refuses}
-use Rattle.policy_rewriting.specs.Output.{Passing, MeasuredAs, SayWords, rewritten_for, RepliedAs, SayReply}
-use Rattle.policy_rewriting.specs.declared.Measured.{Measured}
-use Rattle.policy_rewriting.specs.declared.Measured.TheVariants.{Words, Broken}
+use Rattle.policy_rewriting.specs.Output.{Passing, MeasuredAs, SayWords, rewritten_for, RepliedAs, replied, SayReply}
 use Rattle.policy_rewriting.specs.declared.Rewritten.{Rewritten}
 use Rattle.policy_rewriting.specs.declared.Rewritten.TheVariants as reply
 use Rattle.policy_rewriting.proofs.Laid.{laid_whole}
@@ -53,7 +53,7 @@ module _ (policy area : List ℕ) (g : Passing policy) where
   ws : List ℕ
   ws = output policy g.entries g.exprs
 
-  measured : {before after : List ℕ} {r r' : Measured} → SayWords policy before r after → r ≡ r' → MeasuredAs (is_external g.entries g.exprs) ws before r' after
+  measured : {before after : List ℕ} {r r' : Option ℕ} → SayWords policy before r after → r ≡ r' → MeasuredAs (is_external g.entries g.exprs) ws before r' after
   unfolding ws
   measured w e = rw e at (w.says g)
 
@@ -63,11 +63,11 @@ module _ (policy area : List ℕ) (g : Passing policy) where
       checked g.ours policy g.passes
       ∙ ap (λ (b : Bool). elim b as (λ d. Rewriting) [ true ↦ rewritten (output policy g.entries g.exprs) | false ↦ refused not_external no_part ]) e
 
-  pub not_external_lem : {before after : List ℕ} {r : Measured} → SayWords policy before r after → r ≡ Broken → RepliedAs g.ours policy area (reply.Refused not_external no_part) area
+  pub not_external_lem : {before after : List ℕ} {r : Option ℕ} → SayWords policy before r after → r ≡ None → RepliedAs g.ours policy area (reply.Refused not_external no_part) area
   unfolding MeasuredAs rewritten_for area_after
   not_external_lem w e = by_outcome g.ours policy area (refused not_external no_part) (into g.ours policy area (tested {b = false} (ap (λ (b : Bool). b && leb (length ws) 8192) (measured w e)))) refl refl
 
-  module _ {before after : List ℕ} {r : Measured} {n : ℕ} (w : SayWords policy before r after) (e : r ≡ Words n) where
+  module _ {before after : List ℕ} {r : Option ℕ} {n : ℕ} (w : SayWords policy before r after) (e : r ≡ Some n) where
     size : n ≡ length ws
     unfolding MeasuredAs
     size = (measured w e).1
@@ -91,20 +91,20 @@ module _ (policy area : List ℕ) (g : Passing policy) where
       unfolding rewritten_for area_after
       too_short h = by_outcome g.ours policy area (refused short_area no_part) (room {b = false} (lt-leb n (length area) h)) refl refl
 
-      pub all_rewritten : {same last : List ℕ} {s : Measured} → same ≡ area → n ≤ length same → SayWords policy same s last → RepliedAs g.ours policy area (reply.Length n) last
+      pub all_rewritten : {same last : List ℕ} {s : Option ℕ} → same ≡ area → n ≤ length same → SayWords policy same s last → RepliedAs g.ours policy area (reply.Length n) last
       unfolding rewritten_for area_after MeasuredAs output ws
       all_rewritten {last = last} {s = s} q h v = go s (rw q at (v.says g))
         where
-          go : (s : Measured) → MeasuredAs (is_external g.entries g.exprs) (output policy g.entries g.exprs) area s last → RepliedAs g.ours policy area (reply.Length n) last
-          go (Words m) d = by_outcome g.ours policy area (rewritten ws) (room {b = true} (le-leb n (length area) (rw q at h))) (ap reply.Length size) (d.2 ∙ laid_whole ws area (subst (λ (k : ℕ). k ≤ length area) size (rw q at h)))
-          go Broken d = never (measured w e).0 d
+          go : (s : Option ℕ) → MeasuredAs (is_external g.entries g.exprs) (output policy g.entries g.exprs) area s last → RepliedAs g.ours policy area (reply.Length n) last
+          go (Some m) d = by_outcome g.ours policy area (rewritten ws) (room {b = true} (le-leb n (length area) (rw q at h))) (ap reply.Length size) (d.2 ∙ laid_whole ws area (subst (λ (k : ℕ). k ≤ length area) size (rw q at h)))
+          go None d = never (measured w e).0 d
 
 -- passed 20 and 1 to 7
 pub policy_passing : (ours : ℕ) {policy : List ℕ} (r : PolicyJudged) → JudgedAs ours (check_policy ours policy) r → r.judgement ≡ policy_judgement.Passed → Passing policy
 policy_passing ours {policy} r h e = let g = policy_passes ours policy r h e in record { ours = ours; entries = g.entries; exprs = g.exprs; known = (earlier_is r.earlier).known; passes = g.passes }
 
-pub passed_replied : (ours : ℕ) {policy area : List ℕ} (j : PolicyJudged) {r : Rewritten} {after : List ℕ} → JudgedAs ours (check_policy ours policy) j → j.judgement ≡ policy_judgement.Passed →
-    SayReply policy area r after → RepliedAs ours policy area r after
+pub passed_replied : (ours : ℕ) {policy area : List ℕ} (j : PolicyJudged) {r : Result ℕ Refusal} {after : List ℕ} → JudgedAs ours (check_policy ours policy) j → j.judgement ≡ policy_judgement.Passed →
+    SayReply policy area r after → RepliedAs ours policy area (replied r) after
 unfolding policy_passing
 passed_replied ours j h e s = s.says (policy_passing ours j h e)
 
@@ -120,7 +120,7 @@ pub none_lent : (ys area : List ℕ) → length ys ≡ 0 → ys ++ area ≡ area
 none_lent [] area e = refl
 none_lent (x ∷ ys) area e = absurd (omega arith)
 
-pub none_laid : {policy xs ys : List ℕ} {r : Measured} → length xs ≡ 0 → length ys ≡ 0 → SayWords policy xs r ys → SayWords policy [] r []
+pub none_laid : {policy xs ys : List ℕ} {r : Option ℕ} → length xs ≡ 0 → length ys ≡ 0 → SayWords policy xs r ys → SayWords policy [] r []
 none_laid {policy} {xs} {ys} {r} a b w = go xs ys a b w
   where
     go : (us vs : List ℕ) → length us ≡ 0 → length vs ≡ 0 → SayWords policy us r vs → SayWords policy [] r []

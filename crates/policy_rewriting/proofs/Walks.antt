@@ -1,5 +1,6 @@
 -- The walk over a definition, node by node: what was laid for the parts is what is due for the whole.
 use Prim.Native.Nat.{ℕ, ◌+◌, ◌-◌, ◌*◌, ◌≤◌, ◌<◌}
+use Rattle.std.proofs.Common.{Some, None}
 use mathlib.Core.Path.{◌≡◌, refl, sym, ◌∙◌, ap, subst}
 use mathlib.Core.Logic.{inl, inr}
 use mathlib.Core.Bool.{Bool, true, false, ◌&&◌}
@@ -18,9 +19,7 @@ use Rattle.policy_places.proofs.Places.{at_front, at_long, union_or_difference, 
 use Rattle.policy_places.proofs.Held.{is_draw_lem, is_absent_lem}
 use Rattle.policy_places.proofs.Past.{right_here, pattern_here, rest_here, on_test, some_first, some_second, some_operand, some_pattern, draw_rest, test_rest}
 use Rattle.policy_rewriting.specs.Laid.{laid}
-use Rattle.policy_rewriting.specs.Walks.{out_leaf, out, out_body, Laying, Answered, Walked, Roomy, WalkedLeaf, WalkedExpr, WalkedBody}
-use Rattle.policy_rewriting.specs.declared.vetting.Vetted.{Vetted}
-use Rattle.policy_rewriting.specs.declared.vetting.Vetted.TheVariants.{To, Broken}
+use Rattle.policy_rewriting.specs.Walks.{out_leaf, out, out_body, Laying, Answered, Walked, Roomy, Vetted, To, WalkedLeaf, WalkedExpr, WalkedBody}
 use Rattle.policy_rewriting.proofs.Laid.{laid_append}
 
 -- ---- words one after the other
@@ -52,8 +51,8 @@ unfolding Answered
 both_walked {a} {b} {at} {size₁} {size₂} {to} {next} {end} {ws} {us} {before} {mid} {after} {r} v w = go r w
   where
     go : (r : Vetted) → Walked b next size₂ end us mid r after → Walked (a && b) at (size₁ + size₂) to (ws ++ us) before r after
-    go (To n e) w = record { answer = (rw (v.answer.0, w.answer.0) refl, both_laying v.answer.1 w.answer.1) }
-    go Broken w = record { answer = rw (v.answer.0, w.answer) refl }
+    go (Some l) w = record { answer = (rw (v.answer.0, w.answer.0) refl, both_laying v.answer.1 w.answer.1) }
+    go None w = record { answer = rw (v.answer.0, w.answer) refl }
 
 -- words laid before a walk
 pub front_walked : {external : Bool} {at size to : ℕ} {ws before mid after : List ℕ} {r : Vetted} (k : ℕ) (u : List ℕ) → mid ≡ laid to u before → length u ≤ 2 * k →
@@ -153,18 +152,18 @@ module _ {keys : Bool} {p : Polarity} {ws : List ℕ} {at to : ℕ} {before : Li
         on_leaf (λ x. Stands scope n ws at x → Walked (external_expr p x) at (length (expr_words x n)) to (expr_words (out keys p x) n) before r after) s c (λ x h. g.walked scope n x (in_leaf h)) s;
   }
 
-  pub difference_broken : {after : List ℕ} → get_or ws at 0 ≡ 6 → WalkedExpr keys p ws at to before Broken after
+  pub difference_broken : {after : List ℕ} → get_or ws at 0 ≡ 6 → WalkedExpr keys p ws at to before None after
   unfolding Answered external_expr
   difference_broken {after} c = record {
-    walked = λ scope n e s. on_difference (λ x. Walked (external_expr p x) at (length (expr_words x n)) to (expr_words (out keys p x) n) before Broken after) s c (λ a b. record { answer = refl });
+    walked = λ scope n e s. on_difference (λ x. Walked (external_expr p x) at (length (expr_words x n)) to (expr_words (out keys p x) n) before None after) s c (λ a b. record { answer = refl });
   }
 
   module _ (c : get_or ws at 0 ≡ 5) {first mid : List ℕ} where
-    pub union_broken : {after : List ℕ} → WalkedExpr keys p ws (at + 1) (to + 1) first Broken mid → WalkedExpr keys p ws at to before Broken after
+    pub union_broken : {after : List ℕ} → WalkedExpr keys p ws (at + 1) (to + 1) first None mid → WalkedExpr keys p ws at to before None after
     unfolding Answered external_expr
     union_broken {after} g = record {
       walked = λ scope n e s.
-          on_union (λ x. Stands scope n ws at x → Walked (external_expr p x) at (length (expr_words x n)) to (expr_words (out keys p x) n) before Broken after) s c
+          on_union (λ x. Stands scope n ws at x → Walked (external_expr p x) at (length (expr_words x n)) to (expr_words (out keys p x) n) before None after) s c
           (λ a b h. record { answer = rw (g.walked scope n a (in_union h).left).answer refl }) s;
     }
 
@@ -243,19 +242,19 @@ module _ {keys : Bool} {p : Polarity} {ws : List ℕ} {at left to : ℕ} {before
   }
 
   module _ (z : left ≡ 0 → ⊥) where
-    pub absent_broken : {after : List ℕ} → get_or ws at 0 ≡ 4 → WalkedBody keys p ws at left to before Broken after
+    pub absent_broken : {after : List ℕ} → get_or ws at 0 ≡ 4 → WalkedBody keys p ws at left to before None after
     unfolding Answered external_expr
     absent_broken {after} c = record {
       walked = λ scope n b s.
-          on_absent (λ x. Walked (external_body p x) at (length (body_words x n)) to (body_words (out_body keys p x) n) before Broken after) s z (is_absent_lem c) (λ r e b. record { answer = refl });
+          on_absent (λ x. Walked (external_body p x) at (length (body_words x n)) to (body_words (out_body keys p x) n) before None after) s z (is_absent_lem c) (λ r e b. record { answer = refl });
     }
 
     module _ (c : get_or ws at 0 ≡ 1) {first mid : List ℕ} where
-      pub draw_broken : {after : List ℕ} → WalkedExpr keys p ws (at + 1) (to + 1) first Broken mid → WalkedBody keys p ws at left to before Broken after
+      pub draw_broken : {after : List ℕ} → WalkedExpr keys p ws (at + 1) (to + 1) first None mid → WalkedBody keys p ws at left to before None after
       unfolding Answered external_expr
       draw_broken {after} g = record {
         walked = λ scope n b s.
-            on_draw (λ x. StandsBody scope n ws at left x → Walked (external_body p x) at (length (body_words x n)) to (body_words (out_body keys p x) n) before Broken after) s z (is_draw_lem c)
+            on_draw (λ x. StandsBody scope n ws at left x → Walked (external_body p x) at (length (body_words x n)) to (body_words (out_body keys p x) n) before None after) s z (is_draw_lem c)
             (λ e q b h. record { answer = rw (g.walked scope n e (in_draw h).operand).answer refl }) s;
       }
 

@@ -1,5 +1,8 @@
 -- What the code answers of a whole policy: its output, measured and laid, and the reply of `rewrite`.
-use Rattle.std.specs.Prelude.{ℕ, zero, suc, ◌+◌, ◌≤◌, ◌≡◌, Bool, true, false, ◌&&◌, List, [], ◌∷◌, length, get_or}
+use Rattle.std.specs.Prelude.{ℕ, zero, suc, ◌+◌, ◌≤◌, ◌≡◌, Bool, true, false, ◌&&◌, Option, Some, None, Result, Ok, Err, List, [], ◌∷◌, length, get_or}
+use Rattle.refusals.specs.RefusalTable.{no_part}
+use Rattle.refusals.specs.Numbers.{number}
+use Rattle.refusals.specs.declared.Refusal.{Refusal}
 use Rattle.rows.specs.Name.{Polarity, plus, minus, polarity_of}
 use Rattle.policy.specs.OwnKey.{Scope}
 use Rattle.policy.specs.Syntax.{Expr}
@@ -12,10 +15,7 @@ use Rattle.policy.specs.Definitions.{passed, check_policy}
 use Rattle.policy.specs.External.{external_expr, keys_listed, is_external, output, Rewriting, rewritten, refused, rewrite_into, area_after}
 use Rattle.policy_table.specs.Entries.{entry_place}
 use Rattle.policy_rewriting.specs.Laid.{laid}
-use Rattle.policy_rewriting.specs.Walks.{out, Walked, Roomy}
-use Rattle.policy_rewriting.specs.declared.vetting.Vetted.{Vetted}
-use Rattle.policy_rewriting.specs.declared.Measured.{Measured}
-use Rattle.policy_rewriting.specs.declared.Measured.TheVariants.{Words, Broken}
+use Rattle.policy_rewriting.specs.Walks.{out, Vetted, Walked, Roomy}
 use Rattle.policy_rewriting.specs.declared.Rewritten.{Rewritten}
 use Rattle.policy_rewriting.specs.declared.Rewritten.TheVariants as reply
 
@@ -60,11 +60,11 @@ abbrev pub header_of : List ℕ → List ℕ
 header_of policy = format_of policy ∷ get_or policy 1 0 ∷ []
 
 -- the output's length, the output being laid from the first word on; or the policy is not external
-unfoldable pub MeasuredAs : Bool → List ℕ → List ℕ → Measured → List ℕ → Type 0
-MeasuredAs external ws before (Words n) after = (external ≡ true) × (n ≡ length ws) × (after ≡ laid 0 ws before)
-MeasuredAs external ws before Broken after = external ≡ false
+unfoldable pub MeasuredAs : Bool → List ℕ → List ℕ → Option ℕ → List ℕ → Type 0
+MeasuredAs external ws before (Some n) after = (external ≡ true) × (n ≡ length ws) × (after ≡ laid 0 ws before)
+MeasuredAs external ws before None after = external ≡ false
 
-pub record SayWords (policy before : List ℕ) (r : Measured) (after : List ℕ) : Type 0 where
+pub record SayWords (policy before : List ℕ) (r : Option ℕ) (after : List ℕ) : Type 0 where
   pub says : (g : Passing policy) → MeasuredAs (is_external g.entries g.exprs) (output policy g.entries g.exprs) before r after
 
 -- the reply has the output's length; its words stand in the area
@@ -76,5 +76,10 @@ rewritten_for (refused n part) = reply.Refused n part
 abbrev pub RepliedAs : ℕ → List ℕ → List ℕ → Rewritten → List ℕ → Type 0
 RepliedAs ours policy before r after = (r ≡ rewritten_for (rewrite_into ours policy before)) × (after ≡ area_after (rewrite_into ours policy before) before)
 
-pub record SayReply (policy before : List ℕ) (r : Rewritten) (after : List ℕ) : Type 0 where
-  pub says : (g : Passing policy) → RepliedAs g.ours policy before r after
+-- 15 and 11 are about neither a definition nor the query
+abbrev pub replied : Result ℕ Refusal → Rewritten
+replied (Ok n) = reply.Length n
+replied (Err r) = reply.Refused (number r) no_part
+
+pub record SayReply (policy before : List ℕ) (r : Result ℕ Refusal) (after : List ℕ) : Type 0 where
+  pub says : (g : Passing policy) → RepliedAs g.ours policy before (replied r) after

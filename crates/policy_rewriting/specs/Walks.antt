@@ -1,5 +1,5 @@
 -- What the walk over a checked definition answers: whether it keeps the external rules; and if so, which words it has laid.
-use Rattle.std.specs.Prelude.{ℕ, ◌+◌, ◌*◌, ◌-◌, ◌≤◌, ◌≡◌, Bool, true, false, List, length}
+use Rattle.std.specs.Prelude.{ℕ, ◌+◌, ◌*◌, ◌-◌, ◌≤◌, ◌≡◌, ◌≢◌, Bool, true, false, Option, Some, None, MatchOption, List, length}
 use Rattle.rows.specs.Name.{Polarity, plus, minus}
 use Rattle.policy.specs.OwnKey.{Scope}
 use Rattle.policy.specs.Leaf.{Leaf, leaf_words}
@@ -8,21 +8,25 @@ use Rattle.policy.specs.Words.{expr_words, body_words}
 use Rattle.policy.specs.External.{external_leaf, external_expr, external_body, vet_leaf, each_leaf, each_leaf_in}
 use Rattle.policy_places.specs.Places.{StandsLeaf, Stands, StandsBody}
 use Rattle.policy_rewriting.specs.Laid.{laid}
-use Rattle.policy_rewriting.specs.declared.vetting.Node.{Node}
-use Rattle.policy_rewriting.specs.declared.vetting.Node.TheVariants as node
-use Rattle.policy_rewriting.specs.declared.vetting.Node.TheVariants.{Code}
-use Rattle.policy_rewriting.specs.declared.vetting.Vetted.{Vetted}
-use Rattle.policy_rewriting.specs.declared.vetting.Vetted.TheVariants.{To, Broken}
+use Rattle.policy.specs.Codes.{code_number, guard_number}
+use Rattle.policy.specs.declared.codes.Code.{Code}
+use Rattle.policy.specs.declared.codes.GuardCode.{GuardCode}
+use Rattle.policy_rewriting.specs.declared.vetting.Laid as Held
 
 -- the code that stands there, unless it is this one
-unfoldable pub NodeRead : ℕ → ℕ → Node → Type 0
-NodeRead w none (Code c) = (c ≡ w) × (w ≡ none → ⊥)
-NodeRead w none node.Broken = w ≡ none
+abbrev pub CodeRead : ℕ → ℕ → Option Code → Type 0
+CodeRead w none r = MatchOption r (w ≡ none) (λ c. (code_number c ≡ w) × (w ≢ none))
 
--- the polarity of a definition: is it −?
-unfoldable pub sign_of : Bool → Polarity
-sign_of true = minus
-sign_of false = plus
+-- the guard's code that stands there, unless it is that of an absent one
+abbrev pub GuardRead : ℕ → Option GuardCode → Type 0
+GuardRead w r = MatchOption r (w ≡ 4) (λ g. (guard_number g ≡ w) × (w ≢ 4))
+
+-- what a walk answers: the place after what was passed and the place after what was laid; or an external rule is broken
+abbrev pub Vetted : Type 0
+Vetted = Option Held.Laid
+
+abbrev pub To : ℕ → ℕ → Vetted
+To next end = Some (record { next = next; end = end })
 
 -- are the names of a definition of this polarity vetted: in a policy that lists compromised keys, those of the + definitions are
 unfoldable pub vets : Bool → Polarity → Bool
@@ -50,8 +54,8 @@ pub record Laying (at size to : ℕ) (ws before : List ℕ) (next end : ℕ) (af
 
 -- where the rules are broken the area holds arbitrary words
 unfoldable pub Answered : Bool → ℕ → ℕ → ℕ → List ℕ → List ℕ → Vetted → List ℕ → Type 0
-Answered external at size to ws before (To next end) after = (external ≡ true) × Laying at size to ws before next end after
-Answered external at size to ws before Broken after = external ≡ false
+Answered external at size to ws before (Some l) after = (external ≡ true) × Laying at size to ws before l.next l.end after
+Answered external at size to ws before None after = external ≡ false
 
 -- (a record, so that what it is about can be implicit in the proofs)
 pub record Walked (external : Bool) (at size to : ℕ) (ws before : List ℕ) (r : Vetted) (after : List ℕ) : Type 0 where

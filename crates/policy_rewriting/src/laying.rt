@@ -1,8 +1,9 @@
 // Words laid into a lent area as far as it goes: into one of no words nothing is laid, so that the same walk measures.
-ghost use Rattle.std.specs.Prelude.{◌+◌, ◌-◌, ◌≤◌, ◌≡◌, [], ◌∷◌, length, take, drop};
+ghost use Rattle.std.specs.Prelude.{◌+◌, ◌≤◌, ◌≡◌, [], ◌∷◌, length};
 ghost use Rattle.policy_rewriting.specs.Laid.{laid};
 
 // One word, unless the area ends before it.
+#[tactic(auto, using(crate::proofs::Laid::laid_set, crate::proofs::Laid::laid_past))]
 pub fn lay(area: &mut [u32], to: usize, word: u32)
     ensures { area.new ≡ laid to (word ∷ []) area.old }
 {
@@ -11,17 +12,13 @@ pub fn lay(area: &mut [u32], to: usize, word: u32)
     }
 }
 
-// The words from `from` up to `until`; the place after them in the area.
-pub fn lay_words(words: &[u32], from: usize, until: usize, area: &mut [u32], to: usize) -> usize
-    requires { (from ≤ until) × (until ≤ length words.now) × (to + (until - from) ≤ 65536) }
-    ensures { (result ≡ to + (until - from)) × (area.new ≡ laid to (take (until - from) (drop from words.now)) area.old) }
+// These words; the place after them in the area.
+pub fn lay_words(area: &mut [u32], to: usize, words: &[u32]) -> usize
+    requires { to + length words.now ≤ 65536 }
+    ensures { (result ≡ to + length words.now) × (area.new ≡ laid to words.now area.old) }
 {
-    let mut next = from;
-    let mut end = to;
-    while next < until {
-        lay(area, end, words[next]);
-        next += 1;
-        end += 1;
+    for (i, word) in words.iter().enumerate() {
+        lay(area, to + i, *word);
     }
-    end
+    to + words.len()
 }

@@ -5,27 +5,21 @@ mod laying;
 mod vetting;
 
 ghost use Rattle.std.specs.Prelude.{◌+◌, ◌-◌, ◌≤◌, ◌≡◌, [], length};
+ghost use Rattle.rows.specs.Polarities.{polarity_is};
 ghost use Rattle.policy.specs.Table.{entry_at};
 ghost use Rattle.policy.specs.External.{moved, entry_four, rewrite_into, area_after};
 ghost use Rattle.policy_table.specs.Entries.{entry_place};
 ghost use Rattle.policy_rewriting.specs.Laid.{laid};
-ghost use Rattle.policy_rewriting.specs.Walks.{sign_of};
 ghost use Rattle.policy_rewriting.specs.Output.{Passing, SayKeys, may_be, AskDefinition, WalkedDefinition, header_of, SayWords, rewritten_for, SayReply};
 
 use judging::{PolicyJudgement, judge_policy};
 use laying::{lay, lay_words};
-use policy_table::{MOST_WORDS, definition_words, entry_place};
-use row_words::wide;
-use vetting::{Vetted, vet_expr};
+use policy_table::{MOST_WORDS, definition_words, entry_place, polarity_of};
+use refusals::Refusal;
+use rows::Polarity;
+use vetting::{Laid, Vetting};
 
-// The output's length in words; or an external rule is broken.
-#[derive(Clone, Copy)]
-enum Measured {
-    Words(usize),
-    Broken,
-}
-
-#[derive(Clone, Copy)]
+#[derive(Clone, Copy, Debug, PartialEq, Eq)]
 pub enum Rewritten {
     Length(usize),
     Refused { number: u32, part: u32 },
@@ -36,37 +30,31 @@ fn lists_keys(policy: &[u32]) -> bool
     requires { Passing policy.now }
     ensures { SayKeys policy.now result }
 {
-    if policy[1] == 0 {
-        return false;
-    }
-    if policy[2] != 0 {
-        return false;
-    }
-    policy[3] == 1
+    policy[1] != 0 && policy[2] == 0 && policy[3] == 1
 }
 
 // May definition `i` have this polarity?
-fn may_be(minus: bool, keys: bool, i: usize) -> bool
-    ensures { result ≡ may_be keys i (sign_of minus) }
+#[tactic(auto, unfolding(crate::specs::Output::may_be))]
+fn may_be(polarity: Polarity, keys: bool, i: usize) -> bool
+    ensures { result ≡ may_be keys i (polarity_is polarity) }
 {
-    if !minus {
-        return true;
-    }
-    if !keys {
-        return false;
-    }
-    i == 0
+    polarity == Polarity::Plus || keys && i == 0
 }
 
-fn vet_definition(policy: &[u32], i: usize, keys: bool, area: &mut [u32], to: usize) -> Vetted
+fn vet_definition(policy: &[u32], i: usize, keys: bool, area: &mut [u32], to: usize) -> Option<Laid>
     requires { AskDefinition policy.now i to }
     ensures { WalkedDefinition keys policy.now i to area.old result area.new }
 {
-    let minus = policy[entry_place(i) + 1] != 0;
-    if !may_be(minus, keys, i) {
-        return Vetted::Broken;
+    let polarity = polarity_of(policy[entry_place(i) + 1]);
+    if !may_be(polarity, keys, i) {
+        return None;
     }
-    vet_expr(definition_words(policy, i), 0, minus, keys, area, to)
+    let vetting = Vetting {
+        words: definition_words(policy, i),
+        polarity,
+        keys,
+    };
+    vetting.vet_expr(0, area, to)
 }
 
 // The table's entry of definition `i`, whose part now goes from `to` up to `end`.
@@ -75,7 +63,7 @@ fn lay_entry(policy: &[u32], i: usize, area: &mut [u32], to: usize, end: usize)
     ensures { area.new ≡ laid (entry_place i) (entry_four (moved (entry_at policy.now (entry_place i)) to (end - to))) area.old }
 {
     let at = entry_place(i);
-    let offset = lay_words(policy, at, at + 2, area, at);
+    let offset = lay_words(area, at, &policy[at..at + 2]);
     lay(area, offset, to as u32);
     lay(area, offset + 1, (end - to) as u32);
 }
@@ -91,28 +79,26 @@ fn lay_header(policy: &[u32], area: &mut [u32])
     lay(area, 1, count);
 }
 
-// The output, as far as the area goes.
-fn lay_output(policy: &[u32], keys: bool, area: &mut [u32]) -> Measured
+// The output, as far as the area goes, and its length in words; or an external rule is broken.
+fn lay_output(policy: &[u32], keys: bool, area: &mut [u32]) -> Option<usize>
     requires { Passing policy.now × SayKeys policy.now keys }
     ensures { SayWords policy.now area.old result area.new }
 {
-    let count = wide(policy[1]);
+    let count = policy[1] as usize;
     let mut to = entry_place(count);
-    let mut i: usize = 0;
-    while i < count {
-        let Vetted::To { next, end } = vet_definition(policy, i, keys, area, to) else {
-            return Measured::Broken;
+    for i in 0..count {
+        let Some(laid) = vet_definition(policy, i, keys, area, to) else {
+            return None;
         };
-        lay_entry(policy, i, area, to, end);
-        to = end;
-        i += 1;
+        lay_entry(policy, i, area, to, laid.end);
+        to = laid.end;
     }
     lay_header(policy, area);
-    Measured::Words(to)
+    Some(to)
 }
 
 // The output's length: lent no words, the same walk measures.
-fn measure(policy: &[u32], keys: bool, area: &mut [u32]) -> Measured
+fn measure(policy: &[u32], keys: bool, area: &mut [u32]) -> Option<usize>
     requires { Passing policy.now × SayKeys policy.now keys }
     ensures { SayWords policy.now [] result [] × (area.new ≡ area.old) }
 {
@@ -120,31 +106,22 @@ fn measure(policy: &[u32], keys: bool, area: &mut [u32]) -> Measured
 }
 
 // A policy that passed 20 and 1 to 7: 15, then 11, then the output.
-fn rewrite_passed(policy: &[u32], area: &mut [u32]) -> Rewritten
+fn rewrite_passed(policy: &[u32], area: &mut [u32]) -> Result<usize, Refusal>
     requires { Passing policy.now }
     ensures { SayReply policy.now area.old result area.new }
 {
     let keys = lists_keys(policy);
-    let Measured::Words(length) = measure(policy, keys, area) else {
-        return Rewritten::Refused {
-            number: refusals::NOT_EXTERNAL,
-            part: refusals::NO_PART,
-        };
+    let Some(length) = measure(policy, keys, area) else {
+        return Err(Refusal::NotExternal);
     };
     if MOST_WORDS < length {
-        return Rewritten::Refused {
-            number: refusals::NOT_EXTERNAL,
-            part: refusals::NO_PART,
-        };
+        return Err(Refusal::NotExternal);
     }
     if area.len() < length {
-        return Rewritten::Refused {
-            number: refusals::SHORT_AREA,
-            part: refusals::NO_PART,
-        };
+        return Err(Refusal::ShortArea);
     }
     lay_output(policy, keys, area);
-    Rewritten::Length(length)
+    Ok(length)
 }
 
 // The external policy rewritten into the area, and the output's length; or the refusal, which leaves the area as it was.
@@ -156,6 +133,12 @@ pub fn rewrite(policy: &[u32], our_key: u32, area: &mut [u32]) -> Rewritten
     let judgement = judged.judgement;
     match judgement {
         PolicyJudgement::Refused { number, part } => Rewritten::Refused { number, part },
-        PolicyJudgement::Passed => rewrite_passed(policy, area),
+        PolicyJudgement::Passed => match rewrite_passed(policy, area) {
+            Ok(length) => Rewritten::Length(length),
+            Err(refusal) => Rewritten::Refused {
+                number: u32::from(refusal),
+                part: refusals::NO_PART,
+            },
+        },
     }
 }

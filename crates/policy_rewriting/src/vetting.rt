@@ -1,170 +1,170 @@
 // A checked definition walked over: is it external, and its words in the output.
-ghost use Rattle.std.specs.Prelude.{◌≡◌, ◌<◌, length, get_or};
-ghost use Rattle.rows.specs.Name.{polarity_word};
+ghost use Rattle.std.specs.Prelude.{◌+◌, ◌-◌, ◌≤◌, ◌≡◌, ◌<◌, length, get_or, take, drop};
+ghost use Rattle.rows.specs.Polarities.{polarity_is};
+ghost use Rattle.policy.specs.Codes.{code_number};
 ghost use Rattle.policy_places.specs.Places.{SomeLeaf, SomeExpr, SomeBody};
-ghost use Rattle.policy_rewriting.specs.Walks.{NodeRead, sign_of, vets, Roomy, WalkedLeaf, WalkedExpr, WalkedBody};
+ghost use Rattle.policy_rewriting.specs.Laid.{laid};
 
 use crate::laying::{lay, lay_words};
-use policy::{
-    CODE_COMPREHENSION, CODE_DIFFERENCE, CODE_NAME, CODE_VETTED, GUARD_ABSENT, GUARD_DRAW, is_node,
-};
+use policy::codes::{Code, GuardCode};
 use policy_places::skip::{skip_leaf, skip_pattern, skip_row};
+use rows::Polarity;
 
 // The definition that lists compromised keys.
 const KEYS: u32 = 0;
 
-// The place after what was passed and the place after what was laid; or an external rule is broken.
+/// The place after what was passed in a definition's words, and the place after what was laid in the output.
+#[derive(Clone, Copy, Debug, PartialEq, Eq)]
+pub struct Laid {
+    pub next: usize,
+    pub end: usize,
+}
+
+/// A definition that is walked over: its words, its polarity, and whether the policy lists compromised keys. A walk gives `None` where an external rule is broken.
 #[derive(Clone, Copy)]
-pub enum Vetted {
-    To { next: usize, end: usize },
-    Broken,
+pub struct Vetting<'a> {
+    pub words: &'a [u32],
+    pub polarity: Polarity,
+    pub keys: bool,
 }
 
-// The code of a node, a leaf or a guard; or an external policy has none of that code.
-#[derive(Clone, Copy)]
-enum Node {
-    Code(u32),
-    Broken,
-}
+impl Vetting<'_> {
+    ghost use Rattle.policy_rewriting.specs.Walks.{CodeRead, GuardRead, vets, Roomy, WalkedLeaf, WalkedExpr, WalkedBody};
 
-// What stands there, by its code; this one appears in no external policy.
-fn read_node(words: &[u32], at: usize, none: u32) -> Node
-    requires { at < length words.now }
-    ensures { NodeRead (get_or words.now at 0) none result }
-{
-    let code = words[at];
-    if code == none {
-        return Node::Broken;
+    // The code of the expression that stands there; one of code `none` is in no external policy.
+    fn read_code(&self, at: usize, none: Code) -> Option<Code>
+        requires { (at < length self.now.words.now) × (1 ≤ get_or self.now.words.now at 0) × (get_or self.now.words.now at 0 ≤ 8) }
+        ensures { CodeRead (get_or self.now.words.now at 0) (code_number none) result }
+    {
+        let code = Code::of(self.words[at]);
+        if code == none {
+            return None;
+        }
+        Some(code)
     }
-    Node::Code(code)
-}
 
-fn polarity_word(minus: bool) -> u32
-    ensures { result ≡ polarity_word (sign_of minus) }
-{
-    if minus { 1 } else { 0 }
-}
+    // The code of the guard that stands there; an absent one is in no external policy.
+    fn read_guard(&self, at: usize) -> Option<GuardCode>
+        requires { (at < length self.now.words.now) × (1 ≤ get_or self.now.words.now at 0) × (get_or self.now.words.now at 0 ≤ 4) }
+        ensures { GuardRead (get_or self.now.words.now at 0) result }
+    {
+        let code = GuardCode::of(self.words[at]);
+        if code == GuardCode::Absent {
+            return None;
+        }
+        Some(code)
+    }
 
-// Are the names of a definition of this polarity vetted?
-fn vets(minus: bool, keys: bool) -> bool
-    ensures { result ≡ vets keys (sign_of minus) }
-{
-    if keys { !minus } else { false }
-}
+    // Are its names vetted?
+    #[tactic(auto, unfolding(crate::specs::Walks::vets))]
+    fn vets(&self) -> bool
+        ensures { result ≡ vets self.now.keys (polarity_is self.now.polarity) }
+    {
+        self.keys && self.polarity == Polarity::Plus
+    }
 
-// A name that a definition of this polarity may read: as it is, or code 8 with the same words and then the definition's number.
-fn vet_name(
-    words: &[u32],
-    at: usize,
-    minus: bool,
-    keys: bool,
-    area: &mut [u32],
-    to: usize,
-) -> Vetted
-    requires { SomeLeaf words.now at × (get_or words.now at 0 ≡ 4) × Roomy words.now at to }
-    ensures { WalkedLeaf keys (sign_of minus) words.now at to area.old result area.new }
-{
-    if words[at + 4] != polarity_word(minus) {
-        return Vetted::Broken;
+    // The words from `at` up to `next`, laid as they are.
+    fn copy(&self, at: usize, next: usize, area: &mut [u32], to: usize) -> usize
+        requires { (at ≤ next) × (next ≤ length self.now.words.now) × (to + (next - at) ≤ 65536) }
+        ensures { (result ≡ to + (next - at)) × (area.new ≡ laid to (take (next - at) (drop at self.now.words.now)) area.old) }
+    {
+        lay_words(area, to, &self.words[at..next])
     }
-    let next = at + 5;
-    if !vets(minus, keys) {
-        let end = lay_words(words, at, next, area, to);
-        return Vetted::To { next, end };
-    }
-    lay(area, to, CODE_VETTED);
-    let last = lay_words(words, at + 1, next, area, to + 1);
-    lay(area, last, KEYS);
-    Vetted::To {
-        next,
-        end: last + 1,
-    }
-}
 
-// A leaf.
-fn vet_leaf(
-    words: &[u32],
-    at: usize,
-    minus: bool,
-    keys: bool,
-    area: &mut [u32],
-    to: usize,
-) -> Vetted
-    requires { SomeLeaf words.now at × Roomy words.now at to }
-    ensures { WalkedLeaf keys (sign_of minus) words.now at to area.old result area.new }
-{
-    let Node::Code(code) = read_node(words, at, CODE_VETTED) else {
-        return Vetted::Broken;
-    };
-    if code == CODE_NAME {
-        return vet_name(words, at, minus, keys, area, to);
+    // A name that the definition may read: as it is, or code 8 with the same words and then the definition's number.
+    fn vet_name(&self, at: usize, area: &mut [u32], to: usize) -> Option<Laid>
+        requires { SomeLeaf self.now.words.now at × (get_or self.now.words.now at 0 ≡ 4) × Roomy self.now.words.now at to }
+        ensures { WalkedLeaf self.now.keys (polarity_is self.now.polarity) self.now.words.now at to area.old result area.new }
+    {
+        if self.words[at + 4] != u32::from(self.polarity) {
+            return None;
+        }
+        let next = at + 5;
+        if !self.vets() {
+            let end = self.copy(at, next, area, to);
+            return Some(Laid { next, end });
+        }
+        lay(area, to, u32::from(Code::Vetted));
+        let last = self.copy(at + 1, next, area, to + 1);
+        lay(area, last, KEYS);
+        Some(Laid {
+            next,
+            end: last + 1,
+        })
     }
-    let next = skip_leaf(words, at);
-    let end = lay_words(words, at, next, area, to);
-    Vetted::To { next, end }
-}
 
-#[cycle(vetting)]
-pub fn vet_expr(
-    words: &[u32],
-    at: usize,
-    minus: bool,
-    keys: bool,
-    area: &mut [u32],
-    to: usize,
-) -> Vetted
-    requires { SomeExpr words.now at × Roomy words.now at to }
-    ensures { WalkedExpr keys (sign_of minus) words.now at to area.old result area.new }
-{
-    let Node::Code(code) = read_node(words, at, CODE_DIFFERENCE) else {
-        return Vetted::Broken;
-    };
-    if !is_node(code) {
-        return vet_leaf(words, at, minus, keys, area, to);
-    }
-    lay(area, to, code);
-    if code == CODE_COMPREHENSION {
-        let left = words[at + 1];
-        lay(area, to + 1, left);
-        return vet_guards(words, at + 2, minus, keys, area, to + 2, left);
-    }
-    let Vetted::To { next, end } = vet_expr(words, at + 1, minus, keys, area, to + 1) else {
-        return Vetted::Broken;
-    };
-    vet_expr(words, next, minus, keys, area, end)
-}
-
-// The guards left, and the head.
-#[cycle(vetting)]
-fn vet_guards(
-    words: &[u32],
-    at: usize,
-    minus: bool,
-    keys: bool,
-    area: &mut [u32],
-    to: usize,
-    left: u32,
-) -> Vetted
-    requires { SomeBody words.now at left × Roomy words.now at to }
-    ensures { WalkedBody keys (sign_of minus) words.now at left to area.old result area.new }
-{
-    if left == 0 {
-        let next = skip_row(words, at);
-        let end = lay_words(words, at, next, area, to);
-        return Vetted::To { next, end };
-    }
-    let Node::Code(code) = read_node(words, at, GUARD_ABSENT) else {
-        return Vetted::Broken;
-    };
-    if code == GUARD_DRAW {
-        lay(area, to, code);
-        let Vetted::To { next, end } = vet_expr(words, at + 1, minus, keys, area, to + 1) else {
-            return Vetted::Broken;
+    // A leaf.
+    fn vet_leaf(&self, at: usize, area: &mut [u32], to: usize) -> Option<Laid>
+        requires { SomeLeaf self.now.words.now at × Roomy self.now.words.now at to }
+        ensures { WalkedLeaf self.now.keys (polarity_is self.now.polarity) self.now.words.now at to area.old result area.new }
+    {
+        let Some(code) = self.read_code(at, Code::Vetted) else {
+            return None;
         };
-        let rest = skip_pattern(words, next);
-        let past = lay_words(words, next, rest, area, end);
-        return vet_guards(words, rest, minus, keys, area, past, left - 1);
+        match code {
+            Code::Name => self.vet_name(at, area, to),
+            _ => {
+                let next = skip_leaf(self.words, at);
+                let end = self.copy(at, next, area, to);
+                Some(Laid { next, end })
+            }
+        }
     }
-    let past = lay_words(words, at, at + 5, area, to);
-    vet_guards(words, at + 5, minus, keys, area, past, left - 1)
+
+    #[cycle(vetting)]
+    pub fn vet_expr(&self, at: usize, area: &mut [u32], to: usize) -> Option<Laid>
+        requires { SomeExpr self.now.words.now at × Roomy self.now.words.now at to }
+        ensures { WalkedExpr self.now.keys (polarity_is self.now.polarity) self.now.words.now at to area.old result area.new }
+    {
+        let Some(code) = self.read_code(at, Code::Difference) else {
+            return None;
+        };
+        match code {
+            Code::Comprehension => {
+                lay(area, to, u32::from(code));
+                let left = self.words[at + 1];
+                lay(area, to + 1, left);
+                self.vet_guards(at + 2, left, area, to + 2)
+            }
+            Code::Union => {
+                lay(area, to, u32::from(code));
+                let Some(first) = self.vet_expr(at + 1, area, to + 1) else {
+                    return None;
+                };
+                self.vet_expr(first.next, area, first.end)
+            }
+            _ => self.vet_leaf(at, area, to),
+        }
+    }
+
+    // The guards left, and the head.
+    #[cycle(vetting)]
+    fn vet_guards(&self, at: usize, left: u32, area: &mut [u32], to: usize) -> Option<Laid>
+        requires { SomeBody self.now.words.now at left × Roomy self.now.words.now at to }
+        ensures { WalkedBody self.now.keys (polarity_is self.now.polarity) self.now.words.now at left to area.old result area.new }
+    {
+        if left == 0 {
+            let next = skip_row(self.words, at);
+            let end = self.copy(at, next, area, to);
+            return Some(Laid { next, end });
+        }
+        let Some(code) = self.read_guard(at) else {
+            return None;
+        };
+        match code {
+            GuardCode::Draw => {
+                lay(area, to, GuardCode::Draw as u32);
+                let Some(operand) = self.vet_expr(at + 1, area, to + 1) else {
+                    return None;
+                };
+                let rest = skip_pattern(self.words, operand.next);
+                let past = self.copy(operand.next, rest, area, operand.end);
+                self.vet_guards(rest, left - 1, area, past)
+            }
+            _ => {
+                let past = self.copy(at, at + 5, area, to);
+                self.vet_guards(at + 5, left - 1, area, past)
+            }
+        }
+    }
 }
