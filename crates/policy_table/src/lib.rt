@@ -13,8 +13,6 @@ ghost use Rattle.policy_table.specs.Entries.{entry_place, declared_in, table_is}
 
 pub use entries::{Entry, entry_place, find_definition, polarity_of};
 pub use reading::{MOST_WORDS, Table};
-use row_words::wide;
-use rows::Polarity;
 
 // The count of the definitions.
 #[derive(Clone, Copy)]

@@ -6,6 +6,7 @@ ghost use Rattle.policy_table.specs.Spans.{part_span_is};
 use crate::reading::Table;
 use refusals::QUERY_PART;
 
+// Two places, neither of which is a failure; the start and the size are what C is told.
 #[derive(Clone, Copy, Debug, PartialEq, Eq)]
 pub enum PartSpan {
     InPolicy { start: usize, size: usize },
