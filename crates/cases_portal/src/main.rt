@@ -39,26 +39,30 @@ fn ask(
     if text.passes(b"|") {
         text.words_over(rt.alloc(), &mut lengths)?;
     }
-    let [a, d, s, l] = lengths;
+    let [
+        answer_length,
+        definitions_length,
+        scratch_length,
+        links_length,
+    ] = lengths.map(|n| n as usize);
     let mut answer = [5u32; 1000];
     let mut definitions = [6u32; 11000];
     let mut scratch = [7u32; 17000];
-    let a = (a as usize).min(answer.len());
-    let d = (d as usize).min(definitions.len());
-    let s = (s as usize).min(scratch.len());
-    let l = (l as usize).min(links.len());
+    let answer_end = answer_length.min(answer.len());
+    let definitions_end = definitions_length.min(definitions.len());
+    let scratch_end = scratch_length.min(scratch.len());
     let reply = query(
         &policy,
         &words,
         setting.our_key,
         setting.minute,
         store,
-        &links[..l],
-        &mut answer[..a],
-        &mut definitions[..d],
-        &mut scratch[..s],
+        &links[..links_length.min(links.len())],
+        &mut answer[..answer_end],
+        &mut definitions[..definitions_end],
+        &mut scratch[..scratch_end],
     );
-    print_reply(rt, reply, &answer[..a])
+    print_reply(rt, reply, &answer[..answer_end])
 }
 
 // Does what a line without bars says.
