@@ -9,7 +9,7 @@ use Rattle.policy.specs.OwnKey.{Scope, reach, Origin}
 use Rattle.policy.specs.Leaf.{Leaf, finite, cofinite, definition, listed, vetted, leaf_code, leaf_rest, leaf_words, FitLeaf, LeafCode, is_finite, is_cofinite, is_definition, is_listed, is_vetted, no_leaf, leaf_of}
 use Rattle.policy.specs.Syntax.{Term}
 use Rattle.policy.specs.Words.{term_words}
-use Rattle.policy_places.specs.Places.{At, name_words, StandsRows, StandsName, StandsLeaf, SomeRows, SomeName, SomeLeaf, PastRows, PastLeaf}
+use Rattle.policy_places.specs.Places.{At, name_words, StandsRows, StandsName, StandsLeaf, SomeRows, SomeLeaf, PastRows, PastLeaf}
 use Rattle.policy_places.proofs.Places.{at_skip, at_front, at_word, at_next, at_long, term_length}
 
 -- ---- a leaf by its code
@@ -142,9 +142,6 @@ module _ {ws : List ℕ} {at : ℕ} where
   pub past_definition : get_or ws at 0 ≡ 3 → PastLeaf ws at (at + 2)
   unfolding leaf_words leaf_rest
   past_definition c = record { past = λ scope n x s. on_definition (λ y. at + 2 ≡ at + length (leaf_words y)) s c (λ d. refl) }
-
-  pub some_name : SomeLeaf ws at → get_or ws at 0 ≡ 4 → SomeName ws (at + 1)
-  some_name x c = on_listed (λ y. StandsLeaf x.scope x.n ws at y → SomeName ws (at + 1)) x.here c (λ t k p o s. record { t = t; m = k; p = p; words = (in_listed s).words }) x.here
 
   pub name_inside : SomeLeaf ws at → get_or ws at 0 ≡ 4 → at + 5 ≤ length ws
   name_inside x c =

@@ -13,8 +13,8 @@ use Rattle.policy.specs.Syntax.{Term, Slot, Expr, union, difference, Body, head,
 use Rattle.policy.specs.Words.{term_words, each, term_row_words, slot_words, fresh, guard_count, expr_words, body_words}
 use Rattle.policy.specs.WellFormed.{FitRow}
 use Rattle.policy.specs.Decode.{is_node}
-use Rattle.policy_places.specs.Places.{At, pattern_words, StandsRow, StandsRows, StandsPattern, Stands, StandsBody, StandsTwo, StandsDraw, StandsAbsent, SomeRow, SomeRows, SomePattern, SomeLeaf, SomeExpr, SomeBody, PastRow, PastRows, PastPattern, PastLeaf, PastExpr, PastBody}
-use Rattle.policy_places.proofs.Places.{at_word, at_next, at_skip, at_front, at_long, term_length, row_length, slots_length, row_wide, pattern_wide}
+use Rattle.policy_places.specs.Places.{At, pattern_words, StandsRow, StandsRows, StandsPattern, Stands, StandsBody, StandsTwo, StandsDraw, StandsAbsent, SomeRow, SomePattern, SomeLeaf, SomeExpr, SomeBody, PastRow, PastRows, PastPattern, PastLeaf, PastExpr, PastBody}
+use Rattle.policy_places.proofs.Places.{at_word, at_next, at_skip, at_front, term_length, row_length, slots_length, row_wide, pattern_wide}
 use Rattle.policy_places.proofs.Places.{union_or_difference, on_leaf, on_union, on_difference, on_comprehension, in_leaf, in_union, in_difference, in_comprehension, in_head, in_draw, in_same, in_different, in_absent, on_head, on_draw, on_absent}
 use Rattle.policy_places.proofs.Held.{is_draw_lem, is_absent_lem}
 
@@ -35,9 +35,6 @@ pub record RowsLeft (ws : List ℕ) (at left : ℕ) (n : ℕ) (rs : List (List T
 
 pub rows_inside : {n : ℕ} {ws : List ℕ} {at : ℕ} {rs : List (List Term)} → StandsRows n ws at rs → RowsLeft ws (at + 1) (get_or ws at 0) n rs
 rows_inside s = record { many = sym (at_word s.words); words = at_next s.words; fit = s.fit.rows }
-
-pub literal_inside : {n : ℕ} {ws : List ℕ} {at : ℕ} {rs : List (List Term)} → StandsRows n ws at rs → at < length ws
-literal_inside s = omega (arith, at_long (omega arith) s.words)
 
 -- one row taken off the front
 pub record RowsNext (ws : List ℕ) (at left n : ℕ) (rs : List (List Term)) : Type 0 where
@@ -72,17 +69,6 @@ pub record Passing (ws : List ℕ) (start count next i : ℕ) : Type 0 where
   pub left : RowsLeft ws next (count - i) n rs
   pub goes : (r : ℕ) → ((n : ℕ) (rs : List (List Term)) → RowsLeft ws next (count - i) n rs → r ≡ next + length (each term_row_words rs)) →
       (n : ℕ) (rs : List (List Term)) → RowsLeft ws start count n rs → r ≡ start + length (each term_row_words rs)
-
-pub pass_start : {ws : List ℕ} {at : ℕ} → SomeRows ws at → Passing ws (at + 1) (get_or ws at 0) (at + 1) 0
-pass_start {ws} {at} s =
-    let m : get_or ws at 0 ≡ get_or ws at 0 - 0 = omega arith in
-    record {
-      within = omega arith;
-      n = s.n;
-      rs = s.rs;
-      left = subst (λ (x : ℕ). RowsLeft ws (at + 1) x s.n s.rs) m (rows_inside s.here);
-      goes = λ r g n rs h. g n rs (subst (λ (x : ℕ). RowsLeft ws (at + 1) x n rs) m h);
-    }
 
 module _ {ws : List ℕ} {start count next i : ℕ} (p : Passing ws start count next i) where
   pub pass_row : i < count → SomeRow ws next

@@ -2,7 +2,6 @@
 use Prim.Native.Nat.{ℕ, ◌+◌, ◌-◌, ◌*◌, ◌≤◌, ◌<◌}
 use Rattle.std.proofs.Common.{Some, None}
 use mathlib.Core.Path.{◌≡◌, refl, sym, ◌∙◌, ap, subst}
-use mathlib.Core.Logic.{inl, inr}
 use mathlib.Core.Bool.{Bool, true, false, ◌&&◌}
 use mathlib.Core.List.{List, [], ◌∷◌, ◌++◌, append_assoc}
 use native.Mathlib.Omega.{arith}
@@ -15,7 +14,7 @@ use Rattle.policy.specs.Decode.{is_node}
 use Rattle.policy.specs.External.{external_expr, external_body, each_leaf}
 use Rattle.policy.proofs.Vetting.{each_guards}
 use Rattle.policy_places.specs.Places.{At, pattern_words, Stands, StandsBody, SomeRow, SomeExpr, SomeBody, PastRow, PastExpr, PastPattern}
-use Rattle.policy_places.proofs.Places.{at_front, at_long, union_or_difference, on_leaf, on_union, on_difference, on_comprehension, in_leaf, in_union, in_comprehension, in_head, in_draw, in_same, in_different, on_head, on_draw, on_absent, term_length, inside, inside_body}
+use Rattle.policy_places.proofs.Places.{at_front, at_long, on_leaf, on_union, on_difference, on_comprehension, in_leaf, in_union, in_comprehension, in_head, in_draw, in_same, in_different, on_head, on_draw, on_absent, term_length, inside, inside_body}
 use Rattle.policy_places.proofs.Held.{is_draw_lem, is_absent_lem}
 use Rattle.policy_places.proofs.Past.{right_here, pattern_here, rest_here, on_test, some_first, some_second, some_operand, some_pattern, draw_rest, test_rest}
 use Rattle.policy_rewriting.specs.Laid.{laid}
@@ -123,9 +122,6 @@ answer_told {external} {at} {size} {to} {ws} {before} {after} w e = subst (λ (r
 pub told : {keys : Bool} {p : Polarity} {ws : List ℕ} {at to : ℕ} {before after : List ℕ} {r r' : Vetted} → WalkedExpr keys p ws at to before r after → r ≡ r' →
     WalkedExpr keys p ws at to before r' after
 told {keys} {p} {ws} {at} {to} {before} {after} w e = subst (λ (r : Vetted). WalkedExpr keys p ws at to before r after) e w
-
-pub is_union_lem : (c : ℕ) → is_node c ≡ true → (c ≡ 6 → ⊥) → (c ≡ 7 → ⊥) → c ≡ 5
-is_union_lem c l d k = elim (union_or_difference c l k) [ inl e ↦ e | inr e ↦ absurd (d e) ]
 
 -- the second part of a union
 pub record Second (ws : List ℕ) (at next end : ℕ) : Type 0 where
