@@ -9,42 +9,43 @@ use lib.Seq.{take_all, length-take-le}
 use Rattle.rows.specs.Ordered.{join}
 use Rattle.rows.specs.Row.{Row, row_before}
 use Rattle.rows.specs.Layout.{row_words, row_in, five_at, flat, laid, put}
-use Rattle.row_words.specs.Values.{order_for}
+use Rattle.row_words.specs.Values.{ordering_for}
 use Rattle.set_algebra.specs.Private.{LastRows, last_order_for, room_at, lefts, rights, Rooms}
-use Rattle.row_words.specs.declared.row.Order as Order
-use Rattle.row_words.specs.declared.row.Order.TheVariants.{Before, Same, After}
+use Rattle.std.specs.declared.cmp.Ordering.{Ordering}
+use Rattle.std.specs.declared.cmp.Ordering.TheVariants.{Less, Equal, Greater}
 use Rattle.rows.proofs.Order.{row_order}
 use Rattle.rows.proofs.Lists.{all_in, all_of, all_at, all_drop}
 use Rattle.rows.proofs.Ordered.{Ascending, join-∈}
 use Rattle.rows.proofs.Joining.{join_shorter, last_place, last_front, last_rest, firsts_right, firsts_left, firsts_both, firsts_longer, firsts_none}
 use Rattle.rows.proofs.Put.{part_after, part_before, put_then_after, put_then_before, put_none, put_itself}
 use Rattle.rows.proofs.LayoutLaws.{row_reads, row_length}
-use Rattle.row_words.proofs.RowLaws.{five_width, before_order, same_order, after_order}
+use Rattle.row_words.proofs.RowLaws.{five_width}
+use Rattle.row_words.proofs.Orderings.{less_before, equal_same, greater_after}
 use Rattle.sets.proofs.SetWords.{sound_ascending}
 use Rattle.sets.proofs.Laid.{Narrow, laid_length, laid_append, narrow_in, laid_front, inner, front_length}
 use Rattle.set_algebra.proofs.Walking.{room_few, room_count, room_row}
 
 -- ---- the order of two last rows
 
-pub last_zero : (i : ℕ) (x y : Row) → i ≡ 0 → Before ≡ last_order_for i x y
+pub last_zero : (i : ℕ) (x y : Row) → i ≡ 0 → Less ≡ last_order_for i x y
 unfolding last_order_for
 last_zero zero x y e = refl
 last_zero (suc i) x y e = absurd (omega arith)
 
-pub last_some : (i : ℕ) (x y : Row) → 0 < i → order_for row_before x y ≡ last_order_for i x y
+pub last_some : (i : ℕ) (x y : Row) → 0 < i → ordering_for row_before x y ≡ last_order_for i x y
 unfolding last_order_for
 last_some zero x y h = absurd (omega arith)
 last_some (suc i) x y h = refl
 
-last_is_some : (i : ℕ) (x y : Row) (o : Order.Order) → last_order_for i x y ≡ o → (Before ≡ o → ⊥) → 0 < i
+last_is_some : (i : ℕ) (x y : Row) (o : Ordering) → last_order_for i x y ≡ o → (Less ≡ o → ⊥) → 0 < i
 unfolding last_order_for
 last_is_some zero x y o e n = absurd (n e)
 last_is_some (suc i) x y o e n = omega arith
 
-not_same : Before ≡ Same → ⊥
+not_same : Less ≡ Equal → ⊥
 not_same e = let z : ◌≡◌ {A = ℕ} 0 1 = cc in omega arith
 
-not_after : Before ≡ After → ⊥
+not_after : Less ≡ Greater → ⊥
 not_after e = let z : ◌≡◌ {A = ℕ} 0 1 = cc in omega arith
 
 -- ---- the two lists
@@ -136,34 +137,34 @@ module _ (a : List ℕ) (rooms : Rooms a 0 642) where
           right_width = omega (arith, five_width now (644 + 5 * (j - 1)), ap (λ (w : List ℕ). get_or w 0 0) (e.theirs h), all_at _ ys m (j - 1) [] (omega arith));
         }
 
-    module _ (o : Order.Order) (said : o ≡ last_order_for i (row_in (five_at now (2 + 5 * (i - 1)))) (row_in (five_at now (644 + 5 * (j - 1))))) where
+    module _ (o : Ordering) (said : o ≡ last_order_for i (row_in (five_at now (2 + 5 * (i - 1)))) (row_in (five_at now (644 + 5 * (j - 1))))) where
       mine_is : 0 < i → row_in (five_at now (2 + 5 * (i - 1))) ≡ get_or xs (i - 1) []
       mine_is k = ap row_in (e.mine k) ∙ row_reads (get_or xs (i - 1) [])
 
       theirs_is : row_in (five_at now (644 + 5 * (j - 1))) ≡ get_or ys (j - 1) []
       theirs_is = ap row_in (e.theirs h) ∙ row_reads (get_or ys (j - 1) [])
 
-      order_is : 0 < i → order_for row_before (get_or xs (i - 1) []) (get_or ys (j - 1) []) ≡ o
+      order_is : 0 < i → ordering_for row_before (get_or xs (i - 1) []) (get_or ys (j - 1) []) ≡ o
       order_is k =
           let p = mine_is k in
           let q = theirs_is in
           let s = last_some i (row_in (five_at now (2 + 5 * (i - 1)))) (row_in (five_at now (644 + 5 * (j - 1)))) k in
-          ap (λ (r : Row). order_for row_before r (get_or ys (j - 1) [])) (sym p) ∙ ap (order_for row_before (row_in (five_at now (2 + 5 * (i - 1))))) (sym q) ∙ s ∙ sym said
+          ap (λ (r : Row). ordering_for row_before r (get_or ys (j - 1) [])) (sym p) ∙ ap (ordering_for row_before (row_in (five_at now (2 + 5 * (i - 1))))) (sym q) ∙ s ∙ sym said
 
-      pub right_last : o ≡ Before → join row_before (take i xs) (take j ys) ≡ join row_before (take i xs) (take (j - 1) ys) ++ (get_or ys (j - 1) [] ∷ [])
-      right_last b = firsts_right row_before row_order [] xs ys left_ascending right_ascending i j e.left e.right h (λ k. before_order row_order _ _ (order_is k ∙ b))
+      pub right_last : o ≡ Less → join row_before (take i xs) (take j ys) ≡ join row_before (take i xs) (take (j - 1) ys) ++ (get_or ys (j - 1) [] ∷ [])
+      right_last b = firsts_right row_before row_order [] xs ys left_ascending right_ascending i j e.left e.right h (λ k. less_before row_order _ _ (order_is k ∙ b))
 
-      pub same_some : o ≡ Same → 0 < i
+      pub same_some : o ≡ Equal → 0 < i
       same_some b = last_is_some i _ _ o (sym said) (λ c. not_same (c ∙ b))
 
-      pub after_some : o ≡ After → 0 < i
+      pub after_some : o ≡ Greater → 0 < i
       after_some b = last_is_some i _ _ o (sym said) (λ c. not_after (c ∙ b))
 
-      pub both_last : o ≡ Same → join row_before (take i xs) (take j ys) ≡ join row_before (take (i - 1) xs) (take (j - 1) ys) ++ (get_or xs (i - 1) [] ∷ [])
-      both_last b = firsts_both row_before row_order [] xs ys left_ascending right_ascending i j e.left e.right (same_some b) h (same_order row_order _ _ (order_is (same_some b) ∙ b))
+      pub both_last : o ≡ Equal → join row_before (take i xs) (take j ys) ≡ join row_before (take (i - 1) xs) (take (j - 1) ys) ++ (get_or xs (i - 1) [] ∷ [])
+      both_last b = firsts_both row_before row_order [] xs ys left_ascending right_ascending i j e.left e.right (same_some b) h (equal_same row_order _ _ (order_is (same_some b) ∙ b))
 
-      pub left_last : o ≡ After → join row_before (take i xs) (take j ys) ≡ join row_before (take (i - 1) xs) (take j ys) ++ (get_or xs (i - 1) [] ∷ [])
-      left_last b = firsts_left row_before row_order [] xs ys left_ascending right_ascending i j e.left e.right (after_some b) (λ k. after_order row_order _ _ (order_is (after_some b) ∙ b))
+      pub left_last : o ≡ Greater → join row_before (take i xs) (take j ys) ≡ join row_before (take (i - 1) xs) (take j ys) ++ (get_or xs (i - 1) [] ∷ [])
+      left_last b = firsts_left row_before row_order [] xs ys left_ascending right_ascending i j e.left e.right (after_some b) (λ k. greater_after row_order _ _ (order_is (after_some b) ∙ b))
 
   -- ---- counting
 
@@ -305,15 +306,15 @@ module _ (a : List ℕ) (rooms : Rooms a 0 642) where
           ∙ ap (λ (l : List Row). put 2 (laid (l ++ drop k both)) a) (sym f) ∙ ap (λ (l : List Row). put 2 (laid l) a) (take-append-drop k both)
 
       -- by the order of the two last rows
-      module _ (h : 0 < j) (o : Order.Order) (said : o ≡ last_order_for i (row_in (five_at now (2 + 5 * (i - 1)))) (row_in (five_at now (644 + 5 * (j - 1))))) (after : List ℕ) (same : length after ≡ length now) where
-        pub merging_right : o ≡ Before → after ≡ put (2 + 5 * (k - 1)) (take 5 (drop (644 + 5 * (j - 1)) now)) now → Merging a after i (j - 1) (k - 1)
+      module _ (h : 0 < j) (o : Ordering) (said : o ≡ last_order_for i (row_in (five_at now (2 + 5 * (i - 1)))) (row_in (five_at now (644 + 5 * (j - 1))))) (after : List ℕ) (same : length after ≡ length now) where
+        pub merging_right : o ≡ Less → after ≡ put (2 + 5 * (k - 1)) (take 5 (drop (644 + 5 * (j - 1)) now)) now → Merging a after i (j - 1) (k - 1)
         merging_right b s =
             let e = merging_ends in
             let r = m.right in
             merging_next i (j - 1) (get_or ys (j - 1) []) (644 + 5 * (j - 1)) after (omega arith) (omega arith) (all_at _ ys (narrow_in (room_at 642 a)) (j - 1) [] (omega arith))
             (right_last now i j e h o said b) (e.theirs h) s same
 
-        pub merging_both : o ≡ Same → after ≡ put (2 + 5 * (k - 1)) (take 5 (drop (2 + 5 * (i - 1)) now)) now → Merging a after (i - 1) (j - 1) (k - 1)
+        pub merging_both : o ≡ Equal → after ≡ put (2 + 5 * (k - 1)) (take 5 (drop (2 + 5 * (i - 1)) now)) now → Merging a after (i - 1) (j - 1) (k - 1)
         merging_both b s =
             let e = merging_ends in
             let l = m.left in
@@ -321,7 +322,7 @@ module _ (a : List ℕ) (rooms : Rooms a 0 642) where
             merging_next (i - 1) (j - 1) (get_or xs (i - 1) []) (2 + 5 * (i - 1)) after (omega arith) (omega arith) (all_at _ xs (narrow_in (room_at 0 a)) (i - 1) [] (omega arith))
             (both_last now i j e h o said b) (e.mine g) s same
 
-        pub merging_left : o ≡ After → after ≡ put (2 + 5 * (k - 1)) (take 5 (drop (2 + 5 * (i - 1)) now)) now → Merging a after (i - 1) j (k - 1)
+        pub merging_left : o ≡ Greater → after ≡ put (2 + 5 * (k - 1)) (take 5 (drop (2 + 5 * (i - 1)) now)) now → Merging a after (i - 1) j (k - 1)
         merging_left b s =
             let e = merging_ends in
             let l = m.left in

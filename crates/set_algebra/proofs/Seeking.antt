@@ -1,7 +1,8 @@
 -- A walk along a list to where a row stands or would stand.
 use Prim.Native.Nat.{ℕ, ◌≤◌, ◌<◌}
 use mathlib.Core.Path.{◌≡◌, sym, subst}
-use mathlib.Core.Bool.{true, false}
+use mathlib.Core.Bool.{true}
+use Rattle.std.proofs.Common.{Ok, Err}
 use mathlib.Core.List.{List, []}
 use native.Mathlib.Omega.{arith}
 use lib.ListN.{length, get_or}
@@ -24,15 +25,15 @@ module _ (ys : List Row) (x : Row) where
   unfolding Passed
   passed_of j high b = let o = b.order in let e = b.end in (omega arith, b.below)
 
-  pub seek_before : Ascending row_before row_order ys → (j : ℕ) → Walked ys x j → j < length ys → row_before x (get_or ys j []) ≡ true → Sought ys x (record { at = j; found = false })
+  pub seek_before : Ascending row_before row_order ys → (j : ℕ) → Walked ys x j → j < length ys → row_before x (get_or ys j []) ≡ true → Sought ys x (Err j)
   seek_before a j w h e =
       let g = between_down row_before row_order [] ys a x j (length ys) j w (omega arith) h e in
       record { passed = passed_of j j g; found = sym (gap_lists row_before row_order [] ys x j g) }
 
-  pub seek_same : (j : ℕ) → Walked ys x j → j < length ys → get_or ys j [] ≡ x → Sought ys x (record { at = j; found = true })
+  pub seek_same : (j : ℕ) → Walked ys x j → j < length ys → get_or ys j [] ≡ x → Sought ys x (Ok j)
   seek_same j w h e = record { passed = passed_of j (length ys) w; found = sym (found_lists row_before row_order [] ys x j h e) }
 
-  pub seek_end : (j : ℕ) → Walked ys x j → length ys ≤ j → Sought ys x (record { at = j; found = false })
+  pub seek_end : (j : ℕ) → Walked ys x j → length ys ≤ j → Sought ys x (Err j)
   seek_end j w h =
       let o = w.order in
       let e : length ys ≡ j = omega arith in

@@ -12,7 +12,7 @@ use Rattle.rows.specs.Layout.{row_words, row_in, five_at, put, rows_in, sound_se
 use Rattle.row_words.specs.Values.{five_is, row_is}
 use Rattle.set_algebra.specs.Private.{room_at, Apart, Rooms, Passed, Sought}
 use Rattle.row_words.specs.declared.row.Row as Held
-use Rattle.set_algebra.specs.declared.Reached as Reached
+use Rattle.std.proofs.Common.{Result}
 use Rattle.rows.proofs.Order.{row_order}
 use Rattle.rows.proofs.Lists.{all_at}
 use Rattle.rows.proofs.Ordered.{Ascending}
@@ -98,5 +98,5 @@ module _ {a : List ℕ} {from other : ℕ} (rooms : Rooms a from other) (now : L
     subst (λ (x : Row). Passed (rows_in (room_at other now)) x j) (sym row_is_lem) (subst (λ (l : List ℕ). Passed (rows_in l) (get_or (rows_in (room_at from a)) i []) j) (sym kept) (walk.passed h)),
   )
 
-  pub sought_here : {s : Reached.Reached} → Sought (rows_in (room_at other now)) (row_is r) s → Sought (rows_in (room_at other a)) (get_or (rows_in (room_at from a)) i []) s
+  pub sought_here : {s : Result ℕ ℕ} → Sought (rows_in (room_at other now)) (row_is r) s → Sought (rows_in (room_at other a)) (get_or (rows_in (room_at from a)) i []) s
   sought_here {s} q = subst (λ (l : List ℕ). Sought (rows_in l) (get_or (rows_in (room_at from a)) i []) s) kept (subst (λ (x : Row). Sought (rows_in (room_at other now)) x s) row_is_lem q)

@@ -1,12 +1,12 @@
 -- What private functions promise one another on the way. No public contract cites these.
-use Rattle.std.specs.Prelude.{ℕ, zero, suc, ◌+◌, ◌*◌, ◌-◌, ◌≤◌, ◌<◌, ◌≡◌, ◌⊎◌, Bool, true, false, not, List, [], ◌∷◌, ◌++◌, length, get_or, take, drop, set}
+use Rattle.std.specs.Prelude.{ℕ, zero, suc, ◌+◌, ◌*◌, ◌-◌, ◌≤◌, ◌<◌, ◌≡◌, ◌⊎◌, Bool, true, false, not, List, [], ◌∷◌, ◌++◌, length, get_or, take, drop, set, Result, Ok, Err}
 use Rattle.rows.specs.Ordered.{lists, common, without}
 use Rattle.rows.specs.Row.{Row, row_before}
 use Rattle.rows.specs.Layout.{row_words, laid, put, rows_in, sound_set}
-use Rattle.row_words.specs.Values.{order_for}
-use Rattle.row_words.specs.declared.row.Order as Order
-use Rattle.row_words.specs.declared.row.Order.TheVariants.{Before}
-use Rattle.set_algebra.specs.declared.Reached as Reached
+use Rattle.std.specs.declared.cmp.Ordering.{Ordering}
+use Rattle.std.specs.declared.cmp.Ordering.TheVariants.{Less}
+use Rattle.std.specs.Result.{is_ok}
+use Rattle.row_words.specs.Values.{ordering_for}
 
 -- ---- the two sets
 
@@ -38,10 +38,14 @@ pub record Rooms (area : List ℕ) (one other : ℕ) : Type 0 where
 unfoldable pub Passed : List Row → Row → ℕ → Type 0
 Passed ys x n = (n ≤ length ys) × ((k : ℕ) → k < n → row_before (get_or ys k []) x ≡ true)
 
+abbrev pub reached : Result ℕ ℕ → ℕ
+reached (Ok n) = n
+reached (Err n) = n
+
 -- a walk along the list to where the row stands or would stand
-pub record Sought (ys : List Row) (x : Row) (s : Reached.Reached) : Type 0 where
-  pub passed : Passed ys x s.at
-  pub found : s.found ≡ lists row_before ys x
+pub record Sought (ys : List Row) (x : Row) (s : Result ℕ ℕ) : Type 0 where
+  pub passed : Passed ys x (reached s)
+  pub found : is_ok s ≡ lists row_before ys x
 
 -- ---- the last rows of two lists
 
@@ -54,10 +58,10 @@ pub record LastRows (area : List ℕ) (i j : ℕ) : Type 0 where
   pub right_width : get_or area (644 + 5 * (j - 1)) 0 ≤ 4
 
 -- where the last of `n` rows stands to another: before it, if there is none
-unfoldable pub last_order_for : ℕ → Row → Row → Order.Order
-unfolding order_for
-last_order_for zero x y = Before
-last_order_for (suc n) x y = order_for row_before x y
+unfoldable pub last_order_for : ℕ → Row → Row → Ordering
+unfolding ordering_for
+last_order_for zero x y = Less
+last_order_for (suc n) x y = ordering_for row_before x y
 
 -- ---- rows kept
 

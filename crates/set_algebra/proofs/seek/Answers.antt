@@ -1,5 +1,5 @@
 -- The row is compared with the `j`th.
-use Rattle.std.proofs.Common.{ℕ, ◌≡◌, [], get_or, subst, false, arith}
+use Rattle.std.proofs.Common.{ℕ, ◌≡◌, [], get_or, subst, Err, arith}
 use Rattle.rows.specs.Row.{row_before}
 use Rattle.rows.specs.Layout.{rows_in}
 use Rattle.rows.proofs.Order.{row_order}
@@ -47,4 +47,4 @@ returns c =
     let s = size a.set.now c.requires.0 in
     let o = c.loop-j.invariant.order in
     let e : c.loop-j.j ≡ get_or a.set.now 1 0 = omega arith in
-    subst (λ (n : ℕ). Sought (rows_in a.set.now) (row_is a.row) (record { at = n; found = false })) e (seek_end (rows_in a.set.now) (row_is a.row) c.loop-j.j c.loop-j.invariant (omega arith))
+    subst (λ (n : ℕ). Sought (rows_in a.set.now) (row_is a.row) (Err n)) e (seek_end (rows_in a.set.now) (row_is a.row) c.loop-j.j c.loop-j.invariant (omega arith))
