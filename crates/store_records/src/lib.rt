@@ -12,6 +12,7 @@ ghost use Rattle.certificates.specs.Steps.{sound_at, pair_at, ShortRow, Follows,
 use crate::record::{record_before, sound_record, sound_term, term_before};
 use certificates::{CAPACITY, RECORD_WORDS, ROW_IN_RECORD, STORE_WORDS};
 use records::record_at;
+use row_words::wide;
 
 const FIRST_ATOM: usize = ROW_IN_RECORD + 1;
 
@@ -34,14 +35,20 @@ fn pair(words: &[u32], at: usize) -> usize
 }
 
 // Is the record of this polarity, with a sound row of one atom or two? The longer rows are left to `sound_at`. Polarity and width are compared as one number.
+// By steps: as one expression it makes the test of a store a fifth slower.
 fn short_row(words: &[u32], polarity: u32) -> bool
     requires { length words.now ≡ record_words }
     ensures { result ≡ true → ShortRow words.now polarity }
 {
-    let one_atom = polarity as usize + 4294967296;
+    if pair(words, FIRST_ATOM + 2) != 0 {
+        return false;
+    }
+    let one_atom = wide(polarity) + 4294967296;
     let kind = pair(words, 2);
-    pair(words, FIRST_ATOM + 2) == 0
-        && (kind == one_atom + 4294967296 || kind == one_atom && words[FIRST_ATOM + 1] == 0)
+    if kind == one_atom {
+        return words[FIRST_ATOM + 1] == 0;
+    }
+    kind == one_atom + 4294967296
 }
 
 // Does `b`, with a short row, come behind `a` of the same name: by its first two atoms, or with the same row by its term? An unused second atom is 0, and so
@@ -75,17 +82,25 @@ fn run_end(store: &[u32], count: usize, start: usize) -> usize
     let first = record_at(store, RECORD_WORDS, start);
     let owner = pair(first, 0);
     let polarity = first[2];
-    for i in start + 1..count {
+    let mut i = start + 1;
+    // A `while` with a test each: as a `for`, or with the tests in one, it makes the test of a store half as long again.
+    while i < count {
         let this = record_at(store, RECORD_WORDS, i);
-        if pair(this, 0) != owner
-            || !short_row(this, polarity)
-            || !sound_term(this)
-            || !follows(record_at(store, RECORD_WORDS, i - 1), this)
-        {
+        if pair(this, 0) != owner {
             return i;
         }
+        if !short_row(this, polarity) {
+            return i;
+        }
+        if !sound_term(this) {
+            return i;
+        }
+        if !follows(record_at(store, RECORD_WORDS, i - 1), this) {
+            return i;
+        }
+        i += 1;
     }
-    count
+    i
 }
 
 /// Is the store long enough, its count in range, and each record sound and in order?
