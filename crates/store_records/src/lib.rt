@@ -52,7 +52,7 @@ fn short_row(words: &[u32], polarity: u32) -> bool
 }
 
 // Does `b`, with a short row, come behind `a` of the same name: by its first two atoms, or with the same row by its term? An unused second atom is 0, and so
-// comes before every other, as the shorter row does.
+// comes before every other, as the shorter row does. By steps, so that each word is read once.
 fn follows(a: &[u32], b: &[u32]) -> bool
     requires { (length a.now ≡ record_words) × (length b.now ≡ record_words) }
     ensures { result ≡ true → Follows a.now b.now }
@@ -123,6 +123,7 @@ pub fn sound_store(store: &[u32]) -> bool
 }
 
 /// How many records of a sound store come before the certificate: its place among them, by binary search.
+// A loop: `partition_point` asks for a test that may always be called, and only sound records are compared.
 pub fn place_of(store: &[u32], certificate: &[u32]) -> usize
     requires { (sound_store store.now ≡ true) × (sound_record certificate.now ≡ true) }
     ensures { result ≡ place_in record_before (records store.now) certificate.now }

@@ -37,7 +37,7 @@ pub fn sound_record(words: &[u32]) -> bool
     sound_certificate(words) && sound_term(words)
 }
 
-// Does the term of `a` come before that of `b`, by the first minute, then by the end?
+/// Does the term of `a` come before that of `b`, by the first minute, then by the end?
 pub fn term_before(a: &[u32], b: &[u32]) -> bool
     requires { (length a.now ≡ record_words) × (length b.now ≡ record_words) }
     ensures { result ≡ words_before (record_term a.now) (record_term b.now) }
@@ -50,7 +50,8 @@ pub fn term_before(a: &[u32], b: &[u32]) -> bool
     a[TERM_IN_RECORD + 1] < b[TERM_IN_RECORD + 1]
 }
 
-// Does `a` come before `b`? Key, name and polarity nearly always decide it; where these are the same the rows do, and where these are, the terms.
+/// Does `a` come before `b`? Key, name and polarity nearly always decide it; where these are the same the rows do, and where these are, the terms.
+// By `match`: as an `Ordering` of slices joined by `then_with`, it makes the test of a store of many names nearly twice as long.
 pub fn record_before(a: &[u32], b: &[u32]) -> bool
     requires { (sound_record a.now ≡ true) × (sound_record b.now ≡ true) }
     ensures { result ≡ record_before a.now b.now }
