@@ -1,3 +1,3 @@
 pub mod Holding
-pub mod Walking
 pub mod Copying
+pub mod Searching

@@ -1,4 +1,4 @@
-// The names that links reach from a name, itself included: document 02, N5. A name that is found lies in two words, its key and its number.
+// The names that links reach from a name, itself included. A name that is found lies in two words, its key and its number.
 #![tactic(auto)]
 
 ghost use Rattle.std.specs.Prelude.{◌+◌, ◌*◌, ◌≤◌, ◌<◌, ◌≡◌, true, length};
@@ -9,6 +9,15 @@ ghost use Rattle.read_links.specs.Reached.{found_room, RoomFor, Search, FirstFro
 use certificates::LINK_WORDS;
 use records::count_before;
 use row_words::wide;
+use rows::Polarity;
+
+/// A key's list: its number among the key's lists, and whether it says which rows it has, or which it has not.
+#[derive(Clone, Copy, Debug, PartialEq, Eq)]
+pub struct Name {
+    pub key: u32,
+    pub number: u32,
+    pub polarity: Polarity,
+}
 
 // Room for the names found: the one that the search starts from, and the second of each link.
 pub const FOUND_ROOM: usize = 514;

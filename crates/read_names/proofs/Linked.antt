@@ -5,9 +5,7 @@ use mathlib.Core.Logic.{◌⊎◌, inl, inr, ◌↔◌}
 use mathlib.Core.Bool.{Bool, true, false}
 use mathlib.Core.List.{List, [], ◌∷◌, ◌++◌}
 use native.Mathlib.Omega.{arith}
-use lib.Dec.{ltb}
 use lib.ListN.{length, get_or}
-use borrow.Author.Tests.{ltb-true, ltb-false}
 use Rattle.rows.specs.Ordered.{◌∈◌, lists, insert, join}
 use Rattle.rows.specs.Row.{Row, row_before}
 use Rattle.rows.specs.Name.{polarity_of}
@@ -24,7 +22,6 @@ use Rattle.sets.proofs.Standing.{formed_fit, formed_few, written_stands}
 use Rattle.certificates.specs.Certificate.{holds_at}
 use Rattle.certificates.specs.Store.{sound_store, certificates_at}
 use Rattle.certificates.specs.NamePart.{name_part}
-use Rattle.certificates.specs.Steps.{record_in}
 use Rattle.certificates.specs.Link.{Named}
 use Rattle.certificates.proofs.Sound.{sound_record_lem}
 use Rattle.meaning.specs.Evidence.{joined}
@@ -33,15 +30,19 @@ use Rattle.read_values.specs.Answers.{Filled, Empty}
 use Rattle.read_links.specs.Reached.{links_of, names_in, name_in, SayLinked, SayReached}
 use Rattle.read_links.proofs.Names.{names_last, name-∈, ∈-name}
 use Rattle.read_values.proofs.Answers.{stands_filled}
-use Rattle.read_steps.proofs.Inserting.{Listed, NoRoom}
-use Rattle.read_held.specs.Held.{Records, row_at, rows_held, SayFound}
-use Rattle.read_names.specs.Reached.{part_of, own_rows, name_rows, HeldFor, SayJoined, SayLooking, SayListed, LookedUp, SayLookup}
-use Rattle.read_names.specs.declared.Lookup.TheVariants as Lookup
+use Rattle.read_steps.proofs.Inserting as inserting
+use Rattle.read_held.specs.Held.{Records, Copied, TooMany, row_at, rows_held, SayFound}
+use Rattle.refusals.specs.declared.Refusal.{Refusal}
+use Rattle.refusals.specs.declared.Refusal.TheVariants.{TooManyRows}
+use Rattle.rows.specs.Sets.{only, listing, has}
+use Rattle.rows.proofs.LayoutLaws.{formed_listing}
+use Rattle.read_names.specs.Reached.{records_of, own_rows, name_rows, HeldFor, Joined, NotJoined, SayLooking, Listed, Belongs, Large}
 use Rattle.read_names.specs.declared.reached.Looking.{Looking}
-use Rattle.read_held.proofs.Holding.{rows_none, rows_hold, rows_skip, rows_within, rows_most, rows_ascend}
-use Rattle.read_held.proofs.Walking.{five_in}
-use Rattle.read_held.proofs.Copying.{wide, rows_wide}
-use Rattle.read_names.proofs.Own.{own_rows_lem, part_few, part_records}
+use Rattle.certificates.specs.Certificate.{record_row, sound_record}
+use Rattle.rows.specs.Layout.{pieces}
+use Rattle.read_held.proofs.Holding.{rows_none, rows_few, rows_ascend}
+use Rattle.read_held.proofs.Copying.{record_wide, rows_of, rows_put, rows_same, all_rows, rows_within, rows_wide}
+use Rattle.read_names.proofs.Own.{own_rows_lem, records_few}
 
 -- ---- what a name's rows are
 
@@ -51,7 +52,7 @@ module _ (minute : ℕ) (store links : List ℕ) (key name v : ℕ) where
 
   module _ (sound : sound_store store ≡ true) (small : v ≤ 1) where
     pub alone_rows : {b : Bool} → SayLinked links v key name b → b ≡ false → {part : List ℕ} → part ≡ name_part store key name v →
-        name_rows minute store links key name v ≡ rows_held minute part (length part / 10)
+        name_rows minute store links key name v ≡ rows_held minute (pieces 10 (length part / 10) part)
     alone_rows {b} s f e =
         joined_alone (links_of links) (certificates_at minute store) key name (polarity_of v)
         (λ l i p h. let t : b ≡ true = s.means.1 (record { link = l; held = i; polar = p; here = h }) in never t f)
@@ -80,8 +81,8 @@ module _ {before : List ℕ} where
   pub joining_start : (P : Row → Type 0) → Filled before → ((x : Row) → P x → ⊥) → Joining P before before
   joining_start P f none = record { size = refl; filled = f; form = refl; rows = λ x. (λ i. inl i, λ t. elim t [ inl i ↦ i | inr p ↦ absurd (none x p) ]) }
 
-  pub joining_all : {P : Row → Type 0} {area : List ℕ} → Joining P before area → SayJoined P before true area
-  joining_all j = record { filled = λ e. j.filled; form = λ e. j.form; rows = λ e. j.rows; many = λ e. never refl e }
+  pub joining_all : {P : Row → Type 0} {area : List ℕ} → Joining P before area → Joined P before area
+  joining_all j = record { filled = j.filled; form = j.form; rows = j.rows }
 
   module _ {P Q : Row → Type 0} {area : List ℕ} (j : Joining P before area) where
     -- the same rows, said otherwise
@@ -97,92 +98,83 @@ module _ {before : List ℕ} where
     }
 
     -- more of them, by a call that says so
-    pub joining_more : {R : Row → Type 0} {b : Bool} {now : List ℕ} → ((x : Row) → Q x ↔ (P x ⊎ R x)) → length now ≡ length area → SayJoined R area b now → b ≡ true → Joining Q before now
-    joining_more {now} more same s e = record {
+    pub joining_more : {R : Row → Type 0} {now : List ℕ} → ((x : Row) → Q x ↔ (P x ⊎ R x)) → length now ≡ length area → Joined R area now → Joining Q before now
+    joining_more {now} more same s = record {
       size = same ∙ j.size;
-      filled = s.filled e;
-      form = s.form e ∙ j.form;
-      rows = λ x. s.rows e x then (
+      filled = s.filled;
+      form = s.form ∙ j.form;
+      rows = λ x. s.rows x then (
         λ t. elim t [ inl i ↦ elim ((j.rows x).0 i) [ inl k ↦ inl k | inr p ↦ inr ((more x).1 (inl p)) ] | inr r ↦ inr ((more x).1 (inr r)) ],
         λ t. elim t [ inl k ↦ inl ((j.rows x).1 (inl k)) | inr q ↦ elim ((more x).0 q) [ inl p ↦ inl ((j.rows x).1 (inr p)) | inr r ↦ inr r ] ],
       );
     }
 
     -- too many of them, and so too many of more
-    pub joining_full : {R : Row → Type 0} {b : Bool} {now last : List ℕ} → ((x : Row) → (P x ⊎ R x) → Q x) → SayJoined R area b now → b ≡ false → SayJoined Q before false last
-    joining_full more s e = record {
-      filled = λ f. never f refl;
-      form = λ f. never f refl;
-      rows = λ f. never f refl;
-      many = λ f ys a h. s.many e ys a (λ x t. elim t [
+    pub joining_full : {R : Row → Type 0} {e : Refusal} → ((x : Row) → (P x ⊎ R x) → Q x) → NotJoined R area e → NotJoined Q before e
+    joining_full more s = (
+      s.0,
+      λ ys a h. s.1 ys a (λ x t. elim t [
         | inl i ↦ elim ((j.rows x).0 i) [ inl k ↦ h x (inl k) | inr p ↦ h x (inr (more x (inl p))) ]
         | inr r ↦ h x (inr (more x (inr r)))
-      ]);
-    }
+      ]),
+    )
 
 -- the row of a record, loaded
-pub record Loaded (rs : List ℕ) (i : ℕ) (r : HeldRow.Row) : Type 0 where
-  pub is : row_is r ≡ row_at rs i
+pub record Loaded (w : List ℕ) (r : HeldRow.Row) : Type 0 where
+  pub is : row_is r ≡ record_row w
   pub some : 1 ≤ r.width
   pub few : r.width ≤ 4
   pub wide : Width (row_is r)
 
-pub loaded : {rs : List ℕ} {count i : ℕ} → Records rs count → i < count → {r : HeldRow.Row} → five_is r ≡ five_at rs (10 * i + 3) → Loaded rs i r
+pub loaded : (w : List ℕ) → sound_record w ≡ true → (r : HeldRow.Row) → five_is r ≡ five_at w 3 → Loaded w r
 unfolding five_is row_is
-loaded {rs} {i} records h {r} e =
-    let five : five_is r ≡ five_at (record_in rs i) 3 = e ∙ sym (five_in rs i) in
-    let width : r.width ≡ get_or (five_at (record_in rs i) 3) 0 0 = ap (λ (l : List ℕ). get_or l 0 0) five in
-    let s = sound_width (five_at (record_in rs i) 3) (sound_record_lem (record_in rs i) (records.sound i h)).row in
-    let is : row_is r ≡ row_at rs i = ap row_in five in
-    record { is = is; some = omega (arith, s.some); few = omega (arith, s.few); wide = subst Width (sym is) (wide records i h) }
+loaded w sound r e =
+    let width : r.width ≡ get_or (five_at w 3) 0 0 = ap (λ (l : List ℕ). get_or l 0 0) e in
+    let s = sound_width (five_at w 3) (sound_record_lem w sound).row in
+    let is : row_is r ≡ record_row w = ap row_in e in
+    record { is = is; some = omega (arith, s.some); few = omega (arith, s.few); wide = subst Width (sym is) (record_wide w sound) }
 
 -- one row inserted
-pub one_listed : {area now : List ℕ} {r q : Row} → r ≡ q → Listed area r now → SayJoined (λ x. x ≡ q) area true now
-one_listed {area} {now} {r} is l = subst (λ (y : Row). SayJoined (λ x. x ≡ y) area true now) is (record {
-  filled = λ e. l.filled;
-  form = λ e. l.form;
-  rows = λ e x.
+pub one_listed : {area now : List ℕ} {r q : Row} → r ≡ q → inserting.Listed area r now → Joined (λ x. x ≡ q) area now
+one_listed {area} {now} {r} is l = subst (λ (y : Row). Joined (λ x. x ≡ y) area now) is (record {
+  filled = l.filled;
+  form = l.form;
+  rows = λ x.
       subst (λ (xs : List Row). (x ∈ xs) ↔ ((x ∈ rows_in area) ⊎ (x ≡ r))) (sym l.rows)
       (insert-∈ row_before row_order r (rows_in area) x then (λ t. elim t [ inl e ↦ inr e | inr i ↦ inl i ], λ t. elim t [ inl i ↦ inr i | inr e ↦ inl e ]));
-  many = λ e. never refl e;
 })
 
-pub one_full : {area now : List ℕ} {r q : Row} → r ≡ q → Filled area → NoRoom area r now → SayJoined (λ x. x ≡ q) area false now
-one_full {area} {now} {r} is f n = subst (λ (y : Row). SayJoined (λ x. x ≡ y) area false now) is (record {
-  filled = λ e. never e refl;
-  form = λ e. never e refl;
-  rows = λ e. never e refl;
-  many = λ e ys a h.
+pub one_full : {area now : List ℕ} {r q : Row} → r ≡ q → Filled area → inserting.NoRoom area r now → NotJoined (λ x. x ≡ q) area TooManyRows
+one_full {area} {now} {r} is f n = subst (λ (y : Row). NotJoined (λ x. x ≡ y) area TooManyRows) is (
+  refl,
+  λ ys a h.
       let w = within_shorter row_before row_order (insert row_before r (rows_in area)) ys (insert_ascending row_before row_order r (rows_in area) (sound_ascending area f.sound)) (ascending_true row_before row_order ys a)
       (λ x i. elim ((insert-∈ row_before row_order r (rows_in area) x).0 i) [ inl q ↦ h x (inr q) | inr m ↦ h x (inl m) ]) in
-      omega (arith, w, n.many);
-})
+      omega (arith, w, n.many),
+)
 
 -- the rows of one record more
-module _ (minute : ℕ) (rs : List ℕ) (i : ℕ) where
+module _ (minute : ℕ) (rs : List (List ℕ)) (i : ℕ) where
   abbrev HeldBefore : ℕ → Row → Type 0
-  HeldBefore j x = x ∈ rows_held minute rs j
+  HeldBefore j x = x ∈ rows_of minute rs j
 
-  pub record_adds : holds_at minute (record_in rs i) ≡ true → (x : Row) → HeldBefore (i + 1) x ↔ (HeldBefore i x ⊎ (x ≡ row_at rs i))
-  record_adds e x =
-      let n : i + 1 ≡ suc i = omega arith in
-      subst (λ (xs : List Row). (x ∈ xs) ↔ ((x ∈ rows_held minute rs i) ⊎ (x ≡ row_at rs i))) (sym (ap (rows_held minute rs) n ∙ rows_hold minute rs i e))
-      (insert-∈ row_before row_order (row_at rs i) (rows_held minute rs i) x then (λ t. elim t [ inl e ↦ inr e | inr i ↦ inl i ], λ t. elim t [ inl i ↦ inr i | inr e ↦ inl e ]))
+  pub record_adds : i < length rs → holds_at minute (get_or rs i []) ≡ true → (x : Row) → HeldBefore (i + 1) x ↔ (HeldBefore i x ⊎ (x ≡ row_at rs i))
+  record_adds h e x =
+      subst (λ (xs : List Row). (x ∈ xs) ↔ ((x ∈ rows_of minute rs i) ⊎ (x ≡ row_at rs i))) (sym (rows_put minute rs h e))
+      (insert-∈ row_before row_order (row_at rs i) (rows_of minute rs i) x then (λ t. elim t [ inl e ↦ inr e | inr i ↦ inl i ], λ t. elim t [ inl i ↦ inr i | inr e ↦ inl e ]))
 
-  pub record_adds_nothing : holds_at minute (record_in rs i) ≡ false → (x : Row) → HeldBefore i x ↔ HeldBefore (i + 1) x
-  record_adds_nothing e x =
-      let n : i + 1 ≡ suc i = omega arith in
-      subst (λ (xs : List Row). (x ∈ rows_held minute rs i) ↔ (x ∈ xs)) (sym (ap (rows_held minute rs) n ∙ rows_skip minute rs i e)) iff_refl
+  pub record_adds_nothing : i < length rs → holds_at minute (get_or rs i []) ≡ false → (x : Row) → HeldBefore i x ↔ HeldBefore (i + 1) x
+  record_adds_nothing h e x = subst (λ (xs : List Row). (x ∈ rows_of minute rs i) ↔ (x ∈ xs)) (sym (rows_same minute rs h e)) iff_refl
 
-  pub record_among : {count : ℕ} → i < count → holds_at minute (record_in rs i) ≡ true → (x : Row) → HeldBefore i x ⊎ (x ≡ row_at rs i) → HeldBefore count x
-  record_among {count} h e x t = rows_within minute rs (i + 1) count (omega arith) x ((record_adds e x).1 t)
+  pub record_among : i < length rs → holds_at minute (get_or rs i []) ≡ true → (x : Row) → HeldBefore i x ⊎ (x ≡ row_at rs i) → x ∈ rows_held minute rs
+  record_among h e x t = rows_within minute rs (i + 1) x ((record_adds h e x).1 t)
 
-  pub all_records : {count : ℕ} → i ≤ count → count ≤ i → (x : Row) → HeldBefore i x ↔ HeldBefore count x
-  all_records {count} h l x = (rows_within minute rs i count h x, rows_within minute rs count i l x)
+  pub all_records : length rs ≤ i → (x : Row) → HeldBefore i x ↔ (x ∈ rows_held minute rs)
+  all_records h x = subst (λ (xs : List Row). HeldBefore i x ↔ (x ∈ xs)) (all_rows minute rs h) iff_refl
 
-pub no_records : (minute : ℕ) (rs : List ℕ) (x : Row) → x ∈ rows_held minute rs 0 → ⊥
+pub no_records : (minute : ℕ) (rs : List (List ℕ)) (x : Row) → x ∈ rows_of minute rs 0 → ⊥
 unfolding ◌∈◌
-no_records minute rs x m = subst (λ (xs : List Row). x ∈ xs) (rows_none minute rs) m
+no_records minute rs x m = subst (λ (xs : List Row). x ∈ xs) (rows_none minute) m
 
 -- the rows of one name more
 module _ (minute : ℕ) (store : List ℕ) (v : ℕ) (found : List ℕ) (i : ℕ) where
@@ -201,10 +193,14 @@ module _ (minute : ℕ) (store : List ℕ) (v : ℕ) (found : List ℕ) (i : ℕ
       into : {y : Named} → (y ∈ names_in i found) ⊎ (y ≡ name_in found i) → y ∈ names_in (i + 1) found
       into {y} t = subst (λ (ys : List Named). y ∈ ys) (sym last) ((∈-last (names_in i found) (name_in found i) y).1 t)
 
--- what is joined from a name's part are its own rows
-pub part_joined : (minute v : ℕ) (store : List ℕ) (y : Named) {part before now : List ℕ} {b : Bool} → part ≡ part_of store v y →
-    SayJoined (λ x. x ∈ rows_held minute part (length part / 10)) before b now → SayJoined (λ x. x ∈ own_rows minute store v y) before b now
-part_joined minute v store y {before} {now} {b} e j = subst (λ (p : List ℕ). SayJoined (λ x. x ∈ rows_held minute p (length p / 10)) before b now) e j
+-- what is joined from a name's records are its own rows
+pub part_joined : (minute v : ℕ) (store : List ℕ) (y : Named) {rs : List (List ℕ)} {before now : List ℕ} → rs ≡ records_of store v y →
+    Joined (λ x. x ∈ rows_held minute rs) before now → Joined (λ x. x ∈ own_rows minute store v y) before now
+part_joined minute v store y {before} {now} e j = subst (λ (l : List (List ℕ)). Joined (λ x. x ∈ rows_held minute l) before now) e j
+
+pub part_full : (minute v : ℕ) (store : List ℕ) (y : Named) {rs : List (List ℕ)} (before : List ℕ) {r : Refusal} → rs ≡ records_of store v y →
+    NotJoined (λ x. x ∈ rows_held minute rs) before r → NotJoined (λ x. x ∈ own_rows minute store v y) before r
+part_full minute v store y before {r} e j = subst (λ (l : List (List ℕ)). NotJoined (λ x. x ∈ rows_held minute l) before r) e j
 
 names_within : (found : List ℕ) (i count : ℕ) → i ≤ count → (y : Named) → y ∈ names_in i found → y ∈ names_in count found
 names_within found i count h y m =
@@ -250,14 +246,14 @@ module _ (minute : ℕ) (store : List ℕ) (v : ℕ) (found : List ℕ) (x : Row
     most = omega arith;
   }
 
-  module _ {total : ℕ} {held : Bool} {i : ℕ} (l : Looked total held i) {part : List ℕ} (is : part ≡ part_of store v (name_in found i)) (sound : sound_store store ≡ true)
-      {b : Bool} (f : SayFound part (length part / 10) minute x b) where
+  module _ {total : ℕ} {held : Bool} {i : ℕ} (l : Looked total held i) {rs : List (List ℕ)} (is : rs ≡ records_of store v (name_in found i)) (sound : sound_store store ≡ true)
+      {b : Bool} (f : SayFound minute rs x b) where
     own_found : (b ≡ true) ↔ (x ∈ own_rows minute store v (name_in found i))
     own_found =
-        subst (λ (p : List ℕ). (b ≡ true) ↔ (x ∈ rows_held minute p (length p / 10))) is
+        subst (λ (p : List (List ℕ)). (b ≡ true) ↔ (x ∈ rows_held minute p)) is
         ((λ e. (lists_iff row_before row_order _ x).0 (T_true (f.means ∙ e)), λ m. sym f.means ∙ true_T _ ((lists_iff row_before row_order _ x).1 m)))
 
-    more : {h : Bool} → (h ≡ true) ↔ ((held ≡ true) ⊎ (b ≡ true)) → Looked (total + length part / 10) h (i + 1)
+    more : {h : Bool} → (h ≡ true) ↔ ((held ≡ true) ⊎ (b ≡ true)) → Looked (total + length rs) h (i + 1)
     more {h} either = record {
       means = either then (
         λ t. (name_adds minute store v found i x).1 (elim t [ inl e ↦ inl (l.means.0 e) | inr e ↦ inr (own_found.0 e) ]),
@@ -267,19 +263,17 @@ module _ (minute : ℕ) (store : List ℕ) (v : ℕ) (found : List ℕ) (x : Row
       order = join_ascending row_before row_order _ l.rows l.order;
       all = λ y t. (join-∈ row_before row_order _ l.rows y).1 (elim ((name_adds minute store v found i y).0 t) [ inl u ↦ inr (l.all y u) | inr m ↦ inl m ]);
       few =
-          let most = rows_most minute (part_of store v (name_in found i)) 0 (length (part_of store v (name_in found i)) / 10) (omega arith) in
-          let none = rows_none minute (part_of store v (name_in found i)) in
-          let size : length part / 10 ≡ length (part_of store v (name_in found i)) / 10 = ap (λ (p : List ℕ). length p / 10) is in
+          let most = rows_few minute (records_of store v (name_in found i)) in
           let n = join_shorter row_before row_order (own_rows minute store v (name_in found i)) l.rows in
           let few = l.few in
-          omega (arith, most, ap length none, size, n, few);
-      most = let m = l.most in omega (arith, part_few store sound (name_in found i).key (name_in found i).name v is, m);
+          omega (arith, most, ap (λ (p : List (List ℕ)). length p) is, n, few);
+      most = let m = l.most in omega (arith, records_few store sound (name_in found i).key (name_in found i).name v refl, ap (λ (p : List (List ℕ)). length p) is, m);
     }
 
-    pub looked_found : b ≡ true → Looked (total + length part / 10) true (i + 1)
+    pub looked_found : b ≡ true → Looked (total + length rs) true (i + 1)
     looked_found e = more (λ t. inr e, λ t. refl)
 
-    pub looked_not : b ≡ false → Looked (total + length part / 10) held (i + 1)
+    pub looked_not : b ≡ false → Looked (total + length rs) held (i + 1)
     looked_not e = more (λ t. inl t, λ t. elim t [ inl h ↦ h | inr q ↦ never q e ])
 
   pub looked_all : {total : ℕ} {held : Bool} {i count : ℕ} → Looked total held i → i ≤ count → count ≤ i →
@@ -301,33 +295,35 @@ module _ (minute : ℕ) (store links : List ℕ) (key name v : ℕ) (sound : sou
   abbrev theirs : Row → Type 0
   theirs = HeldFor minute store v (names_in count found)
 
-  too_many_rows_lem : {before now : List ℕ} {b : Bool} → rows_in before ≡ [] → SayJoined theirs before b now → b ≡ false → 128 < length rows
+  too_many_rows_lem : (before : List ℕ) {e : Refusal} → rows_in before ≡ [] → NotJoined theirs before e → 128 < length rows
   unfolding ◌∈◌
-  too_many_rows_lem none j e =
-      j.many e rows (true_ascending row_before row_order rows (name_ascends minute store links key name v)) (λ x t. elim t [
+  too_many_rows_lem before none j =
+      j.1 rows (true_ascending row_before row_order rows (name_ascends minute store links key name v)) (λ x t. elim t [
         | inl i ↦ absurd (subst (λ (xs : List Row). x ∈ xs) none i)
         | inr p ↦ (reached_rows minute store links key name v sound small s x).1 p
       ])
 
-  joined_rows : {before now : List ℕ} {b : Bool} → rows_in before ≡ [] → SayJoined theirs before b now → b ≡ true → rows_in now ≡ rows
+  joined_rows : {before now : List ℕ} → rows_in before ≡ [] → Joined theirs before now → rows_in now ≡ rows
   unfolding ◌∈◌
-  joined_rows {before} {now} none j e = ascending_unique row_before row_order (rows_in now) rows (sound_ascending now (j.filled e).sound) (name_ascends minute store links key name v) (λ x.
-      j.rows e x then (
+  joined_rows {before} {now} none j = ascending_unique row_before row_order (rows_in now) rows (sound_ascending now j.filled.sound) (name_ascends minute store links key name v) (λ x.
+      j.rows x then (
         λ t. elim t [ inl i ↦ absurd (subst (λ (xs : List Row). x ∈ xs) none i) | inr p ↦ (reached_rows minute store links key name v sound small s x).1 p ],
         λ i. inr ((reached_rows minute store links key name v sound small s x).0 i),
       ))
 
-  rows_few : {before now : List ℕ} {b : Bool} → rows_in before ≡ [] → SayJoined theirs before b now → b ≡ true → length rows ≤ 128
-  rows_few {before} {now} none j e = omega (arith, ap length (joined_rows none j e), rows_count now, (true_sound now (j.filled e).sound).count)
+  reached_few : {before now : List ℕ} → rows_in before ≡ [] → Joined theirs before now → length rows ≤ 128
+  reached_few {before} {now} none j = omega (arith, ap length (joined_rows none j), rows_count now, (true_sound now j.filled.sound).count)
 
-  pub say_listed : {before now : List ℕ} {b : Bool} → Empty v before → SayJoined theirs before b now → SayListed v rows b now
+  pub say_listed : {before now : List ℕ} → Empty v before → Joined theirs before now → Listed (formed v rows) now
   unfolding set_in
-  say_listed {now} m j = record {
+  say_listed {now = now} m j = record {
     filled = j.filled;
-    set = λ e. ap (λ (f : ℕ). formed f (rows_in now)) (j.form e ∙ m.is) ∙ ap (formed v) (joined_rows m.none j e);
-    few = λ e. rows_few m.none j e;
-    many = λ e. too_many_rows_lem m.none j e;
+    set = ap (λ (f : ℕ). formed f (rows_in now)) (j.form ∙ m.is) ∙ ap (formed v) (joined_rows m.none j);
+    few = omega (arith, reached_few m.none j, ap length (formed_listing v rows));
   }
+
+  pub say_large : {before : List ℕ} {e : Refusal} → Empty v before → NotJoined theirs before e → Large (formed v rows) e
+  say_large m j = (j.0, omega (arith, too_many_rows_lem _ m.none j, ap length (formed_listing v rows)))
 
   -- a row looked up: by the names, where their rows are few
   module _ {x : Row} {l : Looking} (looking : SayLooking minute store v (names_in count found) x l) where
@@ -335,57 +331,49 @@ module _ (minute : ℕ) (store links : List ℕ) (key name v : ℕ) (sound : sou
     is_listed_lem = same_test _ _ (lists_iff row_before row_order rows x then reached_rows minute store links key name v sound small s x then iff_sym looking.means then
         (λ e. T_true e, λ t. true_T _ t))
 
-    pub look_few : l.records ≤ 128 → SayLookup rows x (Lookup.Listed l.held)
-    unfolding LookedUp
+    pub look_few : l.records ≤ 128 → Belongs (only rows) x l.held
+    unfolding listing has
     look_few h = record {
-      means = (
-        (let w = within_shorter row_before row_order rows looking.rows (name_ascends minute store links key name v) (ascending_true row_before row_order looking.rows looking.order)
-            (λ y i. looking.all y ((reached_rows minute store links key name v sound small s y).0 i)) in
-            omega (arith, w, looking.few)),
-        is_listed_lem,
-      );
+      few =
+          let w = within_shorter row_before row_order rows looking.rows (name_ascends minute store links key name v) (ascending_true row_before row_order looking.rows looking.order)
+          (λ y i. looking.all y ((reached_rows minute store links key name v sound small s y).0 i)) in
+          omega (arith, w, looking.few);
+      means = is_listed_lem;
     }
 
-    pub look_joined : {before now : List ℕ} {b : Bool} → rows_in before ≡ [] → SayJoined theirs before b now → b ≡ true → SayLookup rows x (Lookup.Listed l.held)
-    unfolding LookedUp
-    look_joined none j e = record { means = (rows_few none j e, is_listed_lem) }
+    pub look_joined : {before now : List ℕ} → rows_in before ≡ [] → Joined theirs before now → Belongs (only rows) x l.held
+    unfolding listing has
+    look_joined none j = record { few = reached_few none j; means = is_listed_lem }
 
-    pub look_too_many : {before now : List ℕ} {b : Bool} → rows_in before ≡ [] → SayJoined theirs before b now → b ≡ false → SayLookup rows x Lookup.TooMany
-    unfolding LookedUp
-    look_too_many none j e = record { means = too_many_rows_lem none j e }
+  pub look_too_many : (before : List ℕ) {e : Refusal} → rows_in before ≡ [] → NotJoined theirs before e → Large (only rows) e
+  unfolding listing
+  look_too_many before none j = (j.0, too_many_rows_lem _ none j)
 
 -- ---- a name that no link starts at
 
 module _ (minute : ℕ) (store links : List ℕ) (key name v : ℕ) (sound : sound_store store ≡ true) (small : v ≤ 1) {linked : Bool} (says : SayLinked links v key name linked) (alone : linked ≡ false)
-    {part : List ℕ} (is : part ≡ name_part store key name v) {many : Bool} (told : many ≡ ltb 128 (length (rows_held minute part (length part / 10)))) where
-  abbrev own_held : List Row
-  own_held = rows_held minute part (length part / 10)
+    {rs : List (List ℕ)} (is : rs ≡ records_of store v (record { key = key; name = name })) where
+  all_own : name_rows minute store links key name v ≡ rows_held minute rs
+  all_own = alone_rows minute store links key name v sound small says alone refl ∙ ap (rows_held minute) (sym is)
 
-  all_own : name_rows minute store links key name v ≡ own_held
-  all_own = alone_rows minute store links key name v sound small says alone is
+  pub own_copied : {before area : List ℕ} → Empty v before → Records rs → Copied minute rs before area → Listed (formed v (name_rows minute store links key name v)) area
+  own_copied {before} m records w =
+      let own : List Row = rows_held minute rs in
+      let fit = formed_fit v own (rows_ascend minute rs) (rows_wide records minute) in
+      let s = written_stands fit (formed_few v own w.few) before m.filled.long (w.words ∙ ap (λ (f : ℕ). written (formed f own) before) m.is) in
+      record {
+        filled = stands_filled s;
+        set = s.set ∙ ap (formed v) (sym all_own);
+        few = omega (arith, w.few, ap length all_own, ap length (formed_listing v (name_rows minute store links key name v)));
+      }
 
-  own_many : many ≡ true → 128 < length (name_rows minute store links key name v)
-  own_many e = omega (arith, ltb-true 128 (length own_held) (sym told ∙ e), ap length all_own)
+  pub own_large : {e : Refusal} → TooMany (rows_held minute rs) e → Large (formed v (name_rows minute store links key name v)) e
+  own_large t = (t.0, omega (arith, t.1, ap length all_own, ap length (formed_listing v (name_rows minute store links key name v))))
 
-  pub own_few : many ≡ false → length own_held ≤ 128
-  own_few e = ltb-false 128 (length own_held) (sym told ∙ e)
+  pub own_looked_up : {x : Row} {found : Bool} → length (rows_held minute rs) ≤ 128 → SayFound minute rs x found → Belongs (only (name_rows minute store links key name v)) x found
+  unfolding listing has
+  own_looked_up {x} few f = record { few = omega (arith, few, ap length all_own); means = ap (λ (xs : List Row). lists row_before xs x) all_own ∙ f.means }
 
-  rows_own_few : many ≡ false → length (name_rows minute store links key name v) ≤ 128
-  rows_own_few e = omega (arith, own_few e, ap length all_own)
-
-  pub own_too_many : {area : List ℕ} → many ≡ true → SayListed v (name_rows minute store links key name v) false area
-  own_too_many e = record { filled = λ f. never f refl; set = λ f. never f refl; few = λ f. never f refl; many = λ f. own_many e }
-
-  pub own_copied : {before area : List ℕ} → Empty v before → many ≡ false → area ≡ written (formed (get_or before 0 0) own_held) before → SayListed v (name_rows minute store links key name v) true area
-  own_copied {before} m e w =
-      let fit = formed_fit v own_held (rows_ascend minute part (length part / 10)) (rows_wide (part_records store sound key name v is) minute (length part / 10) (omega arith)) in
-      let s = written_stands fit (formed_few v own_held (own_few e)) before m.filled.long (w ∙ ap (λ (f : ℕ). written (formed f own_held) before) m.is) in
-      record { filled = λ f. stands_filled s; set = λ f. s.set ∙ ap (formed v) (sym all_own); few = λ f. rows_own_few e; many = λ f. never refl f }
-
-  pub own_looked_up : {x : Row} {found : Bool} → many ≡ false → SayFound part (length part / 10) minute x found → SayLookup (name_rows minute store links key name v) x (Lookup.Listed found)
-  unfolding LookedUp
-  own_looked_up {x} e f = record { means = (rows_own_few e, ap (λ (xs : List Row). lists row_before xs x) all_own ∙ f.means) }
-
-  pub own_not_looked_up : {x : Row} → many ≡ true → SayLookup (name_rows minute store links key name v) x Lookup.TooMany
-  unfolding LookedUp
-  own_not_looked_up e = record { means = own_many e }
+  pub own_not_looked_up : {e : Refusal} → TooMany (rows_held minute rs) e → Large (only (name_rows minute store links key name v)) e
+  unfolding listing
+  own_not_looked_up t = (t.0, omega (arith, t.1, ap length all_own))

@@ -4,36 +4,48 @@ use mathlib.Core.Path.{◌≡◌, refl, sym, ap, subst, ◌∙◌}
 use mathlib.Core.Bool.{Bool, true, false, not}
 use mathlib.Core.List.{List, [], ◌∷◌}
 use native.Mathlib.Omega.{arith}
-use lib.ListN.{length, get_or}
+use lib.ListN.{length, get_or, take}
 use borrow.Author.Tests.{lt-leb, le-leb}
+use Rattle.refusals.specs.declared.Refusal.{Refusal}
+use Rattle.refusals.specs.Numbers.{number}
 use Rattle.rows.specs.Ordered.{lists}
-use Rattle.rows.specs.Row.{Row, is_key, first_key, row_before}
+use Rattle.rows.specs.Row.{Row, is_key, first_key}
 use Rattle.rows.specs.Name.{Polarity, plus, minus, polarity_of, polarity_word}
-use Rattle.rows.specs.Sets.{RowSet, listing, has}
-use Rattle.rows.specs.Layout.{rows_in, formed, set_in}
-use Rattle.row_words.specs.Values.{row_is}
+use Rattle.rows.specs.Polarities.{polarity_is, polarity_number}
+use Rattle.rows.specs.declared.Polarity as HeldPolarity
+use Rattle.rows.specs.declared.Polarity.TheVariants.{Plus, Minus}
+use Rattle.rows.specs.Sets.{RowSet, only, listing, has}
+use Rattle.rows.specs.Layout.{row_in, rows_in, formed, set_in}
+use Rattle.row_words.specs.Values.{five_is, row_is}
 use Rattle.row_words.specs.declared.row.Row as HeldRow
 use Rattle.rows.proofs.LayoutLaws.{formed_listing}
-use Rattle.certificates.specs.Stores.{Stores, Held, held_in}
+use Rattle.certificates.specs.Stores.{Held, held_in}
 use Rattle.policy.specs.Syntax.{Term}
 use Rattle.policy.specs.Words.{term_words}
 use Rattle.policy.specs.Held.{term_is}
+use Rattle.policy.specs.declared.Term as HeldTerm
 use Rattle.meaning.specs.Values as values
 use Rattle.meaning.specs.Values.{Values, value}
 use Rattle.meaning.specs.Evidence.{joined, names_held}
-use Rattle.meaning.specs.Reading.{Result, done, refused, after, small}
+use Rattle.std.proofs.Common.{Result, Ok, Err, MatchResult}
+use Rattle.meaning.specs.Reading as reading
+use Rattle.meaning.specs.Reading.{done, refused, after, small}
 use Rattle.policy_places.specs.Places.{At, name_words, SomeName, IsTerm}
+use Rattle.policy_places.proofs.Places.{at_word, at_next, at_skip, at_front, at_long, term_length}
 use Rattle.read_values.specs.Rows.{SayRow}
 use Rattle.read_values.specs.Answers.{Empty, set_read_is, tested_is, IfDone}
-use Rattle.read_names.specs.Reached.{name_rows, SayListed, LookedUp, SayLookup}
-use Rattle.read_names.specs.Names.{SayName, SayBelongs, SayNameHas}
-use Rattle.policy_places.proofs.Places.{at_word, at_next, at_skip, at_front, at_long, term_length}
 use Rattle.read_values.proofs.Answers.{small_few, small_many}
 use Rattle.read_values.specs.declared.Read.TheVariants.{Done, Refused}
 use Rattle.read_values.specs.declared.Tested as Tested
-use Rattle.policy.specs.declared.Term as HeldTerm
-use Rattle.read_names.specs.declared.Lookup.{Lookup}
-use Rattle.read_names.specs.declared.Lookup.TheVariants.{Listed, TooMany}
+use Rattle.read_links.specs.declared.Name as HeldName
+use Rattle.read_names.specs.declared.held.Held as Lent
+use Rattle.read_names.specs.Reached.{Listed, Belongs, Large}
+use Rattle.read_names.specs.Names.{name_set, rows_for, StandsFor, SayName, SayBelongs, SayNameHas}
+
+-- what is told of an answer, said otherwise
+pub told_so : {A E : Type 0} {P Q : A → Type 0} {R S : E → Type 0} (r : Result A E) → MatchResult r P R → ((a : A) → P a → Q a) → ((e : E) → R e → S e) → MatchResult r Q S
+told_so (Ok a) t f g = f a t
+told_so (Err e) t f g = g e t
 
 names_key : (h : Held) (k n : ℕ) (p : Polarity) → is_key k ≡ true → names_held h k n p ≡ formed (polarity_word p) (joined h.links h.certificates k n p)
 unfolding names_held formed polarity_word
@@ -55,15 +67,30 @@ unfolding polarity_word polarity_of
 polarity_back plus = refl
 polarity_back minus = refl
 
+pub polarity_few : (p : HeldPolarity.Polarity) → polarity_number p ≤ 1
+polarity_few Plus = omega arith
+polarity_few Minus = omega arith
+
+-- its number, its word and what it is
+word_is : (p : HeldPolarity.Polarity) → polarity_word (polarity_is p) ≡ polarity_number p
+unfolding polarity_word
+word_is Plus = refl
+word_is Minus = refl
+
+of_number : (p : HeldPolarity.Polarity) → polarity_is p ≡ polarity_of (polarity_number p)
+unfolding polarity_of
+of_number Plus = refl
+of_number Minus = refl
+
 -- a row looked up in a set that is read: it is small, or it is not
 module _ (s : RowSet) {z : RowSet} (e : s ≡ z) (x : Row) (k : ℕ) where
-  looked_up : {a : Result Bool} → length (listing z) ≤ 128 → done (has z x) k ≡ a → after (small s k) (λ y i. done (has y x) i) ≡ a
+  looked_up : {a : reading.Result Bool} → length (listing z) ≤ 128 → done (has z x) k ≡ a → after (small s k) (λ y i. done (has y x) i) ≡ a
   unfolding after
-  looked_up few g = ap (λ (y : RowSet). after (small y k) (λ w i. done (has w x) i)) e ∙ ap (λ (b : Result RowSet). after b (λ w i. done (has w x) i)) (small_few z k few) ∙ g
+  looked_up few g = ap (λ (y : RowSet). after (small y k) (λ w i. done (has w x) i)) e ∙ ap (λ (b : reading.Result RowSet). after b (λ w i. done (has w x) i)) (small_few z k few) ∙ g
 
   not_looked_up : 128 < length (listing z) → after (small s k) (λ y i. done (has y x) i) ≡ refused 13
   unfolding after
-  not_looked_up many = ap (λ (y : RowSet). after (small y k) (λ w i. done (has w x) i)) e ∙ ap (λ (b : Result RowSet). after b (λ w i. done (has w x) i)) (small_many z k many)
+  not_looked_up many = ap (λ (y : RowSet). after (small y k) (λ w i. done (has w x) i)) e ∙ ap (λ (b : reading.Result RowSet). after b (λ w i. done (has w x) i)) (small_many z k many)
 
 -- whether it belongs goes by the form and by whether the row is listed
 module _ {form : ℕ} {listed : Bool} where
@@ -76,6 +103,60 @@ module _ {form : ℕ} {listed : Bool} where
   belongs_complement z =
       let f : suc (form - 1) ≡ form = omega arith in
       record { means = λ xs x l. ap (λ (i : ℕ). has (formed i xs) x) (sym f) ∙ ap not l }
+
+-- ---- the set of a name, by its key
+
+module _ (h : Lent.Held) (n : HeldName.Name) where
+  abbrev form : ℕ
+  form = polarity_number n.polarity
+
+  abbrev lent : Held
+  lent = held_in h.minute (record { store = h.store.now; links = h.links.now })
+
+  number_set : n.key < 2147483648 → name_set h n ≡ formed form []
+  number_set l = names_number lent n.key n.number (polarity_is n.polarity) (lt-leb first_key n.key l) ∙ ap (λ (f : ℕ). formed f []) (word_is n.polarity)
+
+  key_set : 2147483648 ≤ n.key → name_set h n ≡ formed form (rows_for h n)
+  unfolding held_in
+  key_set l =
+      names_key lent n.key n.number (polarity_is n.polarity) (le-leb first_key n.key l)
+      ∙ ap (λ (f : ℕ). formed f (joined lent.links lent.certificates n.key n.number (polarity_is n.polarity))) (word_is n.polarity)
+      ∙ ap (λ (p : Polarity). formed form (joined lent.links lent.certificates n.key n.number p)) (of_number n.polarity)
+
+  -- a number's is empty, or its complement is
+  pub number_listed : {area : List ℕ} → n.key < 2147483648 → Empty form area → Listed (name_set h n) area
+  unfolding set_in
+  number_listed {area} l m = record {
+    filled = m.filled;
+    set = ap (λ (f : ℕ). formed f (rows_in area)) m.is ∙ ap (formed form) m.none ∙ sym (number_set l);
+    few = omega (arith, ap (λ (s : RowSet). length (listing s)) (number_set l), ap length (formed_listing form []));
+  }
+
+  pub number_belongs : {x : Row} {b : Bool} → n.key < 2147483648 → SayBelongs form false b → Belongs (name_set h n) x b
+  unfolding lists
+  number_belongs {x} l g = record {
+    few = omega (arith, ap (λ (s : RowSet). length (listing s)) (number_set l), ap length (formed_listing form []));
+    means = ap (λ (s : RowSet). has s x) (number_set l) ∙ g.means [] x refl;
+  }
+
+  -- a key's lists the rows that are certified
+  module _ (l : 2147483648 ≤ n.key) where
+    pub key_listed : {area : List ℕ} → Listed (formed form (rows_for h n)) area → Listed (name_set h n) area
+    key_listed {area} s = subst (λ (z : RowSet). Listed z area) (sym (key_set l)) s
+
+    pub key_large : {e : Refusal} → Large (formed form (rows_for h n)) e → Large (name_set h n) e
+    key_large {e} s = subst (λ (z : RowSet). Large z e) (sym (key_set l)) s
+
+    pub key_belongs : {x : Row} {b c : Bool} → Belongs (only (rows_for h n)) x b → SayBelongs form b c → Belongs (name_set h n) x c
+    unfolding listing has
+    key_belongs {x} s g = record {
+      few = omega (arith, s.few, ap (λ (z : RowSet). length (listing z)) (key_set l), ap length (formed_listing form (rows_for h n)));
+      means = ap (λ (z : RowSet). has z x) (key_set l) ∙ g.means (rows_for h n) x s.means;
+    }
+
+    pub key_not_looked_up : {e : Refusal} → Large (only (rows_for h n)) e → Large (name_set h n) e
+    unfolding listing
+    key_not_looked_up s = (s.0, omega (arith, s.1, ap (λ (z : RowSet). length (listing z)) (key_set l), ap length (formed_listing form (rows_for h n))))
 
 -- ---- a name where it stands
 
@@ -106,90 +187,55 @@ module _ {ws : List ℕ} {at : ℕ} (some : SomeName ws at) where
   pub name_form : get_or ws (at + 3) 0 ≤ 1
   name_form = let n = name_here some.t some.m some.p some.words in omega (arith, n.polarity, polarity_small some.p)
 
-module _ {ws : List ℕ} {at : ℕ} (vs : Values) {x : HeldTerm.Term} {key : ℕ} (issuer : IsTerm ws at x) (is : key ≡ value vs (term_is x)) where
-  key_is_lem : {t : Term} {m : ℕ} {p : Polarity} → NameHere ws at t m p → value vs t ≡ key
-  key_is_lem {t} h = sym (ap (value vs) (issuer.is t h.issuer)) ∙ sym is
+-- the atoms of a row in hand
+pub atoms_lem : (r : HeldRow.Row) {n : ℕ} → n ≡ r.width → take n r.atoms ≡ row_is r
+unfolding row_is row_in five_is
+atoms_lem r e = ap (λ (k : ℕ). take k r.atoms) e
 
-  -- a number issues nothing
-  pub say_number : (minute : ℕ) (s : Stores) {k : ℕ} {area : List ℕ} → Empty (get_or ws (at + 3) 0) area → key < 2147483648 → SayName (names_held (held_in minute s)) ws at vs k (Done k) area
-  unfolding IfDone set_read_is set_in
-  say_number minute stores {k} {area} m h = record {
-    filled = m.filled;
-    means = λ t n p w.
-        let v = name_here t n p w in
-        let s : set_in area ≡ formed (polarity_word p) [] = ap (λ (f : ℕ). formed f (rows_in area)) (m.is ∙ v.polarity) ∙ ap (formed (polarity_word p)) m.none in
-        let number : is_key (value vs t) ≡ false = ap is_key (key_is_lem v) ∙ lt-leb first_key key h in
-        ap (λ (z : RowSet). small z k) (names_number (held_in minute stores) (value vs t) n p number ∙ sym s)
-        ∙ small_few (set_in area) k (omega (arith, ap (λ (z : RowSet). length (listing z)) s, ap length (formed_listing (polarity_word p) [])));
+-- a word that is 0 or not
+pub form_is : (w : ℕ) (p : Polarity) → w ≡ polarity_word p → (q : HeldPolarity.Polarity) → (w ≡ 0 → q ≡ Plus) → ((w ≡ 0 → ⊥) → q ≡ Minus) → p ≡ polarity_is q
+unfolding polarity_word
+form_is w plus e q a b = sym (ap polarity_is (a e))
+form_is w minus e q a b = sym (ap polarity_is (b (λ z. omega (arith, e, z))))
+
+module _ {ws : List ℕ} {at : ℕ} (vs : Values) {x : HeldTerm.Term} (issuer : IsTerm ws at x) where
+  pub stands_for : (n : HeldName.Name) → n.key ≡ value vs (term_is x) → n.number ≡ get_or ws (at + 2) 0 →
+      (get_or ws (at + 3) 0 ≡ 0 → n.polarity ≡ Plus) → ((get_or ws (at + 3) 0 ≡ 0 → ⊥) → n.polarity ≡ Minus) → StandsFor ws at vs n
+  stands_for n k m a b = record {
+    key = λ t i p h. sym (ap (value vs) (issuer.is t (name_here t i p h).issuer)) ∙ sym k;
+    number = λ t i p h. sym (name_here t i p h).name ∙ sym m;
+    polarity = λ t i p h. form_is (get_or ws (at + 3) 0) p (name_here t i p h).polarity n.polarity a b;
   }
 
-  pub number_has : (minute : ℕ) (s : Stores) {row k : ℕ} {b : Bool} {r : Tested.Tested} → key < 2147483648 → SayBelongs (get_or ws (at + 3) 0) false b → tested_is r ≡ done b k →
-      SayNameHas (names_held (held_in minute s)) ws at row vs k r
-  unfolding lists
-  number_has minute stores {k} h g e = record {
-    means = λ t m p w n ts s.
-        let v = name_here t m p w in
-        let y : Row = values.row_of vs ts in
-        let number : is_key (value vs t) ≡ false = ap is_key (key_is_lem v) ∙ lt-leb first_key key h in
-        looked_up _ (names_number (held_in minute stores) (value vs t) m p number ∙ ap (λ (f : ℕ). formed f []) (sym v.polarity)) y k
-        (omega (arith, ap length (formed_listing (get_or ws (at + 3) 0) []))) (ap (λ (b : Bool). done b k) (g.means [] y refl) ∙ sym e);
+-- ---- the answers by words
+
+module _ {ws : List ℕ} {at : ℕ} {vs : Values} {n : HeldName.Name} (stands : StandsFor ws at vs n) (h : Lent.Held) where
+  abbrev evidence : Held
+  evidence = held_in h.minute (record { store = h.store.now; links = h.links.now })
+
+  its : (t : Term) (m : ℕ) (p : Polarity) → At ws at (name_words t m p) → names_held evidence (value vs t) m p ≡ name_set h n
+  its t m p w =
+      ap (λ (k : ℕ). names_held evidence k m p) (stands.key t m p w) ∙ ap (λ (i : ℕ). names_held evidence n.key i p) (stands.number t m p w)
+      ∙ ap (λ (q : Polarity). names_held evidence n.key n.number q) (stands.polarity t m p w)
+
+  pub say_listed : {k : ℕ} {area : List ℕ} → Listed (name_set h n) area → SayName (names_held evidence) ws at vs k (Done k) area
+  unfolding IfDone set_read_is
+  say_listed {k} s = record {
+    filled = s.filled;
+    means = λ t m p w. ap (λ (z : RowSet). small z k) (its t m p w) ∙ small_few (name_set h n) k s.few ∙ ap (λ (z : RowSet). done z k) (sym s.set);
   }
 
-  -- a key's rows
-  module _ (minute : ℕ) (store links : List ℕ) (high : 2147483648 ≤ key) where
-    abbrev rows : List Row
-    rows = name_rows minute store links key (get_or ws (at + 2) 0) (get_or ws (at + 3) 0)
+  pub say_large : {k m : ℕ} {area : List ℕ} {e : Refusal} → Large (name_set h n) e → m ≡ number e → SayName (names_held evidence) ws at vs k (Refused m) area
+  unfolding IfDone set_read_is
+  say_large {k} s q = record { filled = tt; means = λ t m p w. ap (λ (z : RowSet). small z k) (its t m p w) ∙ small_many (name_set h n) k s.1 ∙ ap (λ m. refused m) (sym (q ∙ ap number s.0)) }
 
-    abbrev evidence : Held
-    evidence = held_in minute (record { store = store; links = links })
+  module _ {row k : ℕ} {z : HeldRow.Row} (sought : SayRow ws row vs z) where
+    pub say_has : {b : Bool} {r : Tested.Tested} → Belongs (name_set h n) (row_is z) b → tested_is r ≡ done b k → SayNameHas (names_held evidence) ws at row vs k r
+    say_has s e = record {
+      means = λ t m p w i ts g.
+          looked_up _ (its t m p w) (values.row_of vs ts) k s.few (ap (λ (d : Bool). done d k) (ap (has (name_set h n)) (sym (sought.means i ts g)) ∙ s.means) ∙ sym e);
+    }
 
-    held : {t : Term} {n : ℕ} {p : Polarity} → NameHere ws at t n p → names_held evidence (value vs t) n p ≡ formed (get_or ws (at + 3) 0) rows
-    unfolding held_in
-    held {t} {n} {p} v =
-        let polar : p ≡ polarity_of (get_or ws (at + 3) 0) = polarity_back p ∙ ap polarity_of (sym v.polarity) in
-        ap (λ (k : ℕ). names_held evidence k n p) (key_is_lem v) ∙ names_key evidence key n p (le-leb first_key key high)
-        ∙ ap (λ (f : ℕ). formed f (joined evidence.links evidence.certificates key n p)) (sym v.polarity)
-        ∙ ap (λ (m : ℕ). formed (get_or ws (at + 3) 0) (joined evidence.links evidence.certificates key m p)) (sym v.name)
-        ∙ ap (λ (q : Polarity). formed (get_or ws (at + 3) 0) (joined evidence.links evidence.certificates key (get_or ws (at + 2) 0) q)) polar
-
-    many_listed : 128 < length rows → 128 < length (listing (formed (get_or ws (at + 3) 0) rows))
-    many_listed h = omega (arith, ap length (formed_listing (get_or ws (at + 3) 0) rows))
-
-    few_listed : length rows ≤ 128 → length (listing (formed (get_or ws (at + 3) 0) rows)) ≤ 128
-    few_listed h = omega (arith, ap length (formed_listing (get_or ws (at + 3) 0) rows))
-
-    module _ {k : ℕ} {area : List ℕ} {b : Bool} (says : SayListed (get_or ws (at + 3) 0) rows b area) where
-      pub say_rows : b ≡ true → SayName (names_held evidence) ws at vs k (Done k) area
-      unfolding IfDone set_read_is
-      say_rows e = record {
-        filled = says.filled e;
-        means = λ t n p w.
-            ap (λ (z : RowSet). small z k) (held (name_here t n p w)) ∙ small_few (formed (get_or ws (at + 3) 0) rows) k (few_listed (says.few e))
-            ∙ ap (λ (z : RowSet). done z k) (sym (says.set e));
-      }
-
-      pub say_too_many : b ≡ false → SayName (names_held evidence) ws at vs k (Refused 13) area
-      unfolding IfDone set_read_is
-      say_too_many e = record {
-        filled = tt;
-        means = λ t n p w. ap (λ (z : RowSet). small z k) (held (name_here t n p w)) ∙ small_many (formed (get_or ws (at + 3) 0) rows) k (many_listed (says.many e));
-      }
-
-    module _ {row k : ℕ} {z : HeldRow.Row} (sought : SayRow ws row vs z) where
-      pub many_refused : {l : Lookup} → SayLookup rows (row_is z) l → l ≡ TooMany → SayNameHas (names_held evidence) ws at row vs k (Tested.TheVariants.Refused 13)
-      unfolding tested_is LookedUp
-      many_refused says e = record {
-        means = λ t m p w n ts s. not_looked_up _ (held (name_here t m p w)) (values.row_of vs ts) k (many_listed (subst (LookedUp rows (row_is z)) e says.means));
-      }
-
-      pub key_has : {l : Lookup} {found c : Bool} {r : Tested.Tested} → SayLookup rows (row_is z) l → l ≡ Listed found → SayBelongs (get_or ws (at + 3) 0) found c → tested_is r ≡ done c k →
-          SayNameHas (names_held evidence) ws at row vs k r
-      unfolding LookedUp
-      key_has {found} says f g e =
-          let means : LookedUp rows (row_is z) (Listed found) = subst (LookedUp rows (row_is z)) f says.means in
-          record {
-            means = λ t m p w n ts s.
-                let y : Row = values.row_of vs ts in
-                looked_up _ (held (name_here t m p w)) y k (few_listed means.0)
-                (ap (λ (d : Bool). done d k) (g.means rows y (ap (lists row_before rows) (sym (sought.means n ts s)) ∙ means.1)) ∙ sym e);
-          }
+    pub say_not : {m : ℕ} {e : Refusal} → Large (name_set h n) e → m ≡ number e → SayNameHas (names_held evidence) ws at row vs k (Tested.TheVariants.Refused m)
+    unfolding tested_is
+    say_not s q = record { means = λ t m p w i ts g. not_looked_up _ (its t m p w) (values.row_of vs ts) k s.1 ∙ ap (λ m. refused m) (sym (q ∙ ap number s.0)) }

@@ -1,11 +1,11 @@
 -- A name's own rows, those certified for it, are the rows of its records that hold.
 use Prim.Native.Nat.{ℕ, zero, suc, ◌*◌, ◌/◌, ◌≤◌}
-use mathlib.Core.Path.{◌≡◌, refl, sym, ap, ◌∙◌}
+use mathlib.Core.Path.{◌≡◌, refl, sym, ap, subst, ◌∙◌}
 use mathlib.Core.Bool.{Bool, true, false, ◌&&◌}
 use mathlib.Core.List.{List, [], ◌∷◌, map}
 use native.Mathlib.Omega.{arith}
 use lib.Dec.{eqb}
-use lib.ListN.{length, get_or}
+use lib.ListN.{length, get_or, take, drop}
 use borrow.Author.Tests.{leb-true, eqb-true, eqb-false, eq-eqb, ne_eqb}
 use Rattle.rows.specs.Word.{All}
 use Rattle.rows.specs.Ordered.{◌∈◌, insert, join, keep}
@@ -21,9 +21,12 @@ use Rattle.certificates.specs.Store.{records, sound_store, certificates_at}
 use Rattle.certificates.specs.NamePart.{of_name, name_part}
 use Rattle.certificates.specs.Steps.{record_in}
 use Rattle.certificates.proofs.Sound.{sound_record_lem, sound_store_lem}
-use Rattle.certificates.proofs.NameRows.{name_length, name_pieces, name_sound, name_climbs}
+use Rattle.certificates.proofs.NameRows.{name_length, name_pieces, name_record, name_sound, name_climbs}
+use Rattle.rows.specs.Row.{Row}
+use Rattle.rows.proofs.LayoutLaws.{length_pieces}
 use Rattle.meaning.specs.Links.{reachable}
 use Rattle.meaning.specs.Evidence.{counts, joined}
+use Rattle.std.specs.Simd.{first_chunks}
 use Rattle.read_held.specs.Held.{Records, row_at, rows_held}
 
 same_polarity_lem : (v w : ℕ) → v ≤ 1 → w ≤ 1 → same_polarity (polarity_of v) (polarity_of w) ≡ eqb v w
@@ -80,10 +83,10 @@ module _ (store : List ℕ) (sound : sound_store store ≡ true) (k n v : ℕ) w
     pub part_few : length part / 10 ≤ 1600
     part_few = omega (arith, part_count, keep_length (of_name k n v) (records store), records_length 10 store, (sound_store_lem store sound).few)
 
-    part_pieces : pieces 10 (length part / 10) part ≡ of_it
+    pub part_pieces : pieces 10 (length part / 10) part ≡ of_it
     part_pieces = ap (λ (m : ℕ). pieces 10 m part) part_count ∙ ap (pieces 10 (length of_it)) e ∙ name_pieces k n v store sound
 
-    pub own_rows_lem : v ≤ 1 → (minute : ℕ) → joined [] (certificates_at minute store) k n (polarity_of v) ≡ rows_held minute part (length part / 10)
+    pub own_rows_lem : v ≤ 1 → (minute : ℕ) → joined [] (certificates_at minute store) k n (polarity_of v) ≡ rows_held minute (pieces 10 (length part / 10) part)
     unfolding certificates_at said_at rows_held
     own_rows_lem h minute =
         own_records k n v h (keep (holds_at minute) (records store)) (all_of _ _ (λ w i. leb-true _ 1 (sound_record_lem w (in_store w ((keep-∈ (holds_at minute) (records store) w).0 i).1)).polarity))
@@ -93,11 +96,20 @@ module _ (store : List ℕ) (sound : sound_store store ≡ true) (k n v : ℕ) w
         in_store : (w : List ℕ) → w ∈ records store → sound_record w ≡ true
         in_store w i = all_in (λ x. sound_record x ≡ true) (records store) (sound_store_lem store sound).each w i
 
-    pub part_records : Records part (length part / 10)
-    part_records =
-        let c = part_count in
-        record {
-          whole = omega arith;
-          sound = λ i h. ap (λ (ws : List ℕ). sound_record (record_in ws i)) e ∙ name_sound k n v store sound i (omega arith);
-          climb = λ i j h l. ap (λ (ws : List ℕ). row_before (row_at ws j) (row_at ws i)) e ∙ name_climbs k n v store sound i j h (omega arith);
-        }
+    pub part_records : Records (pieces 10 (length part / 10) part)
+    part_records = subst (λ (rs : List (List ℕ)). Records rs) (sym part_pieces) (record {
+      sound = λ i h. ap sound_record (sym (name_record k n v store sound i h)) ∙ name_sound k n v store sound i h;
+      climb = λ i j h l.
+          ap (λ (x : Row). row_before (row_at of_it j) x) (sym (ap (λ w. record_row w) (name_record k n v store sound i (omega arith))))
+          ∙ ap (λ (x : Row). row_before x (record_row (record_in (name_part store k n v) i))) (sym (ap (λ w. record_row w) (name_record k n v store sound j l)))
+          ∙ name_climbs k n v store sound i j h l;
+    })
+
+    pub records_few : length (pieces 10 (length part / 10) part) ≤ 1600
+    records_few = omega (arith, part_few, length_pieces 10 (length part / 10) part)
+
+-- chunks of words are pieces of them
+pub chunks_pieces : (size n : ℕ) (ws : List ℕ) → first_chunks size n ws ≡ pieces size n ws
+unfolding pieces
+chunks_pieces size zero ws = refl
+chunks_pieces size (suc n) ws = ap (λ rs. take size ws ∷ rs) (chunks_pieces size n (drop size ws))

@@ -1,10 +1,12 @@
 -- The rows of a name, through links: what the code asks and finds.
-use Rattle.std.specs.Prelude.{ℕ, ◌/◌, ◌≤◌, ◌<◌, ◌≡◌, ◌⊎◌, ◌↔◌, Bool, true, false, List, length, get_or}
-use Rattle.rows.specs.Ordered.{◌∈◌, lists, ascending}
+use Rattle.std.specs.Prelude.{ℕ, ◌/◌, ◌≤◌, ◌<◌, ◌≡◌, ◌⊎◌, ◌↔◌, Bool, true, List, length, get_or}
+use Rattle.refusals.specs.declared.Refusal.{Refusal}
+use Rattle.refusals.specs.declared.Refusal.TheVariants.{TooManyRows}
+use Rattle.rows.specs.Ordered.{◌∈◌, ascending}
 use Rattle.rows.specs.Row.{Row, row_before}
 use Rattle.rows.specs.Name.{polarity_of}
-use Rattle.rows.specs.Sets.{most_rows}
-use Rattle.rows.specs.Layout.{rows_in, formed, set_in}
+use Rattle.rows.specs.Sets.{RowSet, most_rows, listing, has}
+use Rattle.rows.specs.Layout.{pieces, rows_in, set_in}
 use Rattle.certificates.specs.Certificate.{record_words}
 use Rattle.certificates.specs.Store.{certificates_at}
 use Rattle.certificates.specs.NamePart.{name_part}
@@ -13,16 +15,17 @@ use Rattle.meaning.specs.Evidence.{joined}
 use Rattle.read_values.specs.Answers.{Filled}
 use Rattle.read_links.specs.Reached.{links_of}
 use Rattle.read_held.specs.Held.{rows_held}
-use Rattle.read_names.specs.declared.Lookup.{Lookup}
-use Rattle.read_names.specs.declared.Lookup.TheVariants.{Listed, TooMany}
 use Rattle.read_names.specs.declared.reached.Looking.{Looking}
 
--- a name's part of the store, and the rows of its own records that hold at the minute
+-- a name's part of the store, its records, and the rows of those that hold at the minute
 abbrev pub part_of : List ℕ → ℕ → Named → List ℕ
 part_of store polarity y = name_part store y.key y.name polarity
 
+abbrev pub records_of : List ℕ → ℕ → Named → List (List ℕ)
+records_of store polarity y = pieces record_words (length (part_of store polarity y) / record_words) (part_of store polarity y)
+
 abbrev pub own_rows : ℕ → List ℕ → ℕ → Named → List Row
-own_rows minute store polarity y = rows_held minute (part_of store polarity y) (length (part_of store polarity y) / record_words)
+own_rows minute store polarity y = rows_held minute (records_of store polarity y)
 
 -- and those that are joined for it through links
 abbrev pub name_rows : ℕ → List ℕ → List ℕ → ℕ → ℕ → ℕ → List Row
@@ -36,12 +39,15 @@ HeldFor minute store polarity ys x = (y : Named) × (y ∈ ys) × (x ∈ own_row
 abbrev pub Overfull : (Row → Type 0) → Type 0
 Overfull P = (ys : List Row) → ascending row_before ys ≡ true → ((x : Row) → P x → x ∈ ys) → most_rows < length ys
 
--- the set lists these rows too, or there are too many
-pub record SayJoined (P : Row → Type 0) (before : List ℕ) (r : Bool) (area : List ℕ) : Type 0 where
-  pub filled : r ≡ true → Filled area
-  pub form : r ≡ true → get_or area 0 0 ≡ get_or before 0 0
-  pub rows : r ≡ true → (x : Row) → (x ∈ rows_in area) ↔ ((x ∈ rows_in before) ⊎ P x)
-  pub many : r ≡ false → Overfull (λ x. (x ∈ rows_in before) ⊎ P x)
+-- the set lists these rows too
+pub record Joined (P : Row → Type 0) (before area : List ℕ) : Type 0 where
+  pub filled : Filled area
+  pub form : get_or area 0 0 ≡ get_or before 0 0
+  pub rows : (x : Row) → (x ∈ rows_in area) ↔ ((x ∈ rows_in before) ⊎ P x)
+
+-- or they and its own are too many
+abbrev pub NotJoined : (Row → Type 0) → List ℕ → Refusal → Type 0
+NotJoined P before e = (e ≡ TooManyRows) × Overfull (λ x. (x ∈ rows_in before) ⊎ P x)
 
 -- whether the row is one of these names' own; and rows that have all of theirs, no more than there are records
 pub record SayLooking (minute : ℕ) (store : List ℕ) (polarity : ℕ) (names : List Named) (x : Row) (r : Looking) : Type 0 where
@@ -51,18 +57,17 @@ pub record SayLooking (minute : ℕ) (store : List ℕ) (polarity : ℕ) (names 
   pub all : (y : Row) → HeldFor minute store polarity names y → y ∈ rows
   pub few : length rows ≤ r.records
 
--- the set of this form lists just these rows, or they are too many
-pub record SayListed (form : ℕ) (rows : List Row) (r : Bool) (area : List ℕ) : Type 0 where
-  pub filled : r ≡ true → Filled area
-  pub set : r ≡ true → set_in area ≡ formed form rows
-  pub few : r ≡ true → length rows ≤ most_rows
-  pub many : r ≡ false → most_rows < length rows
+-- the set in the area is this one, which lists no more rows than a set may
+pub record Listed (s : RowSet) (area : List ℕ) : Type 0 where
+  pub filled : Filled area
+  pub set : set_in area ≡ s
+  pub few : length (listing s) ≤ most_rows
 
--- whether the row is one of these, or they are too many
-unfoldable pub LookedUp : List Row → Row → Lookup → Type 0
-unfolding lists
-LookedUp rows x (Listed b) = (length rows ≤ most_rows) × (lists row_before rows x ≡ b)
-LookedUp rows x TooMany = most_rows < length rows
+-- whether the row belongs to the set, which lists no more than that
+pub record Belongs (s : RowSet) (x : Row) (r : Bool) : Type 0 where
+  pub few : length (listing s) ≤ most_rows
+  pub means : has s x ≡ r
 
-pub record SayLookup (rows : List Row) (x : Row) (r : Lookup) : Type 0 where
-  pub means : LookedUp rows x r
+-- it lists more
+abbrev pub Large : RowSet → Refusal → Type 0
+Large s e = (e ≡ TooManyRows) × (most_rows < length (listing s))

@@ -1,91 +1,123 @@
-// Reading a name: the rows that are certified at a minute for it and for the names that links reach from it, copied or looked up.
+// Reading a name: the rows that are certified at a minute for it and for the names that links reach from it, listed or looked up.
 #![tactic(auto)]
 
+mod held;
 mod reached;
 
-ghost use Rattle.std.specs.Prelude.{◌≡◌, true, ◌≤◌, length, take};
+ghost use Rattle.std.specs.Prelude.{◌≡◌, true, ◌≤◌, MatchResult, length, take};
+ghost use Rattle.rows.specs.Sets.{only};
 ghost use Rattle.rows.specs.Layout.{set_room};
+ghost use Rattle.rows.specs.Polarities.{polarity_number};
 ghost use Rattle.row_words.specs.Values.{row_is};
 ghost use Rattle.certificates.specs.Store.{sound_store};
 ghost use Rattle.certificates.specs.Link.{sound_links};
 ghost use Rattle.certificates.specs.Stores.{held_in};
 ghost use Rattle.meaning.specs.Evidence.{names_held};
-ghost use Rattle.read_values.specs.Answers.{Empty};
 ghost use Rattle.read_values.specs.Values.{Bound};
 ghost use Rattle.policy_places.specs.Places.{SomeName, SomeRow};
-ghost use Rattle.read_names.specs.Reached.{name_rows, SayListed, SayLookup};
-ghost use Rattle.read_names.specs.Names.{SayName, SayBelongs, SayNameHas};
+ghost use Rattle.read_held.specs.Held.{Records};
+ghost use Rattle.read_names.specs.Reached.{records_of, Listed, Belongs, Large};
+ghost use Rattle.read_names.specs.Names.{name_set, rows_for, named_by, StandsFor, SayName, SayBelongs, SayNameHas};
 
-use crate::reached::{list_reached, look_reached};
+pub use crate::held::Held;
 use certificates::RECORD_WORDS;
 use policy_places::term_at;
-use read_held::{copy_rows, is_held, too_many};
+use read_held::{Record, copy_rows, is_held};
+pub use read_links::Name;
 use read_links::is_linked;
 use read_values::{Read, Tested, row_of, told, value_of};
-use refusals::TOO_MANY_ROWS;
+use refusals::Refusal;
 use row_words::row::Row;
-use rows::FIRST_KEY;
+use row_words::wide;
+use rows::{FIRST_KEY, MOST_ROWS, Polarity};
 use sets::clear;
 use store::certificates_in;
 
-// Whether a row is among those of a name, unless they are more than a set lists.
-#[derive(Clone, Copy)]
-pub enum Lookup {
-    Listed(bool),
-    TooMany,
+impl<'a> Held<'a> {
+    // The name's own records.
+    fn records_of(&self, name: Name) -> &'a [Record]
+        ensures records { result.now ≡ records_of self.now.store.now (polarity_number name.polarity) (named_by name) }
+        ensures sound { Records result.now }
+    {
+        let words = certificates_in(self.store, name.key, name.number, u32::from(name.polarity));
+        let (records, _) = words.as_chunks::<RECORD_WORDS>();
+        records
+    }
+
+    /// Lists the rows of a name in the area's first set: + those that it has, − those that it has not. A number issues nothing.
+    pub fn list(&self, name: Name, area: &mut [u32]) -> Result<(), Refusal>
+        requires { set_room ≤ length area.old }
+        ensures { MatchResult result (λ done. Listed (name_set self.now name) area.new) (λ refusal. Large (name_set self.now name) refusal) }
+    {
+        clear(area, u32::from(name.polarity));
+        if name.key < FIRST_KEY {
+            return Ok(());
+        }
+        if is_linked(self.links, name.key, name.number, u32::from(name.polarity)) {
+            return self.list_reached(name, area);
+        }
+        copy_rows(self.records_of(name), self.minute, area)
+    }
+
+    /// Whether a row belongs to the name's set: what a look into the set that `list` leaves would find, and refused where that is. The area is written to only
+    /// where the records are more than the rows that a set lists.
+    pub fn has(&self, name: Name, row: Row, area: &mut [u32]) -> Result<bool, Refusal>
+        requires { (row.width ≤ 4) × (set_room ≤ length area.old) }
+        ensures { MatchResult result (λ has. Belongs (name_set self.now name) (row_is row) has) (λ refusal. Large (name_set self.now name) refusal) }
+    {
+        if name.key < FIRST_KEY {
+            return Ok(belongs(name.polarity, false));
+        }
+        let listed = self.look_up(name, &row.atoms[..wide(row.width)], area)?;
+        Ok(belongs(name.polarity, listed))
+    }
+
+    // Looks for a row among those of a key's name.
+    fn look_up(&self, name: Name, row: &[u32], area: &mut [u32]) -> Result<bool, Refusal>
+        requires { set_room ≤ length area.old }
+        ensures { MatchResult result (λ listed. Belongs (only (rows_for self.now name)) row.now listed) (λ refusal. Large (only (rows_for self.now name)) refusal) }
+    {
+        if is_linked(self.links, name.key, name.number, u32::from(name.polarity)) {
+            return self.look_reached(name, row, area);
+        }
+        let records = self.records_of(name);
+        if MOST_ROWS < records.len() {
+            clear(area, 0);
+            copy_rows(records, self.minute, area)?;
+        }
+        Ok(is_held(records, self.minute, row))
+    }
 }
 
-// Has an empty set list the rows of a name: no if they are too many. Most names have no links, and their rows lie in order.
-fn list_rows(
-    key: u32,
-    name: u32,
-    polarity: u32,
-    area: &mut [u32],
-    minute: u32,
-    store: &[u32],
-    links: &[u32],
-) -> bool
-    requires { (sound_store store.now ≡ true) × (sound_links links.now ≡ true) × (polarity ≤ 1) × Empty polarity area.old }
-    ensures { SayListed polarity (name_rows minute store.now links.now key name polarity) result area.new }
+// Whether a row belongs to a set of this polarity that lists it or does not.
+fn belongs(polarity: Polarity, listed: bool) -> bool
+    ensures { SayBelongs (polarity_number polarity) listed result }
 {
-    if is_linked(links, key, name, polarity) {
-        return list_reached(key, name, polarity, area, minute, store, links);
+    match polarity {
+        Polarity::Plus => listed,
+        Polarity::Minus => !listed,
     }
-    let records = certificates_in(store, key, name, polarity);
-    let filed = records.len() / RECORD_WORDS;
-    if too_many(records, filed, minute) {
-        return false;
-    }
-    copy_rows(records, filed, minute, area);
-    true
 }
 
-// Looks for a row among those of a name. They are copied to the area only where the names that links reach have more records than a set lists rows.
-fn look_up(
-    key: u32,
-    name: u32,
-    polarity: u32,
-    row: Row,
-    area: &mut [u32],
-    minute: u32,
-    store: &[u32],
-    links: &[u32],
-) -> Lookup
-    requires { (sound_store store.now ≡ true) × (sound_links links.now ≡ true) × (polarity ≤ 1) × (row.width ≤ 4) × (set_room ≤ length area.old) }
-    ensures { SayLookup (name_rows minute store.now links.now key name polarity) (row_is row) result }
+/// The name that stands at a word, its issuer's value in place of the term.
+pub fn name_at(words: &[u32], at: usize, values: &[u32; 16], count: usize) -> Name
+    requires { Bound values.now count × SomeName words.now at }
+    ensures { StandsFor words.now at (take count values.now) result }
 {
-    if is_linked(links, key, name, polarity) {
-        return look_reached(key, name, polarity, row, area, minute, store, links);
+    let issuer = term_at(words, at);
+    let polarity = if words[at + 3] == 0 {
+        Polarity::Plus
+    } else {
+        Polarity::Minus
+    };
+    Name {
+        key: value_of(values, count, issuer),
+        number: words[at + 2],
+        polarity,
     }
-    let records = certificates_in(store, key, name, polarity);
-    let filed = records.len() / RECORD_WORDS;
-    if too_many(records, filed, minute) {
-        return Lookup::TooMany;
-    }
-    Lookup::Listed(is_held(records, filed, minute, row))
 }
 
-// The rows of a name that are certified at the minute: + lists those that it has, − those that it has not. A number issues nothing.
+// The rows of the name that stands at a word, with the draws made so far.
 pub fn read_name(
     words: &[u32],
     at: usize,
@@ -100,28 +132,18 @@ pub fn read_name(
     requires { Bound values.now count × SomeName words.now at × (sound_store store.now ≡ true) × (sound_links links.now ≡ true) × (set_room ≤ length area.old) }
     ensures { SayName (names_held (held_in minute (record { store = store.now; links = links.now }))) words.now at (take count values.now) draws result area.new }
 {
-    let issuer = term_at(words, at);
-    let key = value_of(values, count, issuer);
-    let name = words[at + 2];
-    let polarity = words[at + 3];
-    clear(area, polarity);
-    if key < FIRST_KEY {
-        return Read::Done(draws);
+    let held = Held {
+        store,
+        links,
+        minute,
+    };
+    match held.list(name_at(words, at, values, count), area) {
+        Ok(()) => Read::Done(draws),
+        Err(refusal) => Read::Refused(u32::from(refusal)),
     }
-    if list_rows(key, name, polarity, area, minute, store, links) {
-        return Read::Done(draws);
-    }
-    Read::Refused(TOO_MANY_ROWS)
 }
 
-// Whether a row belongs to a set of this form that lists it or does not.
-fn belongs(form: u32, listed: bool) -> bool
-    ensures { SayBelongs form listed result }
-{
-    if form == 0 { listed } else { !listed }
-}
-
-// Whether the row written at `row` belongs to the name's set: what `read_name` and a look into its set would find.
+// Whether the row written at `row` belongs to the name's set.
 pub fn name_has(
     words: &[u32],
     at: usize,
@@ -137,16 +159,14 @@ pub fn name_has(
     requires { Bound values.now count × SomeName words.now at × SomeRow words.now row × (sound_store store.now ≡ true) × (sound_links links.now ≡ true) × (set_room ≤ length area.old) }
     ensures { SayNameHas (names_held (held_in minute (record { store = store.now; links = links.now }))) words.now at row (take count values.now) draws result }
 {
-    let issuer = term_at(words, at);
-    let key = value_of(values, count, issuer);
-    let name = words[at + 2];
-    let polarity = words[at + 3];
-    if key < FIRST_KEY {
-        return told(belongs(polarity, false), draws);
-    }
+    let held = Held {
+        store,
+        links,
+        minute,
+    };
     let sought = row_of(words, row, values, count);
-    match look_up(key, name, polarity, sought, area, minute, store, links) {
-        Lookup::TooMany => Tested::Refused(TOO_MANY_ROWS),
-        Lookup::Listed(found) => told(belongs(polarity, found), draws),
+    match held.has(name_at(words, at, values, count), sought, area) {
+        Ok(has) => told(has, draws),
+        Err(refusal) => Tested::Refused(u32::from(refusal)),
     }
 }
