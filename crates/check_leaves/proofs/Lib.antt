@@ -1,2 +1,1 @@
-pub mod CheckAnswers
-pub mod LeafAnswers
+pub mod Leaving

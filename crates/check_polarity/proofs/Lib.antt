@@ -1,3 +1,1 @@
-pub mod FactAnswers
-pub mod EarlierAnswers
-pub mod SearchAnswers
+pub mod Finding

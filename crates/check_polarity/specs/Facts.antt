@@ -1,13 +1,14 @@
 -- What is known of an expression on the way: its polarities, whether it is open, whether its draws are from closed sets only.
-use Rattle.std.specs.Prelude.{ℕ, zero, suc, Bool, true, false, not, ◌&&◌, ◌||◌}
-use Rattle.refusals.specs.RefusalTable.{no_polarity, open_draw}
-use Rattle.rows.specs.Name.{plus, minus}
+use Rattle.std.specs.Prelude.{Bool, true, false, not, ◌&&◌, ◌||◌, Result, Ok, Err}
+use Rattle.refusals.specs.declared.Refusal.{Refusal}
+use Rattle.refusals.specs.declared.Refusal.TheVariants.{NoPolarity, OpenDraw}
+use Rattle.rows.specs.Name.{Polarity, plus, minus}
+use Rattle.rows.specs.declared.Polarity as Held
+use Rattle.rows.specs.declared.Polarity.TheVariants.{Plus, Minus}
 use Rattle.policy.specs.Syntax.{Expr}
 use Rattle.policy.specs.Polarity.{has_polarity, open_expr, draws_closed}
 use Rattle.check_polarity.specs.Earlier.{Before}
 use Rattle.check_polarity.specs.declared.Facts.{Facts}
-use Rattle.check_polarity.specs.declared.Whole.{Whole}
-use Rattle.check_polarity.specs.declared.Whole.TheVariants as whole
 
 unfoldable pub facts_for : Before → Expr → Facts
 unfolding has_polarity open_expr draws_closed
@@ -32,11 +33,20 @@ unfoldable pub absent_of : Facts → Facts → Facts
 absent_of a b = record { plus = a.minus && b.plus; minus = a.plus && b.minus; «open» = false; draws_closed = a.draws_closed && b.draws_closed }
 
 -- 6 unless it has the polarity asked for, then 7
-unfoldable pub admit_of : Facts → Bool → Whole
-admit_of f false = whole.Refused no_polarity
-admit_of f true = elim f.draws_closed [ true ↦ whole.Checked f | false ↦ whole.Refused open_draw ]
+unfoldable pub admit_of : Facts → Bool → Result Facts Refusal
+admit_of f false = Err NoPolarity
+admit_of f true = elim f.draws_closed [ true ↦ Ok f | false ↦ Err OpenDraw ]
 
--- whether it has the polarity of this word
-unfoldable pub declared_of : Facts → ℕ → Bool
-declared_of f zero = f.plus
-declared_of f (suc n) = f.minus
+-- whether it has this polarity
+unfoldable pub declared_of : Facts → Polarity → Bool
+declared_of f plus = f.plus
+declared_of f minus = f.minus
+
+-- with + for −, and − for +
+abbrev pub turned_facts : Facts → Facts
+turned_facts f = record { plus = f.minus; minus = f.plus; «open» = f.«open»; draws_closed = f.draws_closed }
+
+-- of a definition that is known: the polarity that it declares alone
+abbrev pub one_polarity : Held.Polarity → Bool → Facts
+one_polarity Plus o = record { plus = true; minus = false; «open» = o; draws_closed = true }
+one_polarity Minus o = record { plus = false; minus = true; «open» = o; draws_closed = true }

@@ -3,13 +3,24 @@
 #![tactic(auto)]
 
 ghost use Rattle.std.specs.Prelude.{◌+◌, ◌≤◌, ◌≡◌, ◌&&◌, ◌||◌};
+ghost use Rattle.arrayvec.specs.ArrayVec.{array_vec_len};
 ghost use Rattle.rows.specs.Name.{polarity_of};
-ghost use Rattle.policy.specs.OwnKey.{definition_of};
-ghost use Rattle.check_polarity.specs.Facts.{term_facts, union_of, difference_of, draw_of, absent_of, admit_of, declared_of};
-ghost use Rattle.check_polarity.specs.Earlier.{scope_at, none_before, and_then, earlier_is, known_as};
+ghost use Rattle.rows.specs.Polarities.{polarity_is};
+ghost use Rattle.policy.specs.OwnKey.{declares};
+ghost use Rattle.policy.specs.Leaf.{declaration};
+ghost use Rattle.check_polarity.specs.Facts.{term_facts, union_of, difference_of, draw_of, absent_of, admit_of, declared_of, turned_facts, one_polarity};
+ghost use Rattle.check_polarity.specs.Earlier.{none_before, and_then, known_is, earlier_is, number_in};
 
-// The polarities that an expression has, whether it is open, and whether its draws are from closed sets only.
-#[derive(Clone, Copy)]
+use arrayvec::ArrayVec;
+use refusals::Refusal;
+use rows::Polarity;
+use std::ops::Not;
+
+/// The most definitions that a policy has.
+pub const MOST_DEFINITIONS: usize = 16;
+
+/// The polarities that an expression has, whether it is open, and whether its draws are from closed sets only.
+#[derive(Clone, Copy, Debug, PartialEq, Eq)]
 pub struct Facts {
     pub plus: bool,
     pub minus: bool,
@@ -17,161 +28,189 @@ pub struct Facts {
     pub draws_closed: bool,
 }
 
-// Our key, and what is known of the definitions before: their names, which are declared − and which are open.
-#[derive(Clone, Copy)]
-pub struct Earlier {
-    pub our_key: u32,
-    pub count: u32,
-    pub names: [u32; 16],
-    pub minus: [bool; 16],
-    pub open: [bool; 16],
-}
+// What counts with the opposite polarity: what is taken away, and the set that a row is absent from.
+impl Not for Facts {
+    type Output = Facts;
 
-// What a definition or a query comes to: its facts, or the number of a refusal.
-#[derive(Clone, Copy)]
-pub enum Whole {
-    Checked(Facts),
-    Refused(u32),
-}
+    ghost not_gives = { λ f g. g ≡ turned_facts f };
 
-fn both(a: bool, b: bool) -> bool
-    ensures { result ≡ (a && b) }
-{
-    a && b
-}
-
-pub fn either(a: bool, b: bool) -> bool
-    ensures { result ≡ (a || b) }
-{
-    a || b
-}
-
-pub fn union_of(a: Facts, b: Facts) -> Facts
-    ensures { result ≡ union_of a b }
-{
-    Facts {
-        plus: both(a.plus, b.plus),
-        minus: both(a.minus, b.minus),
-        open: either(a.open, b.open),
-        draws_closed: both(a.draws_closed, b.draws_closed),
-    }
-}
-
-// What stands to the right of a difference counts with the opposite polarity.
-pub fn difference_of(a: Facts, b: Facts) -> Facts
-    ensures { result ≡ difference_of a b }
-{
-    Facts {
-        plus: both(a.plus, b.minus),
-        minus: both(a.minus, b.plus),
-        open: a.open,
-        draws_closed: both(a.draws_closed, b.draws_closed),
-    }
-}
-
-// A draw from `drawn`, before the other guards.
-pub fn draw_of(drawn: Facts, rest: Facts) -> Facts
-    ensures { result ≡ draw_of drawn rest }
-{
-    Facts {
-        plus: both(drawn.plus, rest.plus),
-        minus: both(drawn.minus, rest.minus),
-        open: false,
-        draws_closed: both(!drawn.open, both(drawn.draws_closed, rest.draws_closed)),
-    }
-}
-
-// The set that a row is absent from counts with the opposite polarity.
-pub fn absent_of(lacking: Facts, rest: Facts) -> Facts
-    ensures { result ≡ absent_of lacking rest }
-{
-    Facts {
-        plus: both(lacking.minus, rest.plus),
-        minus: both(lacking.plus, rest.minus),
-        open: false,
-        draws_closed: both(lacking.draws_closed, rest.draws_closed),
-    }
-}
-
-// Of rows of terms, in a literal or a head: "No other operand counts", so terms take no polarity away.
-pub fn of_terms(complement: bool) -> Facts
-    ensures { result ≡ term_facts complement }
-{
-    Facts {
-        plus: true,
-        minus: true,
-        open: complement,
-        draws_closed: true,
-    }
-}
-
-// 6 unless it has the polarity asked for, then 7 unless its draws are from closed sets.
-pub fn admit(facts: Facts, had: bool) -> Whole
-    ensures { result ≡ admit_of facts had }
-{
-    let closed = facts.draws_closed;
-    if !had {
-        return Whole::Refused(refusals::NO_POLARITY);
-    }
-    if !closed {
-        return Whole::Refused(refusals::OPEN_DRAW);
-    }
-    Whole::Checked(facts)
-}
-
-pub fn declared(facts: Facts, polarity: u32) -> bool
-    ensures { result ≡ declared_of facts polarity }
-{
-    if polarity == 0 {
-        facts.plus
-    } else {
-        facts.minus
-    }
-}
-
-// Before any definition.
-pub fn none_earlier(our_key: u32) -> Earlier
-    ensures { (result.count ≡ 0) × (earlier_is result ≡ none_before our_key) }
-{
-    Earlier {
-        our_key,
-        count: 0,
-        names: [0; 16],
-        minus: [false; 16],
-        open: [false; 16],
-    }
-}
-
-// One definition more.
-pub fn with_definition(earlier: Earlier, name: u32, polarity: u32, open: bool) -> Earlier
-    requires { earlier.count ≤ 15 }
-    ensures { (result.count ≡ earlier.count + 1) × (earlier_is result ≡ and_then (earlier_is earlier) (known_as name polarity «open»)) }
-{
-    let n = earlier.count;
-    let i = n as usize;
-    let mut next = earlier;
-    next.names[i] = name;
-    next.minus[i] = polarity != 0;
-    next.open[i] = open;
-    next.count = n + 1;
-    next
-}
-
-// The number of the definition of that name and polarity; where none of those before is it, their count.
-pub fn definition_of(earlier: Earlier, name: u32, polarity: u32) -> u32
-    requires { earlier.count ≤ 16 }
-    ensures { result ≡ definition_of (scope_at (earlier_is earlier)).available name (polarity_of polarity) }
-{
-    let minus = polarity != 0;
-    let count = earlier.count;
-    let mut next: u32 = 0;
-    while next < count {
-        let d = next;
-        let i = d as usize;
-        next += 1;
-        if both(earlier.names[i] == name, earlier.minus[i] == minus) {
-            return d;
+    fn not(self) -> Facts {
+        Facts {
+            plus: self.minus,
+            minus: self.plus,
+            ..self
         }
     }
-    count
+}
+
+impl Facts {
+    // Of rows of terms, in a literal or a head: no other operand counts, so terms take no polarity away.
+    pub fn of_terms(complement: bool) -> Facts
+        ensures { result ≡ term_facts complement }
+    {
+        Facts {
+            plus: true,
+            minus: true,
+            open: complement,
+            draws_closed: true,
+        }
+    }
+
+    // Of what has one polarity alone, as a name or a definition.
+    pub fn of_polarity(polarity: Polarity, open: bool) -> Facts
+        ensures { result ≡ one_polarity polarity «open» }
+    {
+        Facts {
+            plus: polarity == Polarity::Plus,
+            minus: polarity == Polarity::Minus,
+            open,
+            draws_closed: true,
+        }
+    }
+
+    #[tactic(auto, unfolding(crate::specs::Facts::union_of))]
+    pub fn union(self, other: Facts) -> Facts
+        ensures { result ≡ union_of self other }
+    {
+        Facts {
+            plus: self.plus && other.plus,
+            minus: self.minus && other.minus,
+            open: self.open || other.open,
+            draws_closed: self.draws_closed && other.draws_closed,
+        }
+    }
+
+    #[tactic(auto, unfolding(crate::specs::Facts::union_of, crate::specs::Facts::difference_of))]
+    pub fn difference(self, taken: Facts) -> Facts
+        ensures { result ≡ difference_of self taken }
+    {
+        Facts {
+            open: self.open,
+            ..self.union(!taken)
+        }
+    }
+
+    // Of a draw from it, before the other guards.
+    #[tactic(auto, unfolding(crate::specs::Facts::union_of, crate::specs::Facts::draw_of))]
+    pub fn drawn(self, rest: Facts) -> Facts
+        ensures { result ≡ draw_of self rest }
+    {
+        let both = self.union(rest);
+        Facts {
+            open: false,
+            draws_closed: !self.open && both.draws_closed,
+            ..both
+        }
+    }
+
+    // Of a guard that a row is absent from it, before the other guards.
+    #[tactic(auto, unfolding(crate::specs::Facts::union_of, crate::specs::Facts::absent_of))]
+    pub fn lacking(self, rest: Facts) -> Facts
+        ensures { result ≡ absent_of self rest }
+    {
+        Facts {
+            open: false,
+            ..rest.union(!self)
+        }
+    }
+
+    #[tactic(auto, unfolding(crate::specs::Facts::declared_of))]
+    pub fn has(self, polarity: Polarity) -> bool
+        ensures { result ≡ declared_of self (polarity_is polarity) }
+    {
+        match polarity {
+            Polarity::Plus => self.plus,
+            Polarity::Minus => self.minus,
+        }
+    }
+
+    // 6 unless it has the polarity asked for, then 7 unless its draws are from closed sets.
+    #[tactic(auto, unfolding(crate::specs::Facts::admit_of))]
+    pub fn admit(self, had: bool) -> Result<Facts, Refusal>
+        ensures { result ≡ admit_of self had }
+    {
+        if !had {
+            return Err(Refusal::NoPolarity);
+        }
+        if !self.draws_closed {
+            return Err(Refusal::OpenDraw);
+        }
+        Ok(self)
+    }
+}
+
+/// What is known of a definition where another stands after it.
+#[derive(Clone, Copy, Debug, PartialEq, Eq)]
+pub struct Definition {
+    pub name: u32,
+    pub polarity: Polarity,
+    pub open: bool,
+}
+
+impl Definition {
+    #[tactic(auto, unfolding(policy::specs::OwnKey::declares, crate::specs::Earlier::known_is))]
+    fn is_named(&self, name: u32, polarity: Polarity) -> bool
+        ensures { result ≡ declares (declaration (known_is self.now)) name (polarity_is polarity) }
+    {
+        self.name == name && self.polarity == polarity
+    }
+}
+
+impl Default for Definition {
+    fn default() -> Definition {
+        Definition {
+            name: 0,
+            polarity: Polarity::Plus,
+            open: false,
+        }
+    }
+}
+
+/// Our key, and what is known of the definitions before.
+#[derive(Drop)]
+pub struct Earlier {
+    pub our_key: u32,
+    pub definitions: ArrayVec<Definition, MOST_DEFINITIONS>,
+}
+
+impl Earlier {
+    // Before any definition.
+    #[tactic(auto, unfolding(crate::specs::Earlier::earlier_is))]
+    pub fn none(our_key: u32) -> Earlier
+        ensures { earlier_is result ≡ none_before our_key }
+    {
+        Earlier {
+            our_key,
+            definitions: ArrayVec::new(),
+        }
+    }
+
+    // One definition more.
+    #[tactic(auto, unfolding(crate::specs::Earlier::earlier_is))]
+    pub fn push(&mut self, definition: Definition)
+        requires { array_vec_len self.old.definitions ≤ 15 }
+        ensures { earlier_is self.new ≡ and_then (earlier_is self.old) (known_is definition) }
+    {
+        self.definitions.push(definition);
+    }
+
+    // The number of the definition of that name and polarity.
+    pub fn position(&self, name: u32, polarity: Polarity) -> Option<usize>
+        ensures { result ≡ number_in (earlier_is self.now) name (polarity_is polarity) }
+    {
+        self.definitions
+            .iter()
+            .position(|d| d.is_named(name, polarity))
+    }
+}
+
+// The polarity that a word, 0 or another, stands for.
+#[tactic(auto, unfolding(rows::specs::Name::polarity_of))]
+pub fn polarity_of(word: u32) -> Polarity
+    ensures { polarity_is result ≡ polarity_of word }
+{
+    match word {
+        0 => Polarity::Plus,
+        _ => Polarity::Minus,
+    }
 }

@@ -1,3 +1,1 @@
-pub mod Answering
-pub mod TermAnswers
-pub mod RowAnswers
+pub mod Reading

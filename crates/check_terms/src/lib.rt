@@ -1,264 +1,188 @@
 // Terms, slots and the guards that compare terms, decoded word by word.
 #![tactic(auto)]
 
+ghost use Rattle.std.specs.Prelude.{◌≡◌, ◌<◌, ◌≤◌, IfOk, leb, ltb};
 ghost use Rattle.refusals.specs.RefusalTable.{bad_word, not_in_scope};
-ghost use Rattle.policy.specs.Decode.{word_where, term, issuer, row, rows};
-ghost use Rattle.check_terms.specs.Answers.{Follows, keeping, nothing, between, next, slot, scope, pattern, opening, word_read_is, term_read_is, slot_read_is, guard_read_is, passed_is, pattern_read_is};
+ghost use Rattle.policy.specs.Decode.{word, word_where, term_as, term, issuer, width, row, rows};
+ghost use Rattle.policy.specs.Held.{term_is, slot_is, guard_is};
+ghost use Rattle.check_terms.specs.Answers.{answered, same, keeping, nothing, next, tag_is, slot, scope, pattern, opening};
 
-use policy::{
-    GUARD_ABSENT, GUARD_DRAW, GUARD_SAME, Guard, Slot, TAG_ATOM, TAG_NEW, TAG_VARIABLE, Term,
-};
+use policy::codes::{GuardCode, Tag};
+use policy::{Guard, Slot, Term};
+use refusals::Refusal;
 use rows::{FIRST_KEY, MOST_ROWS};
 
 const MOST_ATOMS: u32 = 4;
 
 const LAST_VARIABLE: u32 = 15;
 
-#[derive(Clone, Copy)]
-pub enum WordRead {
-    Found(u32),
-    Refused(u32),
+/// Words that are read one after the other.
+#[derive(Drop)]
+pub struct Decoder<'a> {
+    /// The words that are left.
+    pub words: &'a [u32],
+    /// The draws met so far.
+    pub draws: u32,
 }
 
-// With what is found comes the place of the next word.
-#[derive(Clone, Copy)]
-pub enum TermRead {
-    Found(Term, usize),
-    Refused(u32),
-}
+impl Decoder<'_> {
+    // The next word.
+    pub fn word(&mut self) -> Result<u32, Refusal>
+        ensures { answered same result self.new ≡ word self.old.words.now self.old.draws }
+    {
+        let (word, rest) = self.words.split_first().ok_or(Refusal::BadWord)?;
+        self.words = rest;
+        Ok(*word)
+    }
 
-#[derive(Clone, Copy)]
-pub enum SlotRead {
-    Found(Slot, usize),
-    Refused(u32),
-}
+    // The next word, which is to be `most` or less.
+    #[tactic(auto, unfolding(policy::specs::Readers::word_where))]
+    pub fn word_up_to(&mut self, most: u32) -> Result<u32, Refusal>
+        ensures reads { answered same result self.new ≡ word_where bad_word (λ w. leb w most) self.old.words.now self.old.draws }
+        ensures within { IfOk result (λ w. w ≤ most) }
+    {
+        let word = self.word()?;
+        if most < word {
+            return Err(Refusal::BadWord);
+        }
+        Ok(word)
+    }
 
-#[derive(Clone, Copy)]
-pub enum GuardRead {
-    Found(Guard, usize),
-    Refused(u32),
-}
+    // The next word, the number of one of `count` variables or definitions.
+    #[tactic(auto, unfolding(policy::specs::Readers::word_where))]
+    pub fn number_below(&mut self, count: u32) -> Result<u32, Refusal>
+        ensures reads { answered same result self.new ≡ word_where not_in_scope (λ n. ltb n count) self.old.words.now self.old.draws }
+        ensures below { IfOk result (λ n. n < count) }
+    {
+        let number = self.word()?;
+        if count <= number {
+            return Err(Refusal::NotInScope);
+        }
+        Ok(number)
+    }
 
-// A pattern's answer carries the count of variables in scope after it.
-#[derive(Clone, Copy)]
-pub enum PatternRead {
-    Found(u32, usize),
-    Refused(u32),
-}
+    // The width of a row or a pattern.
+    #[tactic(auto, unfolding(policy::specs::Readers::word_where, policy::specs::Readers::width))]
+    fn width(&mut self) -> Result<u32, Refusal>
+        ensures { answered same result self.new ≡ width self.old.words.now self.old.draws }
+    {
+        let width = self.word()?;
+        if width < 1 || MOST_ATOMS < width {
+            return Err(Refusal::BadWord);
+        }
+        Ok(width)
+    }
 
-// Of what need not be kept, only the place past it.
-#[derive(Clone, Copy)]
-pub enum Passed {
-    To(usize),
-    Refused(u32),
-}
-
-// The word at `at`, which is to lie between `least` and `most`.
-pub fn word_between(words: &[u32], at: usize, least: u32, most: u32) -> WordRead
-    ensures { Follows words.now at (word_read_is at result) (word_where bad_word (between least most)) }
-{
-    if words.len() <= at {
-        return WordRead::Refused(refusals::BAD_WORD);
-    }
-    let word = words[at];
-    if word < least {
-        return WordRead::Refused(refusals::BAD_WORD);
-    }
-    if most < word {
-        return WordRead::Refused(refusals::BAD_WORD);
-    }
-    WordRead::Found(word)
-}
-
-// A term: 0 and an atom, or 1 and the number of a variable in scope.
-pub fn read_term(words: &[u32], at: usize, variables: u32) -> TermRead
-    ensures { Follows words.now at (term_read_is result) (term variables) }
-{
-    if words.len() <= at {
-        return TermRead::Refused(refusals::BAD_WORD);
-    }
-    let tag = words[at];
-    if TAG_VARIABLE < tag {
-        return TermRead::Refused(refusals::BAD_WORD);
-    }
-    let second = at + 1;
-    if words.len() <= second {
-        return TermRead::Refused(refusals::BAD_WORD);
-    }
-    let word = words[second];
-    if tag == TAG_ATOM {
-        return TermRead::Found(Term::Atom(word), at + 2);
-    }
-    if word < variables {
-        TermRead::Found(Term::Variable(word), at + 2)
-    } else {
-        TermRead::Refused(refusals::NOT_IN_SCOPE)
-    }
-}
-
-// An issuer: a term that is no number.
-pub fn read_issuer(words: &[u32], at: usize, variables: u32) -> TermRead
-    ensures { Follows words.now at (term_read_is result) (issuer variables) }
-{
-    match read_term(words, at, variables) {
-        TermRead::Refused(n) => TermRead::Refused(n),
-        TermRead::Found(t, next) => match t {
-            Term::Atom(a) => {
-                if a < FIRST_KEY {
-                    TermRead::Refused(refusals::BAD_WORD)
-                } else {
-                    TermRead::Found(t, next)
+    // What stands after a term's tag: an atom that is `least` or more, or the number of a variable in scope.
+    #[tactic(auto, unfolding(policy::specs::Readers::word_where, policy::specs::Readers::term_as, policy::specs::Held::term_is))]
+    fn term_after(&mut self, tag: Tag, least: u32, variables: u32) -> Result<Term, Refusal>
+        ensures { answered term_is result self.new ≡ term_as (leb least) variables (tag_is tag) self.old.words.now self.old.draws }
+    {
+        match tag {
+            Tag::Atom => {
+                let atom = self.word()?;
+                if atom < least {
+                    return Err(Refusal::BadWord);
                 }
+                Ok(Term::Atom(atom))
             }
-            Term::Variable(_) => TermRead::Found(t, next),
-        },
-    }
-}
-
-// The number of a new variable, after its tag: the count of those in scope, at most 15.
-fn read_new(words: &[u32], at: usize, variables: u32) -> WordRead
-    ensures { Follows words.now at (word_read_is at result) (word_where not_in_scope (next variables)) }
-{
-    if words.len() <= at {
-        return WordRead::Refused(refusals::BAD_WORD);
-    }
-    let word = words[at];
-    if word != variables {
-        return WordRead::Refused(refusals::NOT_IN_SCOPE);
-    }
-    if LAST_VARIABLE < word {
-        return WordRead::Refused(refusals::NOT_IN_SCOPE);
-    }
-    WordRead::Found(word)
-}
-
-// A slot: a term, or 2 and the number of a new variable.
-pub fn read_slot(words: &[u32], at: usize, variables: u32) -> SlotRead
-    ensures { Follows words.now at (slot_read_is result) (slot variables) }
-{
-    match word_between(words, at, TAG_ATOM, TAG_NEW) {
-        WordRead::Refused(n) => SlotRead::Refused(n),
-        WordRead::Found(tag) => {
-            if tag == TAG_NEW {
-                match read_new(words, at + 1, variables) {
-                    WordRead::Refused(n) => SlotRead::Refused(n),
-                    WordRead::Found(_) => SlotRead::Found(Slot::New, at + 2),
-                }
-            } else {
-                match read_term(words, at, variables) {
-                    TermRead::Refused(n) => SlotRead::Refused(n),
-                    TermRead::Found(t, next) => SlotRead::Found(Slot::Old(t), next),
-                }
-            }
+            Tag::Variable => Ok(Term::Variable(self.number_below(variables)?)),
+            Tag::New => Err(Refusal::BadWord),
         }
     }
-}
 
-// A guard's code, and the two terms of a comparison.
-pub fn read_guard(words: &[u32], at: usize, variables: u32) -> GuardRead
-    ensures { Follows words.now at (guard_read_is result) (opening variables) }
-{
-    match word_between(words, at, GUARD_DRAW, GUARD_ABSENT) {
-        WordRead::Refused(n) => GuardRead::Refused(n),
-        WordRead::Found(code) => {
-            if code == GUARD_DRAW {
-                return GuardRead::Found(Guard::Draw, at + 1);
+    // A term: 0 and an atom, or 1 and the number of a variable in scope.
+    #[tactic(auto, unfolding(policy::specs::Readers::term, policy::specs::Readers::tag_of))]
+    fn term(&mut self, variables: u32) -> Result<Term, Refusal>
+        ensures { answered term_is result self.new ≡ term variables self.old.words.now self.old.draws }
+    {
+        let tag = Tag::try_from(self.word()?)?;
+        self.term_after(tag, 0, variables)
+    }
+
+    // An issuer: a term that is no number.
+    #[tactic(auto, unfolding(policy::specs::Readers::issuer, policy::specs::Readers::tag_of))]
+    pub fn issuer(&mut self, variables: u32) -> Result<Term, Refusal>
+        ensures { answered term_is result self.new ≡ issuer variables self.old.words.now self.old.draws }
+    {
+        let tag = Tag::try_from(self.word()?)?;
+        self.term_after(tag, FIRST_KEY, variables)
+    }
+
+    // The number of a new variable, after its tag: the count of those in scope, at most 15.
+    #[tactic(auto, unfolding(policy::specs::Readers::word_where, crate::specs::Answers::next))]
+    fn new_variable(&mut self, variables: u32) -> Result<u32, Refusal>
+        ensures { answered same result self.new ≡ word_where not_in_scope (next variables) self.old.words.now self.old.draws }
+    {
+        let number = self.word()?;
+        if number != variables || LAST_VARIABLE < number {
+            return Err(Refusal::NotInScope);
+        }
+        Ok(number)
+    }
+
+    // A slot: a term, or 2 and the number of a new variable.
+    #[tactic(auto, unfolding(policy::specs::Readers::tag_of, policy::specs::Held::slot_is, crate::specs::Answers::slot, crate::specs::Answers::slot_for))]
+    fn slot(&mut self, variables: u32) -> Result<Slot, Refusal>
+        ensures { answered slot_is result self.new ≡ slot variables self.old.words.now self.old.draws }
+    {
+        match Tag::try_from(self.word()?)? {
+            Tag::New => {
+                self.new_variable(variables)?;
+                Ok(Slot::New)
             }
-            if code == GUARD_ABSENT {
-                return GuardRead::Found(Guard::Absent, at + 1);
-            }
-            match read_term(words, at + 1, variables) {
-                TermRead::Refused(n) => GuardRead::Refused(n),
-                TermRead::Found(x, middle) => match read_term(words, middle, variables) {
-                    TermRead::Refused(n) => GuardRead::Refused(n),
-                    TermRead::Found(y, next) => {
-                        if code == GUARD_SAME {
-                            GuardRead::Found(Guard::Same(x, y), next)
-                        } else {
-                            GuardRead::Found(Guard::Different(x, y), next)
-                        }
-                    }
-                },
-            }
+            tag => Ok(Slot::Old(self.term_after(tag, 0, variables)?)),
         }
     }
-}
 
-// A row: a width and its terms.
-pub fn pass_row(words: &[u32], at: usize, variables: u32) -> Passed
-    ensures { Follows words.now at (passed_is result) (keeping nothing (row variables)) }
-{
-    match word_between(words, at, 1, MOST_ATOMS) {
-        WordRead::Refused(n) => Passed::Refused(n),
-        WordRead::Found(width) => {
-            let mut next = at + 1;
-            let mut left = width;
-            while 0 < left {
-                left -= 1;
-                match read_term(words, next, variables) {
-                    TermRead::Refused(n) => {
-                        return Passed::Refused(n);
-                    }
-                    TermRead::Found(_, after) => {
-                        next = after;
-                    }
-                }
+    // A guard's code, and the two terms of a comparison.
+    #[tactic(auto, unfolding(policy::specs::Decode::guard_of, policy::specs::Held::guard_is, crate::specs::Answers::opening, crate::specs::Answers::opening_for))]
+    pub fn guard(&mut self, variables: u32) -> Result<Guard, Refusal>
+        ensures { answered guard_is result self.new ≡ opening variables self.old.words.now self.old.draws }
+    {
+        match GuardCode::try_from(self.word()?)? {
+            GuardCode::Draw => Ok(Guard::Draw),
+            GuardCode::Same => Ok(Guard::Same(self.term(variables)?, self.term(variables)?)),
+            GuardCode::Different => {
+                Ok(Guard::Different(self.term(variables)?, self.term(variables)?))
             }
-            Passed::To(next)
+            GuardCode::Absent => Ok(Guard::Absent),
         }
     }
-}
 
-// The rows of a literal: their count, then each.
-pub fn pass_rows(words: &[u32], at: usize, variables: u32) -> Passed
-    ensures { Follows words.now at (passed_is result) (keeping nothing (rows variables)) }
-{
-    match word_between(words, at, 0, MOST_ROWS as u32) {
-        WordRead::Refused(n) => Passed::Refused(n),
-        WordRead::Found(count) => {
-            let mut next = at + 1;
-            let mut left = count;
-            while 0 < left {
-                left -= 1;
-                match pass_row(words, next, variables) {
-                    Passed::Refused(n) => {
-                        return Passed::Refused(n);
-                    }
-                    Passed::To(after) => {
-                        next = after;
-                    }
-                }
-            }
-            Passed::To(next)
+    // A row: a width and its terms.
+    pub fn row(&mut self, variables: u32) -> Result<(), Refusal>
+        ensures { answered nothing result self.new ≡ keeping nothing (row variables) self.old.words.now self.old.draws }
+    {
+        let width = self.width()?;
+        for _ in 0..width {
+            self.term(variables)?;
         }
+        Ok(())
     }
-}
 
-// A pattern: a width and its slots, each new variable in scope for those after it.
-pub fn read_pattern(words: &[u32], at: usize, variables: u32) -> PatternRead
-    ensures { Follows words.now at (pattern_read_is result) (keeping scope (pattern variables)) }
-{
-    match word_between(words, at, 1, MOST_ATOMS) {
-        WordRead::Refused(n) => PatternRead::Refused(n),
-        WordRead::Found(width) => {
-            let mut next = at + 1;
-            let mut count = variables;
-            let mut left = width;
-            while 0 < left {
-                left -= 1;
-                match read_slot(words, next, count) {
-                    SlotRead::Refused(n) => {
-                        return PatternRead::Refused(n);
-                    }
-                    SlotRead::Found(s, after) => {
-                        next = after;
-                        if let Slot::New = s {
-                            count += 1;
-                        }
-                    }
-                }
-            }
-            PatternRead::Found(count, next)
+    // The rows of a literal: their count, then each.
+    pub fn rows(&mut self, variables: u32) -> Result<(), Refusal>
+        ensures { answered nothing result self.new ≡ keeping nothing (rows variables) self.old.words.now self.old.draws }
+    {
+        let count = self.word_up_to(MOST_ROWS as u32)?;
+        for _ in 0..count {
+            self.row(variables)?;
         }
+        Ok(())
+    }
+
+    // A pattern: a width and its slots, each new variable in scope for those after it. What is kept is the count of those in scope.
+    pub fn pattern(&mut self, variables: u32) -> Result<u32, Refusal>
+        ensures { answered same result self.new ≡ keeping scope (pattern variables) self.old.words.now self.old.draws }
+    {
+        let width = self.width()?;
+        let mut count = variables;
+        for _ in 0..width {
+            if let Slot::New = self.slot(count)? {
+                count += 1;
+            }
+        }
+        Ok(count)
     }
 }

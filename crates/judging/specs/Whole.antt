@@ -1,28 +1,38 @@
 -- A definition or a query by itself.
-use Rattle.std.specs.Prelude.{ℕ, List}
-use Rattle.rows.specs.Name.{polarity_of}
+use Rattle.std.specs.Prelude.{ℕ, List, Result, Ok, Err}
+use Rattle.refusals.specs.declared.Refusal.{Refusal}
+use Rattle.refusals.specs.Numbers.{number}
+use Rattle.rows.specs.Name.{Polarity}
 use Rattle.policy.specs.Table.{Entry}
-use Rattle.policy.specs.Parse.{Parsed, parsed, refused, parse}
+use Rattle.policy.specs.Parse.{Parsed, parsed, parse}
+use Rattle.policy.specs.Parse as Parse
 use Rattle.policy.specs.Polarity.{has_polarity, draws_closed}
 use Rattle.policy.specs.Definitions.{polarized, check_definition}
 use Rattle.policy.specs.Checking.{check_query}
 use Rattle.check_polarity.specs.Earlier.{Before, scope_at}
 use Rattle.check_polarity.specs.Facts.{facts_for}
-use Rattle.check_polarity.specs.declared.Whole.{Whole}
-use Rattle.check_polarity.specs.declared.Whole.TheVariants as whole
+use Rattle.check_polarity.specs.declared.Facts.{Facts}
 
 -- what it comes to: its facts, or the refusal's number
+pub data Whole : Type 0 where
+  checked : Facts → Whole
+  refused : ℕ → Whole
+
+abbrev pub whole_is : Result Facts Refusal → Whole
+whole_is (Ok f) = checked f
+whole_is (Err r) = refused (number r)
+
 unfoldable pub whole_for : Before → Parsed → Whole
 unfolding facts_for
-whole_for b (parsed e) = whole.Checked (facts_for b e)
-whole_for b (refused n) = whole.Refused n
+whole_for b (parsed e) = checked (facts_for b e)
+whole_for b (Parse.refused n) = refused n
 
--- a definition that declares the polarity of this word
-unfoldable pub definition_parsed : Before → ℕ → List ℕ → Parsed
-unfolding parse polarized has_polarity draws_closed polarity_of
+-- a definition that declares this polarity
+unfoldable pub definition_parsed : Before → Polarity → List ℕ → Parsed
+unfolding parse polarized has_polarity draws_closed
 definition_parsed b polarity ws = elim (parse (scope_at b) ws) [
-  | parsed e ↦ polarized (has_polarity e b.known (polarity_of polarity)) (draws_closed e b.known) e
-  | refused n ↦ refused n
+  | parsed e ↦ polarized (has_polarity e b.known polarity) (draws_closed e b.known) e
+  | Parse.refused n ↦ Parse.refused n
 ]
 
 -- an entry's definition, and a query, where this is known

@@ -1,31 +1,137 @@
 // A policy and a query judged under a key of ours: refusal 20, then 1 to 7, each part through 3 to 7 before the next.
 #![tactic(auto)]
 
-ghost use Rattle.std.specs.Prelude.{◌+◌, ◌≤◌, ◌≡◌, length};
-ghost use Rattle.refusals.specs.RefusalTable.{no_part};
+ghost use Rattle.std.specs.Prelude.{◌<◌, ◌≡◌, Ok};
+ghost use Rattle.rows.specs.Polarities.{polarity_is};
 ghost use Rattle.policy.specs.Polarity.{verdict_word};
-ghost use Rattle.policy.specs.Table.{entry_at, table, read_table};
+ghost use Rattle.policy.specs.Table.{entry_at, read_table};
 ghost use Rattle.policy.specs.Parse.{parse};
-ghost use Rattle.policy.specs.Definitions.{refused, check_table, check_policy};
+ghost use Rattle.policy.specs.Definitions.{check_table, check_policy};
 ghost use Rattle.policy.specs.Checking.{verdict_of};
 ghost use Rattle.policy.specs.Judgement.{judge};
-ghost use Rattle.policy_table.specs.Entries.{entry_place, entries_from};
+ghost use Rattle.policy_table.specs.Entries.{entry_place};
+ghost use Rattle.policy_table.specs.Tables.{table_read};
 ghost use Rattle.check_polarity.specs.Earlier.{scope_at, earlier_is};
-ghost use Rattle.judging.specs.Whole.{whole_for, definition_parsed, definition_at, query_at};
-ghost use Rattle.judging.specs.Reply.{JudgedAs, judgement_for};
+ghost use Rattle.judging.specs.Whole.{whole_is, whole_for, definition_parsed, definition_at, query_at};
+ghost use Rattle.judging.specs.Reply.{ChecksAs, verdict_is, judged_is, JudgedAs, judgement_for};
 
 use check_expressions::check_expr;
-use check_leaves::Checking;
-use check_polarity::{
-    Earlier, Facts, Whole, admit, declared, either, none_earlier, with_definition,
-};
-use policy_table::{TableRead, definition_words, entry_place, read_table};
-use row_words::wide;
-use rows::FIRST_KEY;
+use check_polarity::{Definition, Earlier, Facts};
+use check_terms::Decoder;
+use policy::codes::Verdict;
+use policy_table::{Table, polarity_of};
+use refusals::{Part, Refusal, Refused};
+use rows::{FIRST_KEY, Polarity};
 
 const MOST_LEVELS: u32 = 15;
 
 const MOST_QUERY_WORDS: usize = 1024;
+
+// A definition's or a query's words, and none left over.
+fn check_whole(words: &[u32], earlier: &Earlier) -> Result<Facts, Refusal>
+    ensures { whole_is result ≡ whole_for (earlier_is earlier.now) (parse (scope_at (earlier_is earlier.now)) words.now) }
+{
+    let mut decoder = Decoder { words, draws: 0 };
+    let facts = check_expr(&mut decoder, MOST_LEVELS, 0, earlier)?;
+    if !decoder.words.is_empty() {
+        return Err(Refusal::BadWord);
+    }
+    Ok(facts)
+}
+
+// A definition's words, with the polarity that it declares.
+fn judge_definition(words: &[u32], polarity: Polarity, earlier: &Earlier) -> Result<Facts, Refusal>
+    ensures { whole_is result ≡ whole_for (earlier_is earlier.now) (definition_parsed (earlier_is earlier.now) (polarity_is polarity) words.now) }
+{
+    let facts = check_whole(words, earlier)?;
+    facts.admit(facts.has(polarity))
+}
+
+// A query's words: 1 to 1,024 of them.
+fn judge_query(words: &[u32], earlier: &Earlier) -> Result<Facts, Refusal>
+    ensures { whole_is result ≡ whole_for (earlier_is earlier.now) (query_at (earlier_is earlier.now) words.now) }
+{
+    if words.is_empty() {
+        return Err(Refusal::BadWord);
+    }
+    if MOST_QUERY_WORDS < words.len() {
+        return Err(Refusal::BadWord);
+    }
+    let facts = check_whole(words, earlier)?;
+    facts.admit(facts.plus || facts.minus)
+}
+
+#[tactic(auto, unfolding(policy::specs::Checking::verdict_of, crate::specs::Reply::verdict_is))]
+fn verdict(facts: Facts) -> Verdict
+    ensures { verdict_is result ≡ verdict_of facts.plus facts.minus }
+{
+    match (facts.plus, facts.minus) {
+        (true, true) => Verdict::Exact,
+        (true, false) => Verdict::Lower,
+        (false, _) => Verdict::Upper,
+    }
+}
+
+// Definition `i` of the table, by the words of its part.
+fn judge_entry(table: &Table<'_>, i: usize, earlier: &Earlier) -> Result<Facts, Refusal>
+    requires { i < table.now.count }
+    ensures { whole_is result ≡ whole_for (earlier_is earlier.now) (definition_at table.now.policy.now (earlier_is earlier.now) (entry_at table.now.policy.now (entry_place i))) }
+{
+    let polarity = polarity_of(table.entry(i).polarity);
+    judge_definition(table.definition_words(i), polarity, earlier)
+}
+
+// The definitions in file order, each through 3 to 7 before the next.
+fn check_definitions(table: &Table<'_>, our_key: u32) -> Result<Earlier, Refused>
+    requires { table_read table.now.policy.now (Ok table.now) ≡ read_table table.now.policy.now }
+    ensures { ChecksAs our_key (check_table our_key table.now.policy.now) result }
+{
+    let mut earlier = Earlier::none(our_key);
+    for i in 0..table.count {
+        match judge_entry(table, i, &earlier) {
+            Err(refusal) => {
+                return Err(Refused {
+                    refusal,
+                    part: Part::Definition(i as u32),
+                });
+            }
+            Ok(facts) => {
+                let entry = table.entry(i);
+                earlier.push(Definition {
+                    name: entry.name,
+                    polarity: polarity_of(entry.polarity),
+                    open: facts.open,
+                });
+            }
+        }
+    }
+    Ok(earlier)
+}
+
+/// What is known of a policy's definitions: 20 for our key, 1 and 2 for the table, then 3 to 7 for each definition.
+pub fn check_policy(policy: &[u32], our_key: u32) -> Result<Earlier, Refused>
+    ensures { ChecksAs our_key (check_policy our_key policy.now) result }
+{
+    if our_key < FIRST_KEY {
+        return Err(Refused::from(Refusal::NotAKey));
+    }
+    let table = Table::read(policy)?;
+    check_definitions(&table, our_key)
+}
+
+/// The verdict of a query under a policy and a key of ours, or the refusal: the policy's, then the query's.
+pub fn check(policy: &[u32], query: &[u32], our_key: u32) -> Result<Verdict, Refused>
+    ensures { judged_is result ≡ judge our_key policy.now query.now }
+{
+    let earlier = check_policy(policy, our_key)?;
+    match judge_query(query, &earlier) {
+        Ok(facts) => Ok(verdict(facts)),
+        Err(refusal) => Err(Refused {
+            refusal,
+            part: Part::Query,
+        }),
+    }
+}
 
 #[derive(Clone, Copy)]
 pub enum Judgement {
@@ -40,150 +146,38 @@ pub enum PolicyJudgement {
 }
 
 // A policy's judgement, and what is known of the definitions that passed.
-#[derive(Clone, Copy)]
+#[derive(Drop)]
 pub struct PolicyJudged {
     pub judgement: PolicyJudgement,
     pub earlier: Earlier,
 }
 
-// A definition's or a query's words, and none left over.
-fn check_whole(words: &[u32], earlier: Earlier) -> Whole
-    requires { earlier.count ≤ 16 }
-    ensures { result ≡ whole_for (earlier_is earlier) (parse (scope_at (earlier_is earlier)) words.now) }
-{
-    match check_expr(words, 0, MOST_LEVELS, 0, 0, earlier) {
-        Checking::Refused(n) => Whole::Refused(n),
-        Checking::Found(facts, next, _) => {
-            if next < words.len() {
-                Whole::Refused(refusals::BAD_WORD)
-            } else {
-                Whole::Checked(facts)
-            }
-        }
-    }
-}
-
-// A definition's words, with the polarity that it declares.
-fn judge_definition(words: &[u32], polarity: u32, earlier: Earlier) -> Whole
-    requires { earlier.count ≤ 16 }
-    ensures { result ≡ whole_for (earlier_is earlier) (definition_parsed (earlier_is earlier) polarity words.now) }
-{
-    match check_whole(words, earlier) {
-        Whole::Refused(n) => Whole::Refused(n),
-        Whole::Checked(facts) => admit(facts, declared(facts, polarity)),
-    }
-}
-
-// A query's words: 1 to 1,024 of them.
-fn judge_query(words: &[u32], earlier: Earlier) -> Whole
-    requires { earlier.count ≤ 16 }
-    ensures { result ≡ whole_for (earlier_is earlier) (query_at (earlier_is earlier) words.now) }
-{
-    if words.len() == 0 {
-        return Whole::Refused(refusals::BAD_WORD);
-    }
-    if MOST_QUERY_WORDS < words.len() {
-        return Whole::Refused(refusals::BAD_WORD);
-    }
-    match check_whole(words, earlier) {
-        Whole::Refused(n) => Whole::Refused(n),
-        Whole::Checked(facts) => admit(facts, either(facts.plus, facts.minus)),
-    }
-}
-
-// 0 exact, 1 lower, 2 upper.
-fn verdict(facts: Facts) -> u32
-    ensures { result ≡ verdict_word (verdict_of facts.plus facts.minus) }
-{
-    if facts.plus {
-        if facts.minus { 0 } else { 1 }
-    } else {
-        2
-    }
-}
-
-// Definition `i`, its words read as a part of the policy.
-fn judge_entry(policy: &[u32], i: usize, earlier: Earlier) -> Whole
-    requires { (earlier.count ≤ 16) × (i ≤ 15) × (entry_place i + 4 ≤ length policy.now) × ((entry_at policy.now (entry_place i)).offset + (entry_at policy.now (entry_place i)).size ≤ length policy.now) }
-    ensures { result ≡ whole_for (earlier_is earlier) (definition_at policy.now (earlier_is earlier) (entry_at policy.now (entry_place i))) }
-{
-    let at = entry_place(i);
-    let polarity = policy[at + 1];
-    judge_definition(definition_words(policy, i), polarity, earlier)
-}
-
-// The definitions in file order, each through 3 to 7 before the next.
-fn judge_definitions(policy: &[u32], count: u32, our_key: u32) -> PolicyJudged
-    requires { table (entries_from count policy.now 2) ≡ read_table policy.now }
-    ensures { JudgedAs our_key (check_table our_key policy.now) result }
-{
-    let mut earlier = none_earlier(our_key);
-    let mut next: u32 = 0;
-    while next < count {
-        let part = next;
-        let i = wide(part);
-        next += 1;
-        match judge_entry(policy, i, earlier) {
-            Whole::Refused(number) => {
-                return PolicyJudged {
-                    judgement: PolicyJudgement::Refused { number, part },
-                    earlier,
-                };
-            }
-            Whole::Checked(facts) => {
-                let at = entry_place(i);
-                let name = policy[at];
-                let polarity = policy[at + 1];
-                earlier = with_definition(earlier, name, polarity, facts.open);
-            }
-        }
-    }
-    PolicyJudged {
-        judgement: PolicyJudgement::Passed,
-        earlier,
-    }
-}
-
-// A policy refused as a whole: no part of it is named.
-fn refused_whole(number: u32, our_key: u32) -> PolicyJudged
-    ensures { JudgedAs our_key (refused number no_part) result }
-{
-    PolicyJudged {
-        judgement: PolicyJudgement::Refused {
-            number,
-            part: refusals::NO_PART,
-        },
-        earlier: none_earlier(our_key),
-    }
-}
-
-// A policy by itself: 20 for our key, 1 and 2 for the table, then 3 to 7 for each definition.
 pub fn judge_policy(policy: &[u32], our_key: u32) -> PolicyJudged
     ensures { JudgedAs our_key (check_policy our_key policy.now) result }
 {
-    if our_key < FIRST_KEY {
-        return refused_whole(refusals::NOT_A_KEY, our_key);
-    }
-    match read_table(policy) {
-        TableRead::Refused(number) => refused_whole(number, our_key),
-        TableRead::Sound(count) => judge_definitions(policy, count, our_key),
+    match check_policy(policy, our_key) {
+        Ok(earlier) => PolicyJudged {
+            judgement: PolicyJudgement::Passed,
+            earlier,
+        },
+        Err(refused) => PolicyJudged {
+            judgement: PolicyJudgement::Refused {
+                number: refused.refusal.into(),
+                part: refused.part.into(),
+            },
+            earlier: Earlier::none(our_key),
+        },
     }
 }
 
-// The verdict of a query under a policy and a key of ours, or the refusal: the policy's, then the query's.
 pub fn judge(policy: &[u32], query: &[u32], our_key: u32) -> Judgement
     ensures { result ≡ judgement_for (judge our_key policy.now query.now) }
 {
-    let judged = judge_policy(policy, our_key);
-    let judgement = judged.judgement;
-    match judgement {
-        PolicyJudgement::Refused { number, part } => Judgement::Refused { number, part },
-        PolicyJudgement::Passed => match judge_query(query, judged.earlier) {
-            Whole::Refused(number) => Judgement::Refused {
-                number,
-                part: refusals::QUERY_PART,
-            },
-            Whole::Checked(facts) => Judgement::Verdict(verdict(facts)),
+    match check(policy, query, our_key) {
+        Ok(verdict) => Judgement::Verdict(verdict.into()),
+        Err(refused) => Judgement::Refused {
+            number: refused.refusal.into(),
+            part: refused.part.into(),
         },
     }
 }

@@ -1,0 +1,8 @@
+use Rattle.std.proofs.Common.{rules}
+use Rattle.check_terms.specs.Answers.{slot, slot_for}
+use Rattle.check_terms.proofs.Reading.{untagged}
+use Rattle.check_terms.proofs.Decoder.slot.Goals as goal
+
+pub returns-in_err-tag : goal.returns-in_err-tag
+unfolding slot slot_for
+returns-in_err-tag c = let e = untagged _ _ c.try_from.ensures c.in_err-tag.was in search rules

@@ -1,0 +1,12 @@
+use Rattle.std.proofs.Common.{refl, rules}
+use Rattle.judging.proofs.JudgeAnswers.{policy_checks, policy_refused, query_unjudged, query_judged}
+use Rattle.judging.proofs.check.Goals as goal
+
+pub returns-in_err-earlier : goal.returns-in_err-earlier
+returns-in_err-earlier c = let e = policy_refused c.args.our_key c.args.policy.now c.args.query.now c.check_policy.ensures c.in_err-earlier.was in search rules
+
+pub returns-in-Ok : goal.returns-in-Ok
+returns-in-Ok c = query_judged c.args.our_key c.args.policy.now c.args.query.now _ (policy_checks c.args.our_key c.args.policy.now c.check_policy.ensures c.in_ok-earlier.was) _ c.judge_query.ensures _ c.in-Ok.is c.verdict.ensures
+
+pub returns-in-Err : goal.returns-in-Err
+returns-in-Err c = query_unjudged c.args.our_key c.args.policy.now c.args.query.now _ (policy_checks c.args.our_key c.args.policy.now c.check_policy.ensures c.in_ok-earlier.was) _ c.judge_query.ensures _ c.in-Err.is refl refl
