@@ -1,4 +1,4 @@
-// Words written into an area, copied within it or compared; rows in words, and a row's place among them.
+// Words written into an area or compared; rows in words, and a row's place among them.
 #![tactic(auto)]
 
 pub mod row;
@@ -38,20 +38,4 @@ pub fn write(area: &mut [u32], at: usize, words: &[u32])
     ensures { area.new ≡ put at words.now area.old }
 {
     area[at..at + words.len()].copy_from_slice(words);
-}
-
-/// Copies `count` words to lower places, the first of them first.
-pub fn copy_down(area: &mut [u32], from: usize, to: usize, count: usize)
-    requires { (to ≤ from) × (from + count ≤ length area.old) }
-    ensures { area.new ≡ put to (take count (drop from area.old)) area.old }
-{
-    area.copy_within(from..from + count, to);
-}
-
-/// Copies `count` words to higher places, the last of them first.
-pub fn copy_up(area: &mut [u32], from: usize, to: usize, count: usize)
-    requires { (from ≤ to) × (to + count ≤ length area.old) }
-    ensures { area.new ≡ put to (take count (drop from area.old)) area.old }
-{
-    area.copy_within(from..from + count, to);
 }

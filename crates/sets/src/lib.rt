@@ -52,27 +52,18 @@ fn ascends(set: &[u32], count: usize) -> bool
     true
 }
 
-/// "A set handed in is sound if form, count, widths, zeros and order keep this and no row is cut off."
+/// Are these words a set's: a form of 0 or 1, a count of at most 128 and so many rows, each sound and before the next? Words past the last row are not looked at.
 pub fn sound(set: &[u32]) -> bool
     ensures { result ≡ sound_set set.now }
 {
-    if set.len() < 2 {
-        return false;
-    }
-    if 1 < set[0] {
+    if set.len() < 2 || 1 < set[0] {
         return false;
     }
     let count = set[1] as usize;
-    if MOST_ROWS < count {
+    if MOST_ROWS < count || set.len() < 2 + 5 * count {
         return false;
     }
-    if set.len() < 2 + 5 * count {
-        return false;
-    }
-    if !sound_rows(set, count) {
-        return false;
-    }
-    ascends(set, count)
+    sound_rows(set, count) && ascends(set, count)
 }
 
 // The place of a row among those listed, by halving.
@@ -100,7 +91,7 @@ fn find_from_end(set: &[u32], row: &Row) -> Result<usize, usize>
     }
 }
 
-/// "A row is in a finite answer if it is listed, in a complement if it is not."
+/// Does the row belong to the set? To a finite set if it is listed, to a complement if it is not.
 pub fn has(set: &[u32], row: Row) -> bool
     requires { (sound_set set.now ≡ true) × (row.width ≤ 4) }
     ensures { result ≡ has (set_in set.now) (row_is row) }

@@ -1,7 +1,0 @@
--- The library copies them.
-use Rattle.std.proofs.Common.{◌∙◌, arith}
-use Rattle.row_words.proofs.WordLaws.{copied}
-use Rattle.row_words.proofs.copy_up.Goals as goal
-
-pub returns : goal.returns
-returns c = c.copy_within.ensures.after ∙ copied c.args.area.now c.args.from c.args.to c.args.count (omega arith)
