@@ -204,6 +204,7 @@ impl<'a> Text<'a> {
         ensures { IfOk result (λ words. vec_len words ≤ most) }
     {
         let mut read = Reading::new(alloc, most);
+        // A loop: a step goes past one byte, or past a whole word or the count of a group, which no iterator of bytes does.
         while let Some((first, behind)) = self.rest.split_first() {
             match *first {
                 b'|' | b'\n' => break,
