@@ -92,21 +92,17 @@ module _ {f : From} {ws : List ℕ} {at : ℕ} {values : List ℕ} {count : ℕ}
   ask_leaf c =
       on_leaf (λ e. Stands (scope_in f) count ws at e → AskLeaf f ws at values count) q.here c (λ x s. record { sound = q.sound; bound = q.bound; x = x; here = in_leaf s }) q.here
 
-  ask_union : get_or ws at 0 ≡ 5 → AskTwo f ws (at + 1) values count area
+  pub ask_union : get_or ws at 0 ≡ 5 → AskTwo f ws (at + 1) values count area
   unfolding room_of
   ask_union c =
       on_union (λ e. Stands (scope_in f) count ws at e → 642 * room_of e ≤ length area → AskTwo f ws (at + 1) values count area) q.here c
       (λ a b s r. record { sound = q.sound; bound = q.bound; x = a; y = b; here = in_union s; left = omega arith; right = omega arith }) q.here q.room
 
-  ask_difference : get_or ws at 0 ≡ 6 → AskTwo f ws (at + 1) values count area
+  pub ask_difference : get_or ws at 0 ≡ 6 → AskTwo f ws (at + 1) values count area
   unfolding room_of
   ask_difference c =
       on_difference (λ e. Stands (scope_in f) count ws at e → 642 * room_of e ≤ length area → AskTwo f ws (at + 1) values count area) q.here c
       (λ a b s r. record { sound = q.sound; bound = q.bound; x = a; y = b; here = in_difference s; left = omega arith; right = omega arith }) q.here q.room
-
-  pub ask_two : (get_or ws at 0 ≡ 5) ⊎ (get_or ws at 0 ≡ 6) → AskTwo f ws (at + 1) values count area
-  ask_two (inl c) = ask_union c
-  ask_two (inr c) = ask_difference c
 
   pub ask_guards : {clear : List ℕ} → get_or ws at 0 ≡ 7 → length clear ≡ length area → Empty 0 clear → AskBody f ws (at + 2) (get_or ws (at + 1) 0) values count clear 642
   unfolding room_of
@@ -134,7 +130,7 @@ module _ {f : From} {ws : List ℕ} {at : ℕ} {values : List ℕ} {count k : �
   }
 
   module _ {later area : List ℕ} where
-    say_union : get_or ws at 0 ≡ 5 → SayTwo f ws (at + 1) false values count k r later area → SayExpr f ws at values count k r later area
+    pub say_union : get_or ws at 0 ≡ 5 → SayTwo f ws (at + 1) false values count k r later area → SayExpr f ws at values count k r later area
     unfolding read combined
     say_union c g = record {
       unchanged = g.unchanged;
@@ -145,7 +141,7 @@ module _ {f : From} {ws : List ℕ} {at : ℕ} {values : List ℕ} {count k : �
       };
     }
 
-    say_difference : get_or ws at 0 ≡ 6 → SayTwo f ws (at + 1) true values count k r later area → SayExpr f ws at values count k r later area
+    pub say_difference : get_or ws at 0 ≡ 6 → SayTwo f ws (at + 1) true values count k r later area → SayExpr f ws at values count k r later area
     unfolding read combined
     say_difference c g = record {
       unchanged = g.unchanged;
@@ -155,11 +151,6 @@ module _ {f : From} {ws : List ℕ} {at : ℕ} {values : List ℕ} {count k : �
             on_difference (λ x. Stands (scope_in f) count ws at x → reading f x (take count values) k ≡ outcome (set_in area) r) s c (λ x y h. g.means.says x y (in_difference h)) s;
       };
     }
-
-    pub say_two : (get_or ws at 0 ≡ 5) ⊎ (get_or ws at 0 ≡ 6) → SayTwo f ws (at + 1) (eqb (get_or ws at 0) 6) values count k r later area → SayExpr f ws at values count k r later area
-    say_two (inl c) g =
-        say_union c (subst (λ (b : Bool). SayTwo f ws (at + 1) b values count k r later area) (ne_eqb (get_or ws at 0) 6 (λ d. omega arith)) g)
-    say_two (inr c) g = say_difference c (subst (λ (b : Bool). SayTwo f ws (at + 1) b values count k r later area) (eq-eqb (get_or ws at 0) 6 c) g)
 
 -- the rows gathered are the set
 gathered_filled : (r : Outcome ℕ Refusal) (area : List ℕ) → IfOk Gathering r area → IfOk Filled r area

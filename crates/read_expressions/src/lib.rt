@@ -4,10 +4,12 @@
 #![tactic(auto)]
 
 ghost use Rattle.std.specs.Prelude.{◌≡◌};
+ghost use Rattle.set_algebra.specs.Combined.{is_difference};
 ghost use Rattle.read_values.specs.From.{from};
 ghost use Rattle.read_expressions.specs.Readers.{AskExpr, AskTwo, AskBody, AskDraw, AskEach, AskAbsent, AskHas, SayExpr, SayTwo, SayBody, SayDraw, SayEach, SayAbsent, SayExprHas, AskWhole, SayWhole};
 
-use policy::{CODE_COMPREHENSION, CODE_DIFFERENCE, Guard, is_node};
+use policy::codes::Code;
+use policy::{Guard, is_node};
 use policy_places::guard_at;
 use policy_places::skip::{skip_expr, skip_pattern, skip_row};
 use read_leaves::{leaf_has, read_leaf};
@@ -16,6 +18,7 @@ use read_values::{Bindings, Lent};
 use refusals::Refusal;
 use row_words::wide;
 use rows::SET_ROOM;
+use set_algebra::Operation;
 use sets::clear;
 
 // What is left of a comprehension: so many guards from `at` on, then its head. From `free` on the area is theirs.
@@ -39,21 +42,20 @@ fn read_expr(
     ensures says { SayExpr (from lent.now) lent.now.words.now at bindings.old.values bindings.old.count draws result bindings.new.values area.new }
     ensures same { bindings.new.count ≡ bindings.old.count }
 {
-    let code = lent.words[at];
-    if !is_node(code) {
-        return read_leaf(lent, at, bindings, draws, area);
+    match Code::of(lent.words[at]) {
+        Code::Union => read_two(lent, at + 1, Operation::Union, bindings, draws, area),
+        Code::Difference => read_two(lent, at + 1, Operation::Difference, bindings, draws, area),
+        Code::Comprehension => {
+            let body = Body {
+                at: at + 2,
+                left: lent.words[at + 1],
+                free: SET_ROOM,
+            };
+            clear(area, 0);
+            read_guards(lent, body, bindings, draws, area)
+        }
+        _ => read_leaf(lent, at, bindings, draws, area),
     }
-    if code == CODE_COMPREHENSION {
-        let left = lent.words[at + 1];
-        clear(area, 0);
-        let body = Body {
-            at: at + 2,
-            left,
-            free: SET_ROOM,
-        };
-        return read_guards(lent, body, bindings, draws, area);
-    }
-    read_two(lent, at + 1, code == CODE_DIFFERENCE, bindings, draws, area)
 }
 
 // A union or a difference: the right operand is read into the area behind the left one's set.
@@ -61,19 +63,19 @@ fn read_expr(
 fn read_two(
     lent: &Lent<'_>,
     at: usize,
-    minus: bool,
+    operation: Operation,
     bindings: &mut Bindings,
     draws: u32,
     area: &mut [u32],
 ) -> Result<u32, Refusal>
     requires { AskTwo (from lent.now) lent.now.words.now at bindings.old.values bindings.old.count area.old }
-    ensures says { SayTwo (from lent.now) lent.now.words.now at minus bindings.old.values bindings.old.count draws result bindings.new.values area.new }
+    ensures says { SayTwo (from lent.now) lent.now.words.now at (is_difference operation) bindings.old.values bindings.old.count draws result bindings.new.values area.new }
     ensures same { bindings.new.count ≡ bindings.old.count }
 {
     let used = read_expr(lent, at, bindings, draws, area)?;
     let second = skip_expr(lent.words, at);
     let total = read_expr(lent, second, bindings, used, &mut area[SET_ROOM..])?;
-    combine_parts(minus, total, area)
+    combine_parts(operation, total, area)
 }
 
 // The guards left, then the head.

@@ -11,7 +11,8 @@ ghost use Rattle.certificates.specs.Link.{sound_links};
 ghost use Rattle.read_values.specs.From.{from, names, FilledSets};
 ghost use Rattle.read_leaves.specs.Leaves.{SayRows, SayDefinition, SayAmong, SayOwn, AskOwn, SayOwnSet, SayCertified, SayCertifiedHas, AskName, SayListed, SayListedHas, AskLeaf, SayLeaf, SayLeafHas};
 
-use policy::{CODE_DEFINITION, CODE_NAME, CODE_VETTED, TAG_ATOM};
+use policy::TAG_ATOM;
+use policy::codes::Code;
 use policy_places::skip::skip_row;
 use policy_places::term_at;
 use policy_table::definition_of;
@@ -22,7 +23,8 @@ use refusals::Refusal;
 use row_words::row::Row;
 use row_words::wide;
 use rows::SET_ROOM;
-use sets::{clear, copy, has, insert};
+use sets::listing::insert;
+use sets::{clear, copy, has};
 
 // The rows written there, in a set of this form: no more than a set lists, so there is room for each.
 fn read_rows(lent: &Lent<'_>, at: usize, bindings: &Bindings, area: &mut [u32], form: u32)
@@ -33,7 +35,8 @@ fn read_rows(lent: &Lent<'_>, at: usize, bindings: &Bindings, area: &mut [u32], 
     let mut next = at + 1;
     for _ in 0..lent.words[at] {
         let row = lent.row_of(next, bindings);
-        insert(area, row);
+        // there is room for each
+        let _ = insert(area, row);
         next = skip_row(lent.words, next);
     }
 }
@@ -228,20 +231,20 @@ pub fn read_leaf(
     requires { AskLeaf (from lent.now) lent.now.words.now at bindings.now.values bindings.now.count × (set_room ≤ length area.old) }
     ensures { SayLeaf (from lent.now) lent.now.words.now at (take bindings.now.count bindings.now.values) draws result area.new }
 {
-    let code = lent.words[at];
-    if code == CODE_NAME {
-        return read_listed(lent, at + 1, bindings, draws, area);
+    let word = lent.words[at];
+    match Code::of(word) {
+        Code::Name => read_listed(lent, at + 1, bindings, draws, area),
+        Code::Definition => {
+            copy(definition_set(lent, wide(lent.words[at + 1])), area);
+            Ok(draws)
+        }
+        Code::Vetted => read_vetted(lent, at, bindings, draws, area),
+        _ => {
+            // a literal's code is one more than the form of its set
+            read_rows(lent, at + 1, bindings, area, word - 1);
+            Ok(draws)
+        }
     }
-    if code == CODE_DEFINITION {
-        copy(definition_set(lent, wide(lent.words[at + 1])), area);
-        return Ok(draws);
-    }
-    if code == CODE_VETTED {
-        return read_vetted(lent, at, bindings, draws, area);
-    }
-    // a literal's code is one more than the form of its set
-    read_rows(lent, at + 1, bindings, area, code - 1);
-    Ok(draws)
 }
 
 // Whether the row written at `row` belongs to the leaf. A definition's rows are not copied for it, and a name's hardly ever.
@@ -256,17 +259,16 @@ pub fn leaf_has(
     requires { AskLeaf (from lent.now) lent.now.words.now at bindings.now.values bindings.now.count × (set_room ≤ length area.old) × SomeRow lent.now.words.now row }
     ensures { SayLeafHas (from lent.now) lent.now.words.now at row (take bindings.now.count bindings.now.values) draws result }
 {
-    let code = lent.words[at];
-    if code == CODE_NAME {
-        return listed_has(lent, at + 1, row, bindings, draws, area);
+    match Code::of(lent.words[at]) {
+        Code::Name => listed_has(lent, at + 1, row, bindings, draws, area),
+        Code::Definition => {
+            let set = definition_set(lent, wide(lent.words[at + 1]));
+            Ok((has_row(lent, row, bindings, set), draws))
+        }
+        Code::Vetted => vetted_has(lent, at, row, bindings, draws, area),
+        _ => {
+            let used = read_leaf(lent, at, bindings, draws, area)?;
+            Ok((has_row(lent, row, bindings, area), used))
+        }
     }
-    if code == CODE_DEFINITION {
-        let set = definition_set(lent, wide(lent.words[at + 1]));
-        return Ok((has_row(lent, row, bindings, set), draws));
-    }
-    if code == CODE_VETTED {
-        return vetted_has(lent, at, row, bindings, draws, area);
-    }
-    let used = read_leaf(lent, at, bindings, draws, area)?;
-    Ok((has_row(lent, row, bindings, area), used))
 }

@@ -1,7 +1,7 @@
 -- A row inserted into a sound set, such as the head's, and the membership test of an absent guard.
 use Prim.Native.Nat.{ℕ, ◌≤◌, ◌<◌}
-use mathlib.Core.Path.{◌≡◌, sym, ap, subst, ◌∙◌}
-use mathlib.Core.Bool.{Bool}
+use mathlib.Core.Path.{◌≡◌, refl, sym, ap, subst, ◌∙◌}
+use mathlib.Core.Bool.{Bool, true, false}
 use mathlib.Core.List.{List}
 use native.Mathlib.Omega.{arith}
 use lib.ListN.{length, get_or}
@@ -11,7 +11,12 @@ use Rattle.rows.specs.Row.{Row, row_before}
 use Rattle.rows.specs.Sets.{has}
 use Rattle.rows.specs.Layout.{rows_in, set_in}
 use Rattle.row_words.specs.Values as held
-use Rattle.sets.specs.Values.{inserted_for, after_insert}
+use Rattle.sets.specs.Values.{inserted_for, after_insert, insert_gives, insert_leaves}
+use Rattle.sets.proofs.Inserting.{new_told, known_told, full_told, words_told, known_words_told, full_words_told}
+use Rattle.rows.specs.Sets.{RowSet, listing}
+use Rattle.rows.specs.Ordered.{lists}
+use lib.Dec.{ltb}
+use Rattle.refusals.specs.declared.Refusal.{Refusal}
 use Rattle.row_words.specs.declared.row.Row as HeldRow
 use Rattle.sets.specs.declared.Inserted as Inserted
 use Rattle.sets.specs.declared.Inserted.TheVariants.{New, Known, Full}
@@ -29,7 +34,7 @@ use Rattle.read_steps.specs.Areas.{Gathering, Kept}
 use Rattle.read_steps.specs.Steps.{SayHead, SayHas}
 use Rattle.read_values.proofs.Answers.{stands_filled}
 use Rattle.read_steps.proofs.Areas.{kept_self, written_kept}
-use Rattle.std.specs.Prelude.{Ok, Err}
+use Rattle.std.specs.Prelude.{Result as Outcome, Ok, Err}
 use Rattle.refusals.specs.declared.Refusal.TheVariants.{TooManyRows}
 
 pub row_is_wide : {ws : List ℕ} {at : ℕ} {vs : Values} {r : HeldRow.Row} → length r.atoms ≡ 4 → SayRow ws at vs r → Width (held.row_is r)
@@ -78,6 +83,30 @@ module _ {ws : List ℕ} (f : Filled ws) {r : Row} (width : Width r) (a : Insert
   -- where there is room
   pub listed : length (rows_in ws) < 128 → Listed ws r after
   listed h = there (λ e. let n = full_many ws r f.sound a answer e in let k = insert_shorter row_before row_order r (rows_in ws) in omega arith)
+
+-- ---- the same, as a `Result` tells it
+
+no_room_refusal : (s : RowSet) (r : Row) (x : Refusal) → Err x ≡ insert_gives s r → x ≡ TooManyRows
+unfolding insert_gives
+no_room_refusal s r x e = go (lists row_before (listing s) r) (ltb (length (listing s)) 128) e
+  where
+    go : (b c : Bool) → Err x ≡ (elim b as (λ y. Outcome Bool Refusal) [ true ↦ Ok false | false ↦ elim c as (λ y. Outcome Bool Refusal) [ true ↦ Ok true | false ↦ Err TooManyRows ] ]) → x ≡ TooManyRows
+    go true c h = let z : ◌≡◌ {A = ℕ} 0 1 = cc in absurd (omega arith)
+    go false true h = let z : ◌≡◌ {A = ℕ} 0 1 = cc in absurd (omega arith)
+    go false false h = cc
+
+module _ {ws : List ℕ} (f : Filled ws) {r : Row} (width : Width r) {after : List ℕ} where
+  pub put_listed : (new : Bool) → Ok new ≡ insert_gives (set_in ws) r → after ≡ insert_leaves (Ok new) ws r → Listed ws r after
+  put_listed true answer words = new_listed f width New (new_told (set_in ws) r answer) after (words ∙ words_told true ws r) refl
+  put_listed false answer words = known_listed f width Known (known_told (set_in ws) r answer) after (words ∙ known_words_told false ws r) refl
+
+  pub put_refused : (x : Refusal) → Err x ≡ insert_gives (set_in ws) r → after ≡ insert_leaves (Err x) ws r → NoRoom ws r after × (x ≡ TooManyRows)
+  put_refused x answer words = (full_no_room f width Full (full_told (set_in ws) r x answer) after (words ∙ full_words_told x ws r) refl, no_room_refusal (set_in ws) r x answer)
+
+  -- where there is room
+  pub put_in : (o : Outcome Bool Refusal) → length (rows_in ws) < 128 → o ≡ insert_gives (set_in ws) r → after ≡ insert_leaves o ws r → Listed ws r after
+  put_in (Ok new) less answer words = put_listed new answer words
+  put_in (Err x) less answer words = let n = (put_refused x answer words).0.many in let k = insert_shorter row_before row_order r (rows_in ws) in absurd (omega arith)
 
 -- ---- the head's row
 

@@ -4,6 +4,7 @@
 ghost use Rattle.std.specs.Prelude.{◌+◌, ◌≤◌, ◌≡◌, length, get_or, take, drop};
 ghost use Rattle.rows.specs.Layout.{set_room, row_in, rows_in, five_at};
 ghost use Rattle.meaning.specs.Matching.{fits};
+ghost use Rattle.set_algebra.specs.Combined.{is_difference};
 ghost use Rattle.read_values.specs.Values.{Bound};
 ghost use Rattle.policy_places.specs.Places.{SomeRow, SomePattern};
 ghost use Rattle.read_values.specs.Answers.{Filled};
@@ -15,8 +16,9 @@ use policy_places::slot_at;
 use read_values::{Bindings, Lent, tick};
 use refusals::Refusal;
 use row_words::wide;
-use set_algebra::{TWO_ROOMS, combine};
-use sets::{Inserted, has, insert};
+use set_algebra::{Operation, TWO_ROOMS};
+use sets::has;
+use sets::listing::insert;
 
 // What drawing on came to, with the draws made: a row that matches, and the place behind it; or no row more matches.
 #[derive(Clone, Copy)]
@@ -26,14 +28,12 @@ pub enum Drawn {
 }
 
 // The union or the difference of the set at the front and the one behind it, left at the front. Both parts are read before too many rows are refused.
-pub fn combine_parts(minus: bool, draws: u32, area: &mut [u32]) -> Result<u32, Refusal>
+pub fn combine_parts(operation: Operation, draws: u32, area: &mut [u32]) -> Result<u32, Refusal>
     requires { Filled area.old × Filled (drop set_room area.old) }
-    ensures { SayCombined minus draws area.old result area.new }
+    ensures { SayCombined (is_difference operation) draws area.old result area.new }
 {
-    if combine(minus, &mut area[0..TWO_ROOMS]) {
-        return Ok(draws);
-    }
-    Err(Refusal::TooManyRows)
+    operation.combine(&mut area[0..TWO_ROOMS])?;
+    Ok(draws)
 }
 
 // The matching rule: may a pattern of this width match a row of so many atoms, in a policy of this format? Most rows have its own width.
@@ -93,11 +93,8 @@ pub fn insert_head(
         return Ok(draws);
     }
     let row = lent.row_of(at, bindings);
-    match insert(area, row) {
-        Inserted::New => Ok(draws),
-        Inserted::Known => Ok(draws),
-        Inserted::Full => Err(Refusal::TooManyRows),
-    }
+    insert(area, row)?;
+    Ok(draws)
 }
 
 // Whether the row that the terms come to belongs to the set.

@@ -1,11 +1,12 @@
 -- Each answer calls the law of its step.
 use Rattle.std.proofs.Common.{sym, ◌∙◌, arith}
 use Rattle.std.proofs.lemmas.Result.{err_from_is_err_and}
-use Rattle.policy_places.proofs.Places.{inside, inside_body, union_or_difference}
+use Rattle.policy_places.proofs.Places.{inside, inside_body}
+use Rattle.policy_places.proofs.Codes.{expr_code_lem, leaf_no_node}
 use Rattle.policy_places.proofs.Past.{some_body}
 use Rattle.policy_places.proofs.Held.{guard_told}
 use Rattle.read_values.proofs.Answers.{cleared}
-use Rattle.read_expressions.proofs.Exprs.{some_expr, long, ask_leaf, ask_two, ask_guards, say_leaf, say_two, say_comprehension, say_left_refused, say_right_refused, both_filled, say_combined, tested_row, say_leaf_has, say_has_refused, ask_row, say_has}
+use Rattle.read_expressions.proofs.Exprs.{some_expr, long, ask_leaf, ask_union, ask_difference, ask_guards, say_leaf, say_union, say_difference, say_comprehension, say_left_refused, say_right_refused, both_filled, say_combined, tested_row, say_leaf_has, say_has_refused, ask_row, say_has}
 use Rattle.read_expressions.proofs.Guards.{some_head, ask_draw, ask_absent, ask_compared, say_head, say_draw, say_absent, say_passes, say_fails, operand_later, ask_has, rest_after, absent_back, ask_absent_rest, absent_refused, absent_has, absent_lacks}
 use Rattle.read_expressions.proofs.Draws.{drawn, draw_refused, draw_later, draw_complement, ask_each, say_each, drawing_start, now_room, ask_next, each_refused, refused_same, each_ended, ended_same, each_body, each_nearer, drawing_on, each_body_refused, each_done}
 use Rattle.read_steps.proofs.Drawing.{drawn_told}
@@ -19,41 +20,49 @@ read_expr-offset_bounds-lent-at t c = let i = inside c.requires.here in let fits
 pub read_expr-bounds-lent-at : goal.read_expr-bounds-lent-at
 read_expr-bounds-lent-at t c = let i = inside c.requires.here in omega arith
 
-pub read_expr-read_leaf-requires : goal.read_expr-read_leaf-requires
-read_expr-read_leaf-requires t c = (ask_leaf c.requires (sym c.is_node.ensures ∙ c.if-not-is_node.true), long c.requires)
+pub read_expr-of-requires : goal.read_expr-of-requires
+read_expr-of-requires t c = expr_code_lem (some_expr c.requires)
 
-pub read_expr-returns-then-not-is_node-clause-says : goal.read_expr-returns-then-not-is_node-clause-says
-read_expr-returns-then-not-is_node-clause-says t c = say_leaf (sym c.is_node.ensures ∙ c.if-not-is_node.true) c.read_leaf.ensures
+pub read_expr-overflow_add-at : goal.read_expr-overflow_add-at
+read_expr-overflow_add-at t c = let i = inside c.requires.here in let fits = c.well_formed in omega arith
 
-pub read_expr-bounds-lent-at-then-code-eq-CODE_COMPREHENSION : goal.read_expr-bounds-lent-at-then-code-eq-CODE_COMPREHENSION
-read_expr-bounds-lent-at-then-code-eq-CODE_COMPREHENSION t c =
-    let i = inside_body (some_body (some_expr c.requires) c.if-code-eq-CODE_COMPREHENSION.true).here in omega arith
+pub read_expr-read_two-requires : goal.read_expr-read_two-requires
+read_expr-read_two-requires t c = let i = inside c.requires.here in (omega arith, ask_union c.requires (sym c.in-Union.ensures))
+
+pub read_expr-returns-in-Union-clause-says : goal.read_expr-returns-in-Union-clause-says
+read_expr-returns-in-Union-clause-says t c = say_union (sym c.in-Union.ensures) c.read_two.ensures.says
+
+pub read_expr-overflow_add-at-in-Difference : goal.read_expr-overflow_add-at-in-Difference
+read_expr-overflow_add-at-in-Difference t c = let i = inside c.requires.here in let fits = c.well_formed in omega arith
+
+pub read_expr-read_two-requires-in-Difference : goal.read_expr-read_two-requires-in-Difference
+read_expr-read_two-requires-in-Difference t c = let i = inside c.requires.here in (omega arith, ask_difference c.requires (sym c.in-Difference.ensures))
+
+pub read_expr-returns-in-Difference-clause-says : goal.read_expr-returns-in-Difference-clause-says
+read_expr-returns-in-Difference-clause-says t c = say_difference (sym c.in-Difference.ensures) c.read_two-in-Difference.ensures.says
+
+pub read_expr-bounds-lent-at-in-Comprehension : goal.read_expr-bounds-lent-at-in-Comprehension
+read_expr-bounds-lent-at-in-Comprehension t c = let i = inside_body (some_body (some_expr c.requires) (sym c.in-Comprehension.ensures)).here in omega arith
 
 pub read_expr-clear-requires : goal.read_expr-clear-requires
 read_expr-clear-requires t c = let room = long c.requires in (omega arith, omega arith)
 
 pub read_expr-read_guards-requires : goal.read_expr-read_guards-requires
 read_expr-read_guards-requires t c =
-    let i = inside c.requires.here in (
-      omega arith,
-      ask_guards c.requires c.if-code-eq-CODE_COMPREHENSION.true c.clear.auto.set (cleared c.args.area.now (long c.requires) (omega arith) c.clear.ensures),
-    )
-
-pub read_expr-returns-then-code-eq-CODE_COMPREHENSION-clause-says : goal.read_expr-returns-then-code-eq-CODE_COMPREHENSION-clause-says
-read_expr-returns-then-code-eq-CODE_COMPREHENSION-clause-says t c =
-    say_comprehension c.if-code-eq-CODE_COMPREHENSION.true (cleared c.args.area.now (long c.requires) (omega arith) c.clear.ensures) c.read_guards.ensures.says
-
-pub read_expr-overflow_add-at : goal.read_expr-overflow_add-at
-read_expr-overflow_add-at t c = let i = inside c.requires.here in let fits = c.well_formed in omega arith
-
-pub read_expr-read_two-requires : goal.read_expr-read_two-requires
-read_expr-read_two-requires t c =
     let i = inside c.requires.here in
-    (omega arith, ask_two c.requires (union_or_difference _ (sym c.is_node.ensures ∙ c.if-not-is_node.false) c.if-code-eq-CODE_COMPREHENSION.false))
+    (omega arith, ask_guards c.requires (sym c.in-Comprehension.ensures) c.clear.auto.set (cleared c.args.area.now (long c.requires) (omega arith) c.clear.ensures))
 
-pub read_expr-returns-clause-says : goal.read_expr-returns-clause-says
-read_expr-returns-clause-says t c =
-    say_two (union_or_difference _ (sym c.is_node.ensures ∙ c.if-not-is_node.false) c.if-code-eq-CODE_COMPREHENSION.false) c.read_two.ensures.says
+pub read_expr-returns-in-Comprehension-clause-says : goal.read_expr-returns-in-Comprehension-clause-says
+read_expr-returns-in-Comprehension-clause-says t c =
+    say_comprehension (sym c.in-Comprehension.ensures) (cleared c.args.area.now (long c.requires) (omega arith) c.clear.ensures) c.read_guards.ensures.says
+
+pub read_expr-read_leaf-requires : goal.read_expr-read_leaf-requires
+read_expr-read_leaf-requires t c =
+    (ask_leaf c.requires (leaf_no_node _ c.of.ensures c.in_default.not-Union c.in_default.not-Difference c.in_default.not-Comprehension), long c.requires)
+
+pub read_expr-returns-in_default-clause-says : goal.read_expr-returns-in_default-clause-says
+read_expr-returns-in_default-clause-says t c =
+    say_leaf (leaf_no_node _ c.of.ensures c.in_default.not-Union c.in_default.not-Difference c.in_default.not-Comprehension) c.read_leaf.ensures
 
 -- ---- a union or a difference
 

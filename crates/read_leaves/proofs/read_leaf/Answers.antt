@@ -1,5 +1,7 @@
 -- Each leaf by its code; what it says goes to whichever leaf has that code.
-use Rattle.std.proofs.Common.{arith}
+use Rattle.std.proofs.Common.{sym, arith}
+use Rattle.policy.specs.declared.codes.Code.TheVariants.{Definition, Name, Vetted}
+use Rattle.policy_places.proofs.Codes.{leaf_code_lem, other_code}
 use Rattle.policy_places.proofs.Leaves.{inside_leaf, definition_inside, some_rows}
 use Rattle.read_leaves.proofs.ByCode.{some_here, known_here, ask_listed, literal_code, leaf_rows, leaf_name, leaf_definition}
 use Rattle.read_leaves.proofs.read_leaf.Goals as goal
@@ -10,45 +12,51 @@ offset_bounds-lent-at c = let i = inside_leaf c.requires.0.here in let fits = c.
 pub bounds-lent-at : goal.bounds-lent-at
 bounds-lent-at c = let i = inside_leaf c.requires.0.here in let fits = c.well_formed in omega arith
 
+pub of-requires : goal.of-requires
+of-requires c = leaf_code_lem (some_here c.requires.0)
+
 pub read_listed-requires : goal.read_listed-requires
-read_listed-requires c = (ask_listed c.requires.0 c.if-code-eq-CODE_NAME.true, c.requires.1)
+read_listed-requires c = (ask_listed c.requires.0 (sym c.in-Name.ensures), c.requires.1)
 
-pub returns-then-code-eq-CODE_NAME : goal.returns-then-code-eq-CODE_NAME
-returns-then-code-eq-CODE_NAME c = leaf_name _ c.if-code-eq-CODE_NAME.true c.read_listed.ensures
+pub returns-in-Name : goal.returns-in-Name
+returns-in-Name c = leaf_name _ (sym c.in-Name.ensures) c.read_listed.ensures
 
-pub overflow_add-at-then-code-eq-CODE_DEFINITION : goal.overflow_add-at-then-code-eq-CODE_DEFINITION
-overflow_add-at-then-code-eq-CODE_DEFINITION c =
-    let i = definition_inside (some_here c.requires.0) c.if-code-eq-CODE_DEFINITION.true in
-    let fits = c.well_formed in
-    omega arith
+pub overflow_add-at-in-Definition : goal.overflow_add-at-in-Definition
+overflow_add-at-in-Definition c = let i = definition_inside (some_here c.requires.0) (sym c.in-Definition.ensures) in let fits = c.well_formed in omega arith
 
-pub bounds-lent-at-then-code-eq-CODE_DEFINITION : goal.bounds-lent-at-then-code-eq-CODE_DEFINITION
-bounds-lent-at-then-code-eq-CODE_DEFINITION c =
-    let i = definition_inside (some_here c.requires.0) c.if-code-eq-CODE_DEFINITION.true in
-    omega arith
+pub bounds-lent-at-in-Definition : goal.bounds-lent-at-in-Definition
+bounds-lent-at-in-Definition c = let i = definition_inside (some_here c.requires.0) (sym c.in-Definition.ensures) in omega arith
 
 pub definition_set-requires : goal.definition_set-requires
 definition_set-requires c =
-    let known = known_here c.requires.0 c.if-code-eq-CODE_DEFINITION.true in
+    let known = known_here c.requires.0 (sym c.in-Definition.ensures) in
     let number = c.wide.ensures in
     (omega arith, c.requires.0.sound.defs)
 
-pub returns-then-code-eq-CODE_DEFINITION : goal.returns-then-code-eq-CODE_DEFINITION
-returns-then-code-eq-CODE_DEFINITION c =
-    leaf_definition _ c.if-code-eq-CODE_DEFINITION.true c.wide.ensures c.definition_set.ensures c.args.area.now c.requires.1 c.copy.ensures
+pub returns-in-Definition : goal.returns-in-Definition
+returns-in-Definition c = leaf_definition _ (sym c.in-Definition.ensures) c.wide.ensures c.definition_set.ensures c.args.area.now c.requires.1 c.copy.ensures
 
-pub overflow_sub-code : goal.overflow_sub-code
-overflow_sub-code c =
-    let l = literal_code c.if-code-eq-CODE_DEFINITION.false c.if-code-eq-CODE_NAME.false c.if-code-eq-CODE_VETTED.false (some_here c.requires.0) in
+pub read_vetted-requires : goal.read_vetted-requires
+read_vetted-requires c = (c.requires.0, c.requires.1, sym c.in-Vetted.ensures)
+
+pub overflow_add-at-in_default : goal.overflow_add-at-in_default
+overflow_add-at-in_default c = let i = inside_leaf c.requires.0.here in let fits = c.well_formed in omega arith
+
+pub overflow_sub-word : goal.overflow_sub-word
+overflow_sub-word c =
+    let l = literal_code (other_code _ Definition c.of.ensures c.in_default.not-Definition) (other_code _ Name c.of.ensures c.in_default.not-Name)
+    (other_code _ Vetted c.of.ensures c.in_default.not-Vetted) (some_here c.requires.0) in
     omega arith
 
 pub read_rows-requires : goal.read_rows-requires
 read_rows-requires c =
-    let l = literal_code c.if-code-eq-CODE_DEFINITION.false c.if-code-eq-CODE_NAME.false c.if-code-eq-CODE_VETTED.false (some_here c.requires.0) in
-    (c.requires.0.bound, omega arith, c.requires.1, some_rows c.if-code-eq-CODE_DEFINITION.false c.if-code-eq-CODE_NAME.false c.if-code-eq-CODE_VETTED.false (some_here c.requires.0))
+    let d = other_code _ Definition c.of.ensures c.in_default.not-Definition in
+    let n = other_code _ Name c.of.ensures c.in_default.not-Name in
+    let v = other_code _ Vetted c.of.ensures c.in_default.not-Vetted in
+    let l = literal_code d n v (some_here c.requires.0) in
+    (c.requires.0.bound, omega arith, c.requires.1, some_rows d n v (some_here c.requires.0))
 
-pub returns : goal.returns
-returns c = leaf_rows c.if-code-eq-CODE_DEFINITION.false c.if-code-eq-CODE_NAME.false c.if-code-eq-CODE_VETTED.false c.read_rows.ensures
-
-pub overflow_add-at-2 : goal.overflow_add-at-2
-overflow_add-at-2 c = let i = inside_leaf c.requires.0.here in let fits = c.well_formed in omega arith
+pub returns-in_default : goal.returns-in_default
+returns-in_default c =
+    leaf_rows (other_code _ Definition c.of.ensures c.in_default.not-Definition) (other_code _ Name c.of.ensures c.in_default.not-Name)
+    (other_code _ Vetted c.of.ensures c.in_default.not-Vetted) c.read_rows.ensures

@@ -1,6 +1,6 @@
 use Rattle.std.proofs.Common.{◌≡◌, length, rules, arith}
 use Rattle.read_values.proofs.Answers.{cleared}
-use Rattle.read_steps.proofs.Inserting.{row_is_wide, listed}
+use Rattle.read_steps.proofs.Inserting.{row_is_wide, put_in}
 use Rattle.read_leaves.proofs.Literals.{literal_few, filling_start, filling_row, filling_next, filling_end}
 use Rattle.read_leaves.proofs.read_rows.Goals as goal
 
@@ -25,7 +25,7 @@ loop-preserved c =
     let wide = row_is_wide four c.row_of-row.ensures in
     let few = literal_few c.requires.3 in
     let room = inv.few in
-    let l = listed inv.filled wide c.insert.result c.insert.ensures.answer c.insert.new.set c.insert.ensures.words (omega arith) in
+    let l = put_in inv.filled wide c.insert.result (omega arith) c.insert.ensures.answer c.insert.ensures.words in
     filling_next inv c.loop-test.true c.row_of-row.ensures l c.skip_row-next.ensures
 
 pub returns : goal.returns
