@@ -4,9 +4,9 @@ ghost use Rattle.rows.specs.Ordered.{words_before};
 ghost use Rattle.certificates.specs.Certificate.{record_words, record_term, sound_certificate, sound_term, sound_record, record_before};
 
 use certificates::{RECORD_WORDS, ROW_IN_RECORD, TERM_IN_RECORD};
-use row_words::row::{Order, compare, load};
-use row_words::{compare_words, row};
+use row_words::row::{self, Row};
 use rows::{FIRST_KEY, LAST_NAME};
+use std::cmp::Ordering;
 
 /// Ten words: the key is one, name and polarity are in range, and the row is sound. Its term is not looked at.
 #[tactic(auto, unfolding(certificates::specs::Certificate::sound_certificate))]
@@ -56,13 +56,13 @@ pub fn record_before(a: &[u32], b: &[u32]) -> bool
     requires { (sound_record a.now ≡ true) × (sound_record b.now ≡ true) }
     ensures { result ≡ record_before a.now b.now }
 {
-    match compare_words(a, 0, b, ROW_IN_RECORD) {
-        Order::Before => true,
-        Order::Same => match compare(load(a, ROW_IN_RECORD), b, ROW_IN_RECORD) {
-            Order::Before => true,
-            Order::Same => term_before(a, b),
-            Order::After => false,
+    match a[..ROW_IN_RECORD].cmp(&b[..ROW_IN_RECORD]) {
+        Ordering::Less => true,
+        Ordering::Equal => match Row::at(a, ROW_IN_RECORD).compare(b, ROW_IN_RECORD) {
+            Ordering::Less => true,
+            Ordering::Equal => term_before(a, b),
+            Ordering::Greater => false,
         },
-        Order::After => false,
+        Ordering::Greater => false,
     }
 }
