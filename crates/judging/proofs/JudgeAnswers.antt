@@ -32,10 +32,7 @@ use Rattle.check_polarity.specs.declared.Definition.{Definition}
 use Rattle.check_polarity.specs.declared.Earlier.{Earlier}
 use Rattle.judging.specs.Whole.{Whole, whole_is, whole_for, definition_parsed, definition_at, query_at}
 use Rattle.judging.specs.Whole as whole
-use Rattle.judging.specs.Reply.{ChecksAs, verdict_is, judged_is, JudgedAs, judgement_for}
-use Rattle.judging.specs.declared.PolicyJudgement.TheVariants as policy_judgement
-use Rattle.judging.specs.declared.PolicyJudged.{PolicyJudged}
-use Rattle.judging.specs.declared.Judgement.TheVariants as judgement
+use Rattle.judging.specs.Reply.{JudgedAs, verdict_is, judged_is}
 
 pub known_count : (x : Earlier) → length (earlier_is x).known ≡ length x.definitions.items
 unfolding earlier_is
@@ -46,17 +43,17 @@ module _ (ours : ℕ) (p : List ℕ) where
   by_key : Bool → PolicyChecked
   by_key b = elim b [ true ↦ check_table ours p | false ↦ Definitions.refused not_a_key no_part ]
 
-  pub no_key : (r : Result Earlier Refused) → ours < 2147483648 → ChecksAs ours (Definitions.refused not_a_key no_part) r → ChecksAs ours (check_policy ours p) r
+  pub no_key : (r : Result Earlier Refused) → ours < 2147483648 → JudgedAs ours (Definitions.refused not_a_key no_part) r → JudgedAs ours (check_policy ours p) r
   unfolding check_policy by_key
-  no_key r h j = subst (λ b. ChecksAs ours (by_key b) r) (sym (lt-leb 2147483648 ours h)) j
+  no_key r h j = subst (λ b. JudgedAs ours (by_key b) r) (sym (lt-leb 2147483648 ours h)) j
 
-  pub under_key : (r : Result Earlier Refused) → 2147483648 ≤ ours → ChecksAs ours (check_table ours p) r → ChecksAs ours (check_policy ours p) r
+  pub under_key : (r : Result Earlier Refused) → 2147483648 ≤ ours → JudgedAs ours (check_table ours p) r → JudgedAs ours (check_policy ours p) r
   unfolding check_policy by_key
-  under_key r h j = subst (λ b. ChecksAs ours (by_key b) r) (sym (le-leb 2147483648 ours h)) j
+  under_key r h j = subst (λ b. JudgedAs ours (by_key b) r) (sym (le-leb 2147483648 ours h)) j
 
 -- the definitions from number d on are still to be judged: what is then answered of them is answered of the policy
 pub record Judging (ours : ℕ) (p : List ℕ) (n d : ℕ) (x : Earlier) : Type 0 where
-  pub rest : (r : Result Earlier Refused) → ChecksAs ours (definitions_from ours p (entries_from (n - d) p (entry_place d)) (earlier_is x).known) r → ChecksAs ours (check_table ours p) r
+  pub rest : (r : Result Earlier Refused) → JudgedAs ours (definitions_from ours p (entries_from (n - d) p (entry_place d)) (earlier_is x).known) r → JudgedAs ours (check_table ours p) r
   pub key : (earlier_is x).our_key ≡ ours
   pub count : length (earlier_is x).known ≡ d
   pub few : d ≤ n
@@ -65,17 +62,17 @@ pub record Judging (ours : ℕ) (p : List ℕ) (n d : ℕ) (x : Earlier) : Type 
 of_table : ℕ → List ℕ → Table → PolicyChecked
 of_table ours p t = elim t [ table xs ↦ definitions_from ours p xs [] | Tables.refused n ↦ Definitions.refused n no_part ]
 
-pub table_refused : (ours : ℕ) (p : List ℕ) {y : Refusal} {t : Result TableHeld.Table Refusal} (r : Result Earlier Refused) → table_read p t ≡ read_table p → t ≡ Err y → ChecksAs ours (Definitions.refused (number y) no_part) r →
-    ChecksAs ours (check_table ours p) r
+pub table_refused : (ours : ℕ) (p : List ℕ) {y : Refusal} {t : Result TableHeld.Table Refusal} (r : Result Earlier Refused) → table_read p t ≡ read_table p → t ≡ Err y → JudgedAs ours (Definitions.refused (number y) no_part) r →
+    JudgedAs ours (check_table ours p) r
 unfolding check_table of_table
-table_refused ours p r f e j = subst (λ t. ChecksAs ours (of_table ours p t) r) (sym (ap (table_read p) e) ∙ f) j
+table_refused ours p r f e j = subst (λ t. JudgedAs ours (of_table ours p t) r) (sym (ap (table_read p) e) ∙ f) j
 
 pub none_judged : (ours : ℕ) (p : List ℕ) (n : ℕ) (x : Earlier) → table (entries_from n p 2) ≡ read_table p → earlier_is x ≡ none_before ours → Judging ours p n 0 x
 unfolding check_table of_table
 none_judged ours p n x f k =
     let e : n - 0 ≡ n = omega arith in
     record {
-      rest = λ r h. subst (λ t. ChecksAs ours (of_table ours p t) r) f (rw (k, e) at h);
+      rest = λ r h. subst (λ t. JudgedAs ours (of_table ours p t) r) f (rw (k, e) at h);
       key = ap (λ b. b.our_key) k;
       count = ap (λ b. length b.known) k;
       few = omega arith;
@@ -92,8 +89,8 @@ whole_refused b (parsed e) n t = impossible cc
 whole_refused b (Parse.refused m) n t = cc
 
 -- a definition in front changes nothing of what is answered
-judged_with : (ours : ℕ) (x : Entry) (e : Expr) (c : PolicyChecked) (r : Result Earlier Refused) → ChecksAs ours c r → ChecksAs ours (push_definition x e c) r
-unfolding push_definition ChecksAs
+judged_with : (ours : ℕ) (x : Entry) (e : Expr) (c : PolicyChecked) (r : Result Earlier Refused) → JudgedAs ours c r → JudgedAs ours (push_definition x e c) r
+unfolding push_definition JudgedAs
 judged_with ours x e (passed xs es ks) (Ok y) h = h
 judged_with ours x e (passed xs es ks) (Err y) h = h
 judged_with ours x e (Definitions.refused n part) (Ok y) h = h
@@ -114,19 +111,19 @@ module _ (ours : ℕ) (p : List ℕ) (n d : ℕ) (x : Earlier) (j : Judging ours
     from_here : Parsed → PolicyChecked
     from_here y = elim y [ parsed e ↦ push_definition this e (definitions_from ours p others (ks ++ (known_of this e ks ∷ []))) | Parse.refused n ↦ Definitions.refused n (length ks) ]
 
-    one_more : {y : Parsed} → check_definition ours p ks this ≡ y → (r : Result Earlier Refused) → ChecksAs ours (from_here y) r → ChecksAs ours (check_table ours p) r
+    one_more : {y : Parsed} → check_definition ours p ks this ≡ y → (r : Result Earlier Refused) → JudgedAs ours (from_here y) r → JudgedAs ours (check_table ours p) r
     unfolding entries_from definitions_from this ks others from_here
     one_more h r t =
         let e : suc (n - (d + 1)) ≡ n - d = omega arith in
-        j.rest r (subst (λ m. ChecksAs ours (definitions_from ours p (entries_from m p (entry_place d)) ks) r) e (subst (λ y. ChecksAs ours (from_here y) r) (sym h) t))
+        j.rest r (subst (λ m. JudgedAs ours (definitions_from ours p (entries_from m p (entry_place d)) ks) r) e (subst (λ y. JudgedAs ours (from_here y) r) (sym h) t))
 
     module _ (w : Result Facts Refusal) (g : whole_is w ≡ whole_for (earlier_is x) (definition_at p (earlier_is x) (entry_at p (entry_place d)))) where
       -- the code's key is ours
       comes : whole_is w ≡ whole_for (earlier_is x) (check_definition ours p (earlier_is x).known (entry_at p (entry_place d)))
       comes = g ∙ ap (λ (o : ℕ). whole_for (earlier_is x) (check_definition o p (earlier_is x).known (entry_at p (entry_place d)))) j.key
 
-      pub judging_refused : {y : Refusal} (r : Refused) → w ≡ Err y → r.refusal ≡ y → part_number r.part ≡ d → ChecksAs ours (check_table ours p) (Err r)
-      unfolding ChecksAs this ks from_here
+      pub judging_refused : {y : Refusal} (r : Refused) → w ≡ Err y → r.refusal ≡ y → part_number r.part ≡ d → JudgedAs ours (check_table ours p) (Err r)
+      unfolding JudgedAs this ks from_here
       judging_refused {y} r e h i =
           one_more (whole_refused (earlier_is x) _ (number y) (sym comes ∙ ap whole_is e)) (Err r) (ap number h, i ∙ sym j.count)
 
@@ -145,11 +142,11 @@ module _ (ours : ℕ) (p : List ℕ) (n d : ℕ) (x : Earlier) (j : Judging ours
             few = omega arith;
           }
 
-  pub all_judged : n ≤ d → ChecksAs ours (check_table ours p) (Ok x)
-  unfolding entries_from definitions_from ChecksAs
+  pub all_judged : n ≤ d → JudgedAs ours (check_table ours p) (Ok x)
+  unfolding entries_from definitions_from JudgedAs
   all_judged done =
       let z : 0 ≡ n - d = omega arith in
-      j.rest (Ok x) (subst (λ m. ChecksAs ours (definitions_from ours p (entries_from m p (entry_place d)) (earlier_is x).known) (Ok x)) z
+      j.rest (Ok x) (subst (λ m. JudgedAs ours (definitions_from ours p (entries_from m p (entry_place d)) (earlier_is x).known) (Ok x)) z
       (ap (λ (o : ℕ). record { our_key = o; known = (earlier_is x).known }) j.key))
 
 -- ---- the query
@@ -165,24 +162,24 @@ pub record Checks (ours : ℕ) (p : List ℕ) (x : Earlier) : Type 0 where
   pub passes : check_policy ours p ≡ passed entries exprs (earlier_is x).known
   pub key : (earlier_is x).our_key ≡ ours
 
-pub policy_checks : (ours : ℕ) (p : List ℕ) {r : Result Earlier Refused} {x : Earlier} → ChecksAs ours (check_policy ours p) r → r ≡ Ok x → Checks ours p x
-unfolding ChecksAs
+pub policy_checks : (ours : ℕ) (p : List ℕ) {r : Result Earlier Refused} {x : Earlier} → JudgedAs ours (check_policy ours p) r → r ≡ Ok x → Checks ours p x
+unfolding JudgedAs
 policy_checks ours p {r} {x} h e = go (check_policy ours p) refl (rw e at h)
   where
-    go : (c : PolicyChecked) → check_policy ours p ≡ c → ChecksAs ours c (Ok x) → Checks ours p x
+    go : (c : PolicyChecked) → check_policy ours p ≡ c → JudgedAs ours c (Ok x) → Checks ours p x
     go (passed xs es ks) c t = record { entries = xs; exprs = es; passes = c ∙ ap (λ ks. passed xs es ks) (sym (ap (λ b. b.known) t)); key = ap (λ b. b.our_key) t }
     go (Definitions.refused n part) c t = absurd t
 
-pub policy_fails : (ours : ℕ) (p : List ℕ) {r : Result Earlier Refused} {y : Refused} → ChecksAs ours (check_policy ours p) r → r ≡ Err y → check_policy ours p ≡ Definitions.refused (number y.refusal) (part_number y.part)
-unfolding ChecksAs
+pub policy_fails : (ours : ℕ) (p : List ℕ) {r : Result Earlier Refused} {y : Refused} → JudgedAs ours (check_policy ours p) r → r ≡ Err y → check_policy ours p ≡ Definitions.refused (number y.refusal) (part_number y.part)
+unfolding JudgedAs
 policy_fails ours p {r} {y} h e = go (check_policy ours p) (rw e at h)
   where
-    go : (c : PolicyChecked) → ChecksAs ours c (Err y) → c ≡ Definitions.refused (number y.refusal) (part_number y.part)
+    go : (c : PolicyChecked) → JudgedAs ours c (Err y) → c ≡ Definitions.refused (number y.refusal) (part_number y.part)
     go (passed xs es ks) t = absurd t
     go (Definitions.refused m k) t = rw (t.0, t.1) refl
 
 module _ (ours : ℕ) (p q : List ℕ) where
-  pub policy_refused : {r : Result Earlier Refused} {y : Refused} → ChecksAs ours (check_policy ours p) r → r ≡ Err y → judged_is (Err y) ≡ judge ours p q
+  pub policy_refused : {r : Result Earlier Refused} {y : Refused} → JudgedAs ours (check_policy ours p) r → r ≡ Err y → judged_is (Err y) ≡ judge ours p q
   unfolding judge check reply_of judged_is with_query
   policy_refused h e = sym (ap (λ (c : PolicyChecked). with_query ours q c) (policy_fails ours p h e))
 
@@ -210,59 +207,6 @@ module _ (ours : ℕ) (p q : List ℕ) where
     query_judged {f} v e h =
         let t = whole_parsed _ _ f (sym query_comes ∙ ap whole_is e) in
         sym (at_query t.1 ∙ ap JudgementReply.verdict (ap (λ f. verdict_of f.plus f.minus) t.2 ∙ sym h))
-
--- ---- as numbers
-
-pub told_passed : (ours : ℕ) (c : PolicyChecked) {r : Result Earlier Refused} {x : Earlier} (y : PolicyJudged) → ChecksAs ours c r → r ≡ Ok x → y.judgement ≡ policy_judgement.Passed → y.earlier ≡ x → JudgedAs ours c y
-unfolding ChecksAs JudgedAs
-told_passed ours c {r} {x} y h e j k = go c (rw e at h)
-  where
-    go : (c : PolicyChecked) → ChecksAs ours c (Ok x) → JudgedAs ours c y
-    go (passed xs es ks) t = record { judged = j; known = ap earlier_is k ∙ t }
-    go (Definitions.refused n part) t = absurd t
-
-pub told_refused : (ours : ℕ) (c : PolicyChecked) {r : Result Earlier Refused} {z : Refused} (y : PolicyJudged) {n part : ℕ} → ChecksAs ours c r → r ≡ Err z → y.judgement ≡ policy_judgement.Refused n part → n ≡ number z.refusal → part ≡ part_number z.part →
-    JudgedAs ours c y
-unfolding ChecksAs JudgedAs
-told_refused ours c {r} {z} y {n} {part} h e j k l = go c (rw e at h)
-  where
-    go : (c : PolicyChecked) → ChecksAs ours c (Err z) → JudgedAs ours c y
-    go (passed xs es ks) t = absurd t
-    go (Definitions.refused m i) t = j ∙ rw (k ∙ t.0, l ∙ t.1) refl
-
-pub told_verdict : (v : HeldVerdict.Verdict) {n : ℕ} {r : JudgementReply} → judged_is (Ok v) ≡ r → n ≡ verdict_number v → judgement.Verdict n ≡ judgement_for r
-unfolding judged_is judgement_for verdict_word verdict_is
-told_verdict held.Exact e h = ap judgement.Verdict h ∙ ap judgement_for e
-told_verdict held.Lower e h = ap judgement.Verdict h ∙ ap judgement_for e
-told_verdict held.Upper e h = ap judgement.Verdict h ∙ ap judgement_for e
-
-pub told_refusal : (z : Refused) {n part : ℕ} {r : JudgementReply} → judged_is (Err z) ≡ r → n ≡ number z.refusal → part ≡ part_number z.part → judgement.Refused n part ≡ judgement_for r
-unfolding judged_is judgement_for
-told_refusal z e h i = rw (h, i) (ap judgement_for e)
-
--- a policy that passed, as numbers
-pub record Passing (ours : ℕ) (p : List ℕ) (r : PolicyJudged) : Type 0 where
-  pub entries : List Entry
-  pub exprs : List Expr
-  pub passes : check_policy ours p ≡ passed entries exprs (earlier_is r.earlier).known
-  pub key : (earlier_is r.earlier).our_key ≡ ours
-
-module _ (ours : ℕ) (p : List ℕ) (r : PolicyJudged) (h : JudgedAs ours (check_policy ours p) r) where
-  pub policy_passes : r.judgement ≡ policy_judgement.Passed → Passing ours p r
-  unfolding JudgedAs
-  policy_passes e = go (check_policy ours p) refl h
-    where
-      go : (c : PolicyChecked) → check_policy ours p ≡ c → JudgedAs ours c r → Passing ours p r
-      go (passed xs es ks) c t = record { entries = xs; exprs = es; passes = rw t.known c; key = ap (λ b. b.our_key) t.known }
-      go (Definitions.refused n part) c t = impossible cc
-
-  pub policy_refuses : {n part : ℕ} → r.judgement ≡ policy_judgement.Refused n part → check_policy ours p ≡ Definitions.refused n part
-  unfolding JudgedAs
-  policy_refuses {n} {part} e = go (check_policy ours p) h
-    where
-      go : (c : PolicyChecked) → JudgedAs ours c r → c ≡ Definitions.refused n part
-      go (passed xs es ks) t = let u = t.judged in impossible cc
-      go (Definitions.refused m k) t = let a : m ≡ n = cc in let b : k ≡ part = cc in rw (a, b) refl
 
 pub entry_judged : (p : List ℕ) (b : Before) (x : Entry) {r : Whole} {w : ℕ} {ws : List ℕ} → r ≡ whole_for b (definition_parsed b (polarity_of w) ws) → w ≡ x.polarity → ws ≡ entry_words p x → r ≡ whole_for b (definition_at p b x)
 unfolding definition_parsed check_definition

@@ -3,7 +3,6 @@
 
 ghost use Rattle.std.specs.Prelude.{◌<◌, ◌≡◌, Ok};
 ghost use Rattle.rows.specs.Polarities.{polarity_is};
-ghost use Rattle.policy.specs.Polarity.{verdict_word};
 ghost use Rattle.policy.specs.Table.{entry_at, read_table};
 ghost use Rattle.policy.specs.Parse.{parse};
 ghost use Rattle.policy.specs.Definitions.{check_table, check_policy};
@@ -13,7 +12,7 @@ ghost use Rattle.policy_table.specs.Entries.{entry_place};
 ghost use Rattle.policy_table.specs.Tables.{table_read};
 ghost use Rattle.check_polarity.specs.Earlier.{scope_at, earlier_is};
 ghost use Rattle.judging.specs.Whole.{whole_is, whole_for, definition_parsed, definition_at, query_at};
-ghost use Rattle.judging.specs.Reply.{ChecksAs, verdict_is, judged_is, JudgedAs, judgement_for};
+ghost use Rattle.judging.specs.Reply.{JudgedAs, verdict_is, judged_is};
 
 use check_expressions::check_expr;
 use check_polarity::{Definition, Earlier, Facts};
@@ -82,9 +81,9 @@ fn judge_entry(table: &Table<'_>, i: usize, earlier: &Earlier) -> Result<Facts, 
 }
 
 // The definitions in file order, each through 3 to 7 before the next.
-fn check_definitions(table: &Table<'_>, our_key: u32) -> Result<Earlier, Refused>
+fn judge_definitions(table: &Table<'_>, our_key: u32) -> Result<Earlier, Refused>
     requires { table_read table.now.policy.now (Ok table.now) ≡ read_table table.now.policy.now }
-    ensures { ChecksAs our_key (check_table our_key table.now.policy.now) result }
+    ensures { JudgedAs our_key (check_table our_key table.now.policy.now) result }
 {
     let mut earlier = Earlier::none(our_key);
     for i in 0..table.count {
@@ -109,75 +108,26 @@ fn check_definitions(table: &Table<'_>, our_key: u32) -> Result<Earlier, Refused
 }
 
 /// What is known of a policy's definitions: 20 for our key, 1 and 2 for the table, then 3 to 7 for each definition.
-pub fn check_policy(policy: &[u32], our_key: u32) -> Result<Earlier, Refused>
-    ensures { ChecksAs our_key (check_policy our_key policy.now) result }
+pub fn judge_policy(policy: &[u32], our_key: u32) -> Result<Earlier, Refused>
+    ensures { JudgedAs our_key (check_policy our_key policy.now) result }
 {
     if our_key < FIRST_KEY {
         return Err(Refused::from(Refusal::NotAKey));
     }
     let table = Table::read(policy)?;
-    check_definitions(&table, our_key)
+    judge_definitions(&table, our_key)
 }
 
 /// The verdict of a query under a policy and a key of ours, or the refusal: the policy's, then the query's.
-pub fn check(policy: &[u32], query: &[u32], our_key: u32) -> Result<Verdict, Refused>
+pub fn judge(policy: &[u32], query: &[u32], our_key: u32) -> Result<Verdict, Refused>
     ensures { judged_is result ≡ judge our_key policy.now query.now }
 {
-    let earlier = check_policy(policy, our_key)?;
+    let earlier = judge_policy(policy, our_key)?;
     match judge_query(query, &earlier) {
         Ok(facts) => Ok(verdict(facts)),
         Err(refusal) => Err(Refused {
             refusal,
             part: Part::Query,
         }),
-    }
-}
-
-#[derive(Clone, Copy)]
-pub enum Judgement {
-    Verdict(u32),
-    Refused { number: u32, part: u32 },
-}
-
-#[derive(Clone, Copy)]
-pub enum PolicyJudgement {
-    Passed,
-    Refused { number: u32, part: u32 },
-}
-
-// A policy's judgement, and what is known of the definitions that passed.
-#[derive(Drop)]
-pub struct PolicyJudged {
-    pub judgement: PolicyJudgement,
-    pub earlier: Earlier,
-}
-
-pub fn judge_policy(policy: &[u32], our_key: u32) -> PolicyJudged
-    ensures { JudgedAs our_key (check_policy our_key policy.now) result }
-{
-    match check_policy(policy, our_key) {
-        Ok(earlier) => PolicyJudged {
-            judgement: PolicyJudgement::Passed,
-            earlier,
-        },
-        Err(refused) => PolicyJudged {
-            judgement: PolicyJudgement::Refused {
-                number: refused.refusal.into(),
-                part: refused.part.into(),
-            },
-            earlier: Earlier::none(our_key),
-        },
-    }
-}
-
-pub fn judge(policy: &[u32], query: &[u32], our_key: u32) -> Judgement
-    ensures { result ≡ judgement_for (judge our_key policy.now query.now) }
-{
-    match check(policy, query, our_key) {
-        Ok(verdict) => Judgement::Verdict(verdict.into()),
-        Err(refused) => Judgement::Refused {
-            number: refused.refusal.into(),
-            part: refused.part.into(),
-        },
     }
 }

@@ -1,6 +1,6 @@
 -- What is replied of a policy that passed 20 and 1 to 7, and the area after it.
 use Prim.Native.Nat.{ℕ, ◌≤◌, ◌<◌}
-use Rattle.std.proofs.Common.{Option, Some, None, Result}
+use Rattle.std.proofs.Common.{Option, Some, None, Result, Ok, Err}
 use mathlib.Core.Path.{◌≡◌, refl, sym, ◌∙◌, ap, subst}
 use mathlib.Core.Bool.{Bool, true, false, ◌&&◌}
 use mathlib.Core.List.{List, [], ◌∷◌, ◌++◌}
@@ -15,16 +15,15 @@ use Rattle.policy.specs.Definitions.{PolicyChecked, passed, check_policy}
 use Rattle.policy.specs.Definitions as Definitions
 use Rattle.policy.specs.External.{is_external, output, Rewriting, rewritten, refused, rewrite, rewrite_into, area_after}
 use Rattle.check_polarity.specs.Earlier.{earlier_is}
+use Rattle.check_polarity.specs.declared.Earlier.{Earlier}
+use Rattle.refusals.specs.Numbers.{told}
+use Rattle.refusals.specs.declared.Refused.{Refused}
 use Rattle.judging.specs.Reply.{JudgedAs}
-use Rattle.judging.specs.declared.PolicyJudgement.TheVariants as policy_judgement
-use Rattle.judging.specs.declared.PolicyJudged.{PolicyJudged}
-use Rattle.judging.proofs.JudgeAnswers.{policy_passes, policy_refuses}
+use Rattle.judging.proofs.JudgeAnswers.{policy_checks, policy_fails}
 use Rattle.policy_rewriting.specs.Output.{Passing, MeasuredAs, SayWords, rewritten_for, RepliedAs, replied, SayReply}
-use Rattle.policy_rewriting.specs.declared.Rewritten.{Rewritten}
-use Rattle.policy_rewriting.specs.declared.Rewritten.TheVariants as reply
 use Rattle.policy_rewriting.proofs.Laid.{laid_whole}
 
-by_outcome : (ours : ℕ) (policy area : List ℕ) {r : Rewritten} {after : List ℕ} (o : Rewriting) → rewrite_into ours policy area ≡ o → r ≡ rewritten_for o → after ≡ area_after o area → RepliedAs ours policy area r after
+by_outcome : (ours : ℕ) (policy area : List ℕ) {r : Result ℕ (ℕ × ℕ)} {after : List ℕ} (o : Rewriting) → rewrite_into ours policy area ≡ o → r ≡ rewritten_for o → after ≡ area_after o area → RepliedAs ours policy area r after
 by_outcome ours policy area o e f g = (f ∙ ap rewritten_for (sym e), g ∙ ap (λ (x : Rewriting). area_after x area) (sym e))
 
 -- how 15 is tested, of a policy as it was checked
@@ -63,7 +62,7 @@ module _ (policy area : List ℕ) (g : Passing policy) where
       checked g.ours policy g.passes
       ∙ ap (λ (b : Bool). elim b as (λ d. Rewriting) [ true ↦ rewritten (output policy g.entries g.exprs) | false ↦ refused not_external no_part ]) e
 
-  pub not_external_lem : {before after : List ℕ} {r : Option ℕ} → SayWords policy before r after → r ≡ None → RepliedAs g.ours policy area (reply.Refused not_external no_part) area
+  pub not_external_lem : {before after : List ℕ} {r : Option ℕ} → SayWords policy before r after → r ≡ None → RepliedAs g.ours policy area (Err (not_external, no_part)) area
   unfolding MeasuredAs rewritten_for area_after
   not_external_lem w e = by_outcome g.ours policy area (refused not_external no_part) (into g.ours policy area (tested {b = false} (ap (λ (b : Bool). b && leb (length ws) 8192) (measured w e)))) refl refl
 
@@ -76,7 +75,7 @@ module _ (policy area : List ℕ) (g : Passing policy) where
     unfolding MeasuredAs
     fits h = ap (λ (b : Bool). b && leb (length ws) 8192) (measured w e).0 ∙ ap (λ (k : ℕ). leb k 8192) (sym size) ∙ h
 
-    pub too_long : 8192 < n → RepliedAs g.ours policy area (reply.Refused not_external no_part) area
+    pub too_long : 8192 < n → RepliedAs g.ours policy area (Err (not_external, no_part)) area
     unfolding rewritten_for area_after
     too_long h = by_outcome g.ours policy area (refused not_external no_part) (into g.ours policy area (tested {b = false} (fits (lt-leb n 8192 h)))) refl refl
 
@@ -87,33 +86,33 @@ module _ (policy area : List ℕ) (g : Passing policy) where
           into g.ours policy area (tested {b = true} (fits (le-leb n 8192 few)))
           ∙ ap (λ (b : Bool). elim b as (λ d. Rewriting) [ true ↦ rewritten ws | false ↦ refused short_area no_part ]) (ap (λ (k : ℕ). leb k (length area)) (sym size) ∙ h)
 
-      pub too_short : length area < n → RepliedAs g.ours policy area (reply.Refused short_area no_part) area
+      pub too_short : length area < n → RepliedAs g.ours policy area (Err (short_area, no_part)) area
       unfolding rewritten_for area_after
       too_short h = by_outcome g.ours policy area (refused short_area no_part) (room {b = false} (lt-leb n (length area) h)) refl refl
 
-      pub all_rewritten : {same last : List ℕ} {s : Option ℕ} → same ≡ area → n ≤ length same → SayWords policy same s last → RepliedAs g.ours policy area (reply.Length n) last
+      pub all_rewritten : {same last : List ℕ} {s : Option ℕ} → same ≡ area → n ≤ length same → SayWords policy same s last → RepliedAs g.ours policy area (Ok n) last
       unfolding rewritten_for area_after MeasuredAs output ws
       all_rewritten {last = last} {s = s} q h v = go s (rw q at (v.says g))
         where
-          go : (s : Option ℕ) → MeasuredAs (is_external g.entries g.exprs) (output policy g.entries g.exprs) area s last → RepliedAs g.ours policy area (reply.Length n) last
-          go (Some m) d = by_outcome g.ours policy area (rewritten ws) (room {b = true} (le-leb n (length area) (rw q at h))) (ap reply.Length size) (d.2 ∙ laid_whole ws area (subst (λ (k : ℕ). k ≤ length area) size (rw q at h)))
+          go : (s : Option ℕ) → MeasuredAs (is_external g.entries g.exprs) (output policy g.entries g.exprs) area s last → RepliedAs g.ours policy area (Ok n) last
+          go (Some m) d = by_outcome g.ours policy area (rewritten ws) (room {b = true} (le-leb n (length area) (rw q at h))) (ap Ok size) (d.2 ∙ laid_whole ws area (subst (λ (k : ℕ). k ≤ length area) size (rw q at h)))
           go None d = never (measured w e).0 d
 
 -- passed 20 and 1 to 7
-pub policy_passing : (ours : ℕ) {policy : List ℕ} (r : PolicyJudged) → JudgedAs ours (check_policy ours policy) r → r.judgement ≡ policy_judgement.Passed → Passing policy
-policy_passing ours {policy} r h e = let g = policy_passes ours policy r h e in record { ours = ours; entries = g.entries; exprs = g.exprs; known = (earlier_is r.earlier).known; passes = g.passes }
+pub policy_passing : (ours : ℕ) {policy : List ℕ} {r : Result Earlier Refused} {x : Earlier} → JudgedAs ours (check_policy ours policy) r → r ≡ Ok x → Passing policy
+policy_passing ours {policy} {x = x} h e = let g = policy_checks ours policy h e in record { ours = ours; entries = g.entries; exprs = g.exprs; known = (earlier_is x).known; passes = g.passes }
 
-pub passed_replied : (ours : ℕ) {policy area : List ℕ} (j : PolicyJudged) {r : Result ℕ Refusal} {after : List ℕ} → JudgedAs ours (check_policy ours policy) j → j.judgement ≡ policy_judgement.Passed →
+pub passed_replied : (ours : ℕ) {policy area : List ℕ} {j : Result Earlier Refused} {x : Earlier} {r : Result ℕ Refusal} {after : List ℕ} → JudgedAs ours (check_policy ours policy) j → j ≡ Ok x →
     SayReply policy area r after → RepliedAs ours policy area (replied r) after
 unfolding policy_passing
-passed_replied ours j h e s = s.says (policy_passing ours j h e)
+passed_replied ours h e s = s.says (policy_passing ours h e)
 
 -- refused with one of them
-pub refusal_passed_on : (ours : ℕ) (policy area : List ℕ) (r : PolicyJudged) {n part : ℕ} → JudgedAs ours (check_policy ours policy) r → r.judgement ≡ policy_judgement.Refused n part →
-    RepliedAs ours policy area (reply.Refused n part) area
-unfolding rewritten_for area_after
-refusal_passed_on ours policy area r {n} {part} h e =
-    by_outcome ours policy area (refused n part) (into ours policy area (checked ours policy (policy_refuses ours policy r h e))) refl refl
+pub refusal_passed_on : (ours : ℕ) (policy area : List ℕ) {r : Result Earlier Refused} {y : Refused} → JudgedAs ours (check_policy ours policy) r → r ≡ Err y →
+    RepliedAs ours policy area (told (Err y)) area
+unfolding rewritten_for area_after told
+refusal_passed_on ours policy area {r} {y} h e =
+    by_outcome ours policy area (refused _ _) (into ours policy area (checked ours policy (policy_fails ours policy h e))) refl refl
 
 -- a part of no words that was lent
 pub none_lent : (ys area : List ℕ) → length ys ≡ 0 → ys ++ area ≡ area

@@ -16,8 +16,6 @@ use Rattle.policy.specs.External.{external_expr, keys_listed, is_external, outpu
 use Rattle.policy_table.specs.Entries.{entry_place}
 use Rattle.policy_rewriting.specs.Laid.{laid}
 use Rattle.policy_rewriting.specs.Walks.{out, Vetted, Walked, Roomy}
-use Rattle.policy_rewriting.specs.declared.Rewritten.{Rewritten}
-use Rattle.policy_rewriting.specs.declared.Rewritten.TheVariants as reply
 
 -- a policy that passed 20 and 1 to 7, under this key of ours. (The walk goes by the words alone: what it answers, it answers whatever our key was.)
 pub record Passing (policy : List ℕ) : Type 0 where
@@ -67,19 +65,19 @@ MeasuredAs external ws before None after = external ≡ false
 pub record SayWords (policy before : List ℕ) (r : Option ℕ) (after : List ℕ) : Type 0 where
   pub says : (g : Passing policy) → MeasuredAs (is_external g.entries g.exprs) (output policy g.entries g.exprs) before r after
 
--- the reply has the output's length; its words stand in the area
-unfoldable pub rewritten_for : Rewriting → Rewritten
-rewritten_for (rewritten ws) = reply.Length (length ws)
-rewritten_for (refused n part) = reply.Refused n part
+-- what is told of a rewriting: the output's length, or the refusal; the output's words stand in the area
+unfoldable pub rewritten_for : Rewriting → Result ℕ (ℕ × ℕ)
+rewritten_for (rewritten ws) = Ok (length ws)
+rewritten_for (refused n part) = Err (n, part)
 
 -- the reply and the area after it, as defined
-abbrev pub RepliedAs : ℕ → List ℕ → List ℕ → Rewritten → List ℕ → Type 0
+abbrev pub RepliedAs : ℕ → List ℕ → List ℕ → Result ℕ (ℕ × ℕ) → List ℕ → Type 0
 RepliedAs ours policy before r after = (r ≡ rewritten_for (rewrite_into ours policy before)) × (after ≡ area_after (rewrite_into ours policy before) before)
 
 -- 15 and 11 are about neither a definition nor the query
-abbrev pub replied : Result ℕ Refusal → Rewritten
-replied (Ok n) = reply.Length n
-replied (Err r) = reply.Refused (number r) no_part
+abbrev pub replied : Result ℕ Refusal → Result ℕ (ℕ × ℕ)
+replied (Ok n) = Ok n
+replied (Err r) = Err (number r, no_part)
 
 pub record SayReply (policy before : List ℕ) (r : Result ℕ Refusal) (after : List ℕ) : Type 0 where
   pub says : (g : Passing policy) → RepliedAs g.ours policy before (replied r) after

@@ -5,6 +5,7 @@ mod laying;
 mod vetting;
 
 ghost use Rattle.std.specs.Prelude.{◌+◌, ◌-◌, ◌≤◌, ◌≡◌, [], length};
+ghost use Rattle.refusals.specs.Numbers.{told};
 ghost use Rattle.rows.specs.Polarities.{polarity_is};
 ghost use Rattle.policy.specs.Table.{entry_at};
 ghost use Rattle.policy.specs.External.{moved, entry_four, rewrite_into, area_after};
@@ -12,18 +13,12 @@ ghost use Rattle.policy_table.specs.Entries.{entry_place};
 ghost use Rattle.policy_rewriting.specs.Laid.{laid};
 ghost use Rattle.policy_rewriting.specs.Output.{Passing, SayKeys, may_be, AskDefinition, WalkedDefinition, header_of, SayWords, rewritten_for, SayReply};
 
-use judging::{PolicyJudgement, judge_policy};
+use judging::judge_policy;
 use laying::{lay, lay_words};
 use policy_table::{MOST_WORDS, definition_words, entry_place, polarity_of};
-use refusals::Refusal;
+use refusals::{Refusal, Refused};
 use rows::Polarity;
 use vetting::{Laid, Vetting};
-
-#[derive(Clone, Copy, Debug, PartialEq, Eq)]
-pub enum Rewritten {
-    Length(usize),
-    Refused { number: u32, part: u32 },
-}
 
 // Is definition 0 the negative name 0, which lists compromised keys?
 fn lists_keys(policy: &[u32]) -> bool
@@ -124,21 +119,11 @@ fn rewrite_passed(policy: &[u32], area: &mut [u32]) -> Result<usize, Refusal>
     Ok(length)
 }
 
-// The external policy rewritten into the area, and the output's length; or the refusal, which leaves the area as it was.
-// Our key goes to the checks alone: our own names are guarded as all others are.
-pub fn rewrite(policy: &[u32], our_key: u32, area: &mut [u32]) -> Rewritten
-    ensures { (result ≡ rewritten_for (rewrite_into our_key policy.now area.old)) × (area.new ≡ area_after (rewrite_into our_key policy.now area.old) area.old) }
+/// The external policy rewritten into the area, and the output's length; or the refusal, which leaves the area as it was.
+/// Our key goes to the checks alone: our own names are guarded as all others are.
+pub fn rewrite(policy: &[u32], our_key: u32, area: &mut [u32]) -> Result<usize, Refused>
+    ensures { (told result ≡ rewritten_for (rewrite_into our_key policy.now area.old)) × (area.new ≡ area_after (rewrite_into our_key policy.now area.old) area.old) }
 {
-    let judged = judge_policy(policy, our_key);
-    let judgement = judged.judgement;
-    match judgement {
-        PolicyJudgement::Refused { number, part } => Rewritten::Refused { number, part },
-        PolicyJudgement::Passed => match rewrite_passed(policy, area) {
-            Ok(length) => Rewritten::Length(length),
-            Err(refusal) => Rewritten::Refused {
-                number: u32::from(refusal),
-                part: refusals::NO_PART,
-            },
-        },
-    }
+    judge_policy(policy, our_key)?;
+    Ok(rewrite_passed(policy, area)?)
 }

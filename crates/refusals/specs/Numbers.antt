@@ -1,5 +1,5 @@
 -- What the code's refusals and parts are, as the numbers that a caller in C is told.
-use Rattle.std.specs.Prelude.{ℕ}
+use Rattle.std.specs.Prelude.{ℕ, Result, Ok, Err}
 use Rattle.refusals.specs.RefusalTable.{bad_header, bad_table, bad_word, not_in_scope, too_deep, no_polarity, open_draw, bad_store, bad_certificate, store_full, short_area, complement_drawn, too_many_rows, too_many_draws, not_external, bad_date, bad_term, bad_link, links_full, not_a_key, query_part, no_part}
 use Rattle.refusals.specs.declared.Refusal.{Refusal}
 use Rattle.refusals.specs.declared.Refusal.TheVariants.{BadHeader, BadTable, BadWord, NotInScope, TooDeep, NoPolarity, OpenDraw, BadStore, BadCertificate, StoreFull, ShortArea, ComplementDrawn, TooManyRows, TooManyDraws, NotExternal, BadDate, BadTerm, BadLink, LinksFull, NotAKey}
@@ -37,3 +37,8 @@ part_number Neither = no_part
 -- a refusal that is about neither a definition nor the query
 abbrev pub of_neither : Refusal → Refused
 of_neither r = record { refusal = r; part = Neither }
+
+-- what a caller is told of an answer: the answer, or the refusal's number and its part's
+unfoldable pub told : {A : Type 0} → Result A Refused → Result A (ℕ × ℕ)
+told (Ok x) = Ok x
+told (Err r) = Err (number r.refusal, part_number r.part)

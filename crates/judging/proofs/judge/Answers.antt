@@ -1,10 +1,12 @@
-use Rattle.std.proofs.Common.{sym, ap, ◌∙◌}
-use Rattle.judging.specs.Reply.{judged_is}
-use Rattle.judging.proofs.JudgeAnswers.{told_verdict, told_refusal}
+use Rattle.std.proofs.Common.{refl, rules}
+use Rattle.judging.proofs.JudgeAnswers.{policy_checks, policy_refused, query_unjudged, query_judged}
 use Rattle.judging.proofs.judge.Goals as goal
 
+pub returns-in_err-earlier : goal.returns-in_err-earlier
+returns-in_err-earlier c = let e = policy_refused c.args.our_key c.args.policy.now c.args.query.now c.judge_policy.ensures c.in_err-earlier.was in search rules
+
 pub returns-in-Ok : goal.returns-in-Ok
-returns-in-Ok c = told_verdict c.in-Ok.verdict (sym (ap judged_is c.in-Ok.is) ∙ c.check.ensures) c.into.ensures
+returns-in-Ok c = query_judged c.args.our_key c.args.policy.now c.args.query.now _ (policy_checks c.args.our_key c.args.policy.now c.judge_policy.ensures c.in_ok-earlier.was) _ c.judge_query.ensures _ c.in-Ok.is c.verdict.ensures
 
 pub returns-in-Err : goal.returns-in-Err
-returns-in-Err c = told_refusal c.in-Err.refused (sym (ap judged_is c.in-Err.is) ∙ c.check.ensures) c.into-in-Err.ensures c.into-in-Err-2.ensures
+returns-in-Err c = query_unjudged c.args.our_key c.args.policy.now c.args.query.now _ (policy_checks c.args.our_key c.args.policy.now c.judge_policy.ensures c.in_ok-earlier.was) _ c.judge_query.ensures _ c.in-Err.is refl refl

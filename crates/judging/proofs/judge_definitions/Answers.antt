@@ -3,7 +3,7 @@ use Rattle.rows.specs.Name.{polarity_of}
 use Rattle.policy.specs.Table.{Entry}
 use Rattle.check_polarity.specs.Earlier.{known_is}
 use Rattle.judging.proofs.JudgeAnswers.{known_count, none_judged, judging_refused, definition_judged, all_judged}
-use Rattle.judging.proofs.check_definitions.Goals as goal
+use Rattle.judging.proofs.judge_definitions.Goals as goal
 
 pub loop-i-init : goal.loop-i-init
 loop-i-init c = none_judged c.args.our_key c.args.table.now.policy.now c.args.table.now.count c.none-earlier.result c.requires c.none-earlier.ensures
