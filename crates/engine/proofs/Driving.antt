@@ -32,8 +32,9 @@ use Rattle.refusals.specs.declared.Refused as Failed
 use Rattle.read_expressions.specs.Readers.{reading, AskWhole, SayWhole}
 use Rattle.demands.specs.Query.{Outcome, answered, read_from, answer_area}
 use Rattle.demands.specs.Query as Query
-use Rattle.engine.specs.Reply.{reply_for}
-use Rattle.engine.specs.declared.Reply.TheVariants.{Answered, Refused}
+use Rattle.engine.specs.Reply.{reply_for, reply_is}
+use Rattle.policy.specs.Codes.{verdict_number}
+use Rattle.policy.specs.declared.codes.Verdict as HeldVerdict
 use Rattle.engine.specs.Steps.{Ready, ReadyPolicy, left_to_read, SoundIf, ReadDefinitions, ReadAll}
 use Rattle.engine.proofs.Placing.{sets_length, sound_more, sets_more}
 
@@ -251,13 +252,12 @@ module _ {count : ℕ} {f : From} {draws : ℕ} (before : ReadSoFar count f draw
 -- ---- the query, after the definitions
 
 module _ {f : From} {query : List ℕ} {verdict : ℕ} {area : List ℕ} where
-  pub definition_refused : {x : Failed.Refused} {n m : ℕ} → ReadDefinitions f (Err x) → n ≡ number x.refusal → m ≡ part_number x.part →
-      ReadAll f.our_key f.format (names f) f.policy query verdict area (Refused n m) area
-  unfolding left_to_read reply_for answer_area
-  definition_refused {x} said is of = record {
+  pub definition_refused : {x : Failed.Refused} → ReadDefinitions f (Err x) → ReadAll f.our_key f.format (names f) f.policy query verdict area (Err x) area
+  unfolding left_to_read reply_for reply_is answer_area
+  definition_refused {x} said = record {
     means = λ es q v h w.
         let o : read_from f.format (names f) es q v [] 0 ≡ Query.refused (number x.refusal) (part_number x.part) = said.means query es q v h in
-        (rw (is, of) (ap reply_for (sym o)), ap (λ (x : Outcome). answer_area x area) (sym o));
+        (ap reply_for (sym o), ap (λ (x : Outcome). answer_area x area) (sym o));
   }
 
 module _ {f : From} {before : ℕ} (said : ReadDefinitions f (Ok before)) (counted : get_or f.policy 1 0 ≡ f.known) where
@@ -280,20 +280,20 @@ module _ {f : From} {before : ℕ} (said : ReadDefinitions f (Ok before)) (count
     reads : {r : Result ℕ Refusal} → SayWhole f query before r scratch → {es : List Expr} {q : Expr} {v : Verdict} → check f.our_key f.policy query ≡ checked es q v → reading f q [] before ≡ outcome (set_in scratch) r
     reads answer {q = q} h = answer.means q (query_parses f.our_key f.policy query counted h)
 
-    pub query_refused : {x : Refusal} {n verdict : ℕ} {area : List ℕ} → SayWhole f query before (Err x) scratch → n ≡ number x →
-        ReadAll f.our_key f.format (names f) f.policy query verdict area (Refused n query_part) area
-    unfolding outcome reply_for answer_area
-    query_refused {x} {area = area} answer is = record {
+    pub query_refused : {x : Refusal} {verdict : ℕ} {area : List ℕ} → SayWhole f query before (Err x) scratch →
+        ReadAll f.our_key f.format (names f) f.policy query verdict area (Err (record { refusal = x; part = part.Query })) area
+    unfolding outcome reply_for reply_is answer_area
+    query_refused {x} {area = area} answer = record {
       means = λ es q v h w.
           let o : read_from f.format (names f) es q v [] 0 ≡ Query.refused (number x) query_part = goes query es q v h ∙ reading_refused f q v before (reads answer h) in
-          (rw is (ap reply_for (sym o)), ap (λ (x : Outcome). answer_area x area) (sym o));
+          (ap reply_for (sym o), ap (λ (x : Outcome). answer_area x area) (sym o));
     }
 
-    pub query_answered : {draws verdict : ℕ} {area now : List ℕ} → SayWhole f query before (Ok draws) scratch → now ≡ written (set_in scratch) area →
-        ReadAll f.our_key f.format (names f) f.policy query verdict area (Answered verdict draws) now
-    unfolding outcome reply_for answer_area
+    pub query_answered : {draws : ℕ} {verdict : HeldVerdict.Verdict} {area now : List ℕ} → SayWhole f query before (Ok draws) scratch → now ≡ written (set_in scratch) area →
+        ReadAll f.our_key f.format (names f) f.policy query (verdict_number verdict) area (Ok (record { verdict = verdict; draws = draws })) now
+    unfolding outcome reply_for reply_is answer_area
     query_answered {draws} {area = area} answer is = record {
       means = λ es q v h w.
           let o : read_from f.format (names f) es q v [] 0 ≡ answered v draws (set_in scratch) = goes query es q v h ∙ query_done f q v before (reads answer h) in
-          (ap (λ (x : ℕ). Answered x draws) (sym w) ∙ ap reply_for (sym o), is ∙ ap (λ (x : Outcome). answer_area x area) (sym o));
+          (ap (λ (x : ℕ). Ok (x, draws)) (sym w) ∙ ap reply_for (sym o), is ∙ ap (λ (x : Outcome). answer_area x area) (sym o));
     }

@@ -10,8 +10,8 @@ use Rattle.policy.specs.Format.{format_of}
 use Rattle.meaning.specs.Evidence.{Evidence, names_held}
 use Rattle.read_values.specs.From.{From, names, sets, SoundFrom}
 use Rattle.demands.specs.Query.{Outcome, refused, read_from, definition_room, scratch_room, answer_area}
-use Rattle.engine.specs.Reply.{reply_for}
-use Rattle.engine.specs.declared.Reply.{Reply}
+use Rattle.engine.specs.Reply.{reply_for, reply_is}
+use Rattle.engine.specs.declared.Answer.{Answer}
 use Rattle.engine.specs.declared.answering.Asked.{Asked}
 use Rattle.refusals.specs.Numbers.{number, part_number}
 use Rattle.refusals.specs.declared.Refused.{Refused}
@@ -59,6 +59,6 @@ pub record ReadDefinitions (f : From) (r : Result ℕ Refused) : Type 0 where
   pub sound : SoundIf f r
   pub means : (query : List ℕ) (es : List Expr) (q : Expr) (v : Verdict) → check f.our_key f.policy query ≡ checked es q v → read_from f.format (names f) es q v [] 0 ≡ left_to_read f q v r
 
-pub record ReadAll (ours format : ℕ) (held : Evidence) (policy query : List ℕ) (verdict : ℕ) (area : List ℕ) (r : Reply) (now : List ℕ) : Type 0 where
+pub record ReadAll (ours format : ℕ) (held : Evidence) (policy query : List ℕ) (verdict : ℕ) (area : List ℕ) (r : Result Answer Refused) (now : List ℕ) : Type 0 where
   pub means : (es : List Expr) (q : Expr) (v : Verdict) → check ours policy query ≡ checked es q v → verdict_word v ≡ verdict →
-      (r ≡ reply_for (read_from format held es q v [] 0)) × (now ≡ answer_area (read_from format held es q v [] 0) area)
+      (reply_is r ≡ reply_for (read_from format held es q v [] 0)) × (now ≡ answer_area (read_from format held es q v [] 0) area)

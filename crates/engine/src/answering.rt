@@ -1,14 +1,16 @@
 // Everything that is read for an answer: the definitions of a policy that passed, then the query.
 ghost use Rattle.std.specs.Prelude.{◌*◌, ◌+◌, ◌≤◌, ◌≡◌, true, length};
 ghost use Rattle.rows.specs.Layout.{set_room, set_in, set_words, sound_set, put};
+ghost use Rattle.policy.specs.Codes.{verdict_number};
 ghost use Rattle.policy.specs.Format.{format_of};
 ghost use Rattle.engine.specs.Steps.{stores_of, from_asked, held_for, Ready, ReadyPolicy, ReadDefinitions, ReadAll};
 
-use crate::Reply;
+use crate::Answer;
+use policy::codes::Verdict;
 use policy_table::definition_words;
 use read_expressions::read_whole;
 use read_values::Lent;
-use refusals::{Part, QUERY_PART, Refused};
+use refusals::{Part, Refused};
 use rows::SET_ROOM;
 use sets::copy;
 
@@ -73,42 +75,35 @@ fn read_definitions(
 // The definitions, then the query, both in the policy's format. Only an answer touches the answer area.
 pub fn read_all(
     asked: &Asked<'_>,
-    verdict: u32,
+    verdict: Verdict,
     answer: &mut [u32],
     definitions: &mut [u32],
     scratch: &mut [u32],
-) -> Reply
+) -> Result<Answer, Refused>
     requires { Ready (stores_of asked.now) asked.now.our_key asked.now.policy.now asked.now.query.now definitions.old scratch.old × (set_room ≤ length answer.old) }
-    ensures { ReadAll asked.now.our_key (format_of asked.now.policy.now) (held_for asked.now) asked.now.policy.now asked.now.query.now verdict answer.old result answer.new }
+    ensures { ReadAll asked.now.our_key (format_of asked.now.policy.now) (held_for asked.now) asked.now.policy.now asked.now.query.now (verdict_number verdict) answer.old result answer.new }
 {
     let count = asked.policy[1] as usize;
-    match read_definitions(asked, count, definitions, scratch) {
-        Err(refused) => Reply::Refused {
-            number: u32::from(refused.refusal),
-            part: u32::from(refused.part),
-        },
-        Ok(before) => {
-            let lent = Lent {
-                words: asked.query,
-                store: asked.store,
-                links: asked.links,
-                minute: asked.minute,
-                policy: asked.policy,
-                format: asked.policy[0],
-                our_key: asked.our_key,
-                definitions,
-                known: count,
-            };
-            match read_whole(&lent, before, scratch) {
-                Err(refusal) => Reply::Refused {
-                    number: u32::from(refusal),
-                    part: QUERY_PART,
-                },
-                Ok(draws) => {
-                    copy(scratch, answer);
-                    Reply::Answered { verdict, draws }
-                }
-            }
+    let before = read_definitions(asked, count, definitions, scratch)?;
+    let lent = Lent {
+        words: asked.query,
+        store: asked.store,
+        links: asked.links,
+        minute: asked.minute,
+        policy: asked.policy,
+        format: asked.policy[0],
+        our_key: asked.our_key,
+        definitions,
+        known: count,
+    };
+    match read_whole(&lent, before, scratch) {
+        Err(refusal) => Err(Refused {
+            refusal,
+            part: Part::Query,
+        }),
+        Ok(draws) => {
+            copy(scratch, answer);
+            Ok(Answer { verdict, draws })
         }
     }
 }

@@ -9,15 +9,17 @@ ghost use Rattle.demands.specs.Query.{definition_room, scratch_room, lent};
 ghost use Rattle.engine.specs.Reply.{Replied};
 
 use crate::answering::{Asked, read_all};
-use judging::{Judgement, judge};
-use refusals::{BAD_LINK, BAD_STORE, NO_PART, SHORT_AREA};
+use judging::judge;
+use policy::codes::Verdict;
+use refusals::{Refusal, Refused};
 use rows::SET_ROOM;
 use store::{sound_links, sound_store};
 
-#[derive(Clone, Copy)]
-pub enum Reply {
-    Answered { verdict: u32, draws: u32 },
-    Refused { number: u32, part: u32 },
+/// What an answer says beside its set, which lies in the answer area.
+#[derive(Clone, Copy, Debug, PartialEq, Eq)]
+pub struct Answer {
+    pub verdict: Verdict,
+    pub draws: u32,
 }
 
 const DEFINITION_ROOM: usize = 10272;
@@ -25,20 +27,15 @@ const DEFINITION_ROOM: usize = 10272;
 const SCRATCH_ROOM: usize = 16384;
 
 // Are the three areas long enough?
+#[tactic(auto, using(std::proofs::lemmas::Bool::Decides::nat_tests))]
 fn roomy(answer: usize, definitions: usize, scratch: usize) -> bool
     ensures { result ≡ (leb set_room answer && (leb definition_room definitions && leb scratch_room scratch)) }
 {
-    if answer < SET_ROOM {
-        return false;
-    }
-    if definitions < DEFINITION_ROOM {
-        return false;
-    }
-    SCRATCH_ROOM <= scratch
+    SET_ROOM <= answer && DEFINITION_ROOM <= definitions && SCRATCH_ROOM <= scratch
 }
 
-// Answers a query under a policy from the certificates in the store that hold at the minute, and the links: 20, 1 to 7, 8, 18, 11, then
-// what is met while reading.
+/// Answers a query under a policy from the certificates in the store that hold at the minute, and the links: 20, 1 to 7, 8, 18, 11, then
+/// what is met while reading. The stores and, where it is refused, the answer area stay as they were.
 pub fn query<'a>(
     policy: &'a [u32],
     query: &'a [u32],
@@ -49,41 +46,28 @@ pub fn query<'a>(
     answer: &mut [u32],
     definitions: &mut [u32],
     scratch: &mut [u32],
-) -> Reply
+) -> Result<Answer, Refused>
     ensures { Replied (record { store = store.entry.now; links = links.entry.now })
         (lent policy.now query.now our_key minute answer.old definitions.old scratch.old)
         result answer.new (record { store = store.exit.now; links = links.exit.now }) }
 {
-    match judge(policy, query, our_key) {
-        Judgement::Refused { number, part } => Reply::Refused { number, part },
-        Judgement::Verdict(verdict) => {
-            if !sound_store(store) {
-                return Reply::Refused {
-                    number: BAD_STORE,
-                    part: NO_PART,
-                };
-            }
-            if !sound_links(links) {
-                return Reply::Refused {
-                    number: BAD_LINK,
-                    part: NO_PART,
-                };
-            }
-            if !roomy(answer.len(), definitions.len(), scratch.len()) {
-                return Reply::Refused {
-                    number: SHORT_AREA,
-                    part: NO_PART,
-                };
-            }
-            let asked = Asked {
-                policy,
-                query,
-                our_key,
-                minute,
-                store,
-                links,
-            };
-            read_all(&asked, verdict, answer, definitions, scratch)
-        }
+    let verdict = judge(policy, query, our_key)?;
+    if !sound_store(store) {
+        return Err(Refused::from(Refusal::BadStore));
     }
+    if !sound_links(links) {
+        return Err(Refused::from(Refusal::BadLink));
+    }
+    if !roomy(answer.len(), definitions.len(), scratch.len()) {
+        return Err(Refused::from(Refusal::ShortArea));
+    }
+    let asked = Asked {
+        policy,
+        query,
+        our_key,
+        minute,
+        store,
+        links,
+    };
+    read_all(&asked, verdict, answer, definitions, scratch)
 }
