@@ -124,6 +124,6 @@ fn rewrite_passed(policy: &[u32], area: &mut [u32]) -> Result<usize, Refusal>
 pub fn rewrite(policy: &[u32], our_key: u32, area: &mut [u32]) -> Result<usize, Refused>
     ensures { (told result ≡ rewritten_for (rewrite_into our_key policy.now area.old)) × (area.new ≡ area_after (rewrite_into our_key policy.now area.old) area.old) }
 {
-    judge_policy(policy, our_key)?;
+    let _earlier = judge_policy(policy, our_key)?;
     Ok(rewrite_passed(policy, area)?)
 }

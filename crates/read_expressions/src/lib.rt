@@ -9,7 +9,7 @@ ghost use Rattle.read_values.specs.From.{from};
 ghost use Rattle.read_expressions.specs.Readers.{AskExpr, AskTwo, AskBody, AskDraw, AskEach, AskAbsent, AskHas, SayExpr, SayTwo, SayBody, SayDraw, SayEach, SayAbsent, SayExprHas, AskWhole, SayWhole};
 
 use policy::codes::Code;
-use policy::{Guard, is_node};
+use policy::Guard;
 use policy_places::guard_at;
 use policy_places::skip::{skip_expr, skip_pattern, skip_row};
 use read_leaves::{leaf_has, read_leaf};
@@ -237,7 +237,7 @@ fn expr_has(
     ensures says { SayExprHas (from lent.now) lent.now.words.now at row bindings.old.values bindings.old.count draws result bindings.new.values }
     ensures same { bindings.new.count ≡ bindings.old.count }
 {
-    if !is_node(lent.words[at]) {
+    if !Code::of(lent.words[at]).is_node() {
         return leaf_has(lent, at, row, bindings, draws, area);
     }
     let used = read_expr(lent, at, bindings, draws, area)?;

@@ -11,7 +11,7 @@ ghost use Rattle.certificates.specs.Link.{sound_links};
 ghost use Rattle.read_values.specs.From.{from, names, FilledSets};
 ghost use Rattle.read_leaves.specs.Leaves.{SayRows, SayDefinition, SayAmong, SayOwn, AskOwn, SayOwnSet, SayCertified, SayCertifiedHas, AskName, SayListed, SayListedHas, AskLeaf, SayLeaf, SayLeafHas};
 
-use policy::TAG_ATOM;
+use policy::codes::Tag;
 use policy::codes::Code;
 use policy_places::skip::skip_row;
 use policy_places::term_at;
@@ -54,7 +54,7 @@ fn is_own(lent: &Lent<'_>, at: usize) -> bool
     requires { SomeName lent.now.words.now at }
     ensures { SayOwn lent.now.our_key lent.now.words.now at result }
 {
-    if lent.words[at] != TAG_ATOM {
+    if lent.words[at] != Tag::Atom as u32 {
         return false;
     }
     lent.words[at + 1] == lent.our_key

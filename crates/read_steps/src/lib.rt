@@ -11,7 +11,8 @@ ghost use Rattle.read_values.specs.Answers.{Filled};
 ghost use Rattle.read_steps.specs.Areas.{Gathering};
 ghost use Rattle.read_steps.specs.Steps.{SayCombined, SayIs, SayLast, SayHead, SayHas, SayMatch, SayDrawn};
 
-use policy::{Slot, WIDER_ROWS};
+use policy::Slot;
+use policy::codes::Format;
 use policy_places::slot_at;
 use read_values::{Bindings, Lent, tick};
 use refusals::Refusal;
@@ -43,7 +44,7 @@ fn fits(format: u32, width: u32, atoms: u32) -> bool
     if width == atoms {
         return true;
     }
-    if format == WIDER_ROWS {
+    if format == Format::WiderRows as u32 {
         return width <= atoms;
     }
     false
