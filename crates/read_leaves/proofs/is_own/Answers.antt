@@ -10,8 +10,8 @@ offset_bounds-lent-at c = let long = name_long c.requires in let fits = c.well_f
 pub bounds-lent-at : goal.bounds-lent-at
 bounds-lent-at c = let long = name_long c.requires in let fits = c.well_formed in omega arith
 
-pub returns-then-lent-at-ne-TAG_ATOM : goal.returns-then-lent-at-ne-TAG_ATOM
-returns-then-lent-at-ne-TAG_ATOM c = no_atom c.if-lent-at-ne-TAG_ATOM.true
+pub returns-then-lent-at : goal.returns-then-lent-at
+returns-then-lent-at c = no_atom c.if-lent-at.true
 
 pub overflow_add-result : goal.overflow_add-result
 overflow_add-result c = let long = name_long c.requires in let fits = c.well_formed in omega arith
@@ -20,4 +20,4 @@ pub bounds-lent-at-2 : goal.bounds-lent-at-2
 bounds-lent-at-2 c = let long = name_long c.requires in let fits = c.well_formed in omega arith
 
 pub returns : goal.returns
-returns c = by_atom c.if-lent-at-ne-TAG_ATOM.false
+returns c = by_atom c.if-lent-at.false

@@ -7,8 +7,8 @@ use Rattle.read_steps.proofs.fits.Goals as goal
 pub returns-then-width-atoms : goal.returns-then-width-atoms
 returns-then-width-atoms c = let a = c.args in sym (fits_same a.format a.width a.atoms c.if-width-atoms.true)
 
-pub returns-then-format-eq-WIDER_ROWS : goal.returns-then-format-eq-WIDER_ROWS
-returns-then-format-eq-WIDER_ROWS c = let a = c.args in sym (fits_wider a.width a.atoms c.if-format-eq-WIDER_ROWS.true)
+pub returns-then-format : goal.returns-then-format
+returns-then-format c = let a = c.args in sym (fits_wider a.width a.atoms c.if-format.true)
 
 pub returns : goal.returns
-returns c = let a = c.args in sym (fits_equal a.width a.atoms c.if-format-eq-WIDER_ROWS.false ∙ ne_eqb a.width a.atoms c.if-width-atoms.false)
+returns c = let a = c.args in sym (fits_equal a.width a.atoms c.if-format.false ∙ ne_eqb a.width a.atoms c.if-width-atoms.false)
