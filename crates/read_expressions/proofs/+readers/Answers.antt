@@ -1,6 +1,7 @@
 -- Each answer calls the law of its step.
-use Rattle.std.proofs.Common.{sym, ◌∙◌, arith}
+use Rattle.std.proofs.Common.{sym, ◌∙◌, ap, arith}
 use Rattle.std.proofs.lemmas.Result.{err_from_is_err_and}
+use Rattle.policy.specs.Decode.{is_node}
 use Rattle.policy_places.proofs.Places.{inside, inside_body}
 use Rattle.policy_places.proofs.Codes.{expr_code_lem, leaf_no_node}
 use Rattle.policy_places.proofs.Past.{some_body}
@@ -96,11 +97,14 @@ expr_has-offset_bounds-lent-at t c = let i = inside c.requires.ask.here in let f
 pub expr_has-bounds-lent-at : goal.expr_has-bounds-lent-at
 expr_has-bounds-lent-at t c = let i = inside c.requires.ask.here in omega arith
 
+pub expr_has-of-requires : goal.expr_has-of-requires
+expr_has-of-requires t c = expr_code_lem (some_expr c.requires.ask)
+
 pub expr_has-leaf_has-requires : goal.expr_has-leaf_has-requires
-expr_has-leaf_has-requires t c = (ask_leaf c.requires.ask (sym c.is_node.ensures ∙ c.if-not-is_node.true), long c.requires.ask, tested_row c.requires)
+expr_has-leaf_has-requires t c = (ask_leaf c.requires.ask (ap is_node (sym c.of.ensures) ∙ sym c.is_node.ensures ∙ c.if-not-is_node.true), long c.requires.ask, tested_row c.requires)
 
 pub expr_has-returns-then-not-is_node-clause-says : goal.expr_has-returns-then-not-is_node-clause-says
-expr_has-returns-then-not-is_node-clause-says t c = say_leaf_has (sym c.is_node.ensures ∙ c.if-not-is_node.true) c.leaf_has.ensures
+expr_has-returns-then-not-is_node-clause-says t c = say_leaf_has (ap is_node (sym c.of.ensures) ∙ sym c.is_node.ensures ∙ c.if-not-is_node.true) c.leaf_has.ensures
 
 pub expr_has-returns-in_err-used-clause-says : goal.expr_has-returns-in_err-used-clause-says
 expr_has-returns-in_err-used-clause-says t c =
