@@ -1,14 +1,13 @@
 -- The checker's cycle: what each definition reads is what the code reads, one after the other.
-use Rattle.std.proofs.Common.{ℕ, zero, suc, ◌≡◌, ◌≢◌, ◌-◌, Bool, true, false, List, [], ◌∷◌, Result, Ok, Err, leb, ltb, refl, sym, ◌∙◌, ap, arith}
-use Rattle.refusals.specs.RefusalTable.{bad_word, not_in_scope, too_deep}
+use Rattle.std.proofs.Common.{ℕ, zero, suc, ◌≡◌, ◌≢◌, ◌-◌, Bool, true, false, List, [], ◌∷◌, Result, Ok, Err, leb, refl, sym, ◌∙◌, ap, arith}
+use Rattle.refusals.specs.RefusalTable.{bad_word, too_deep}
 use Rattle.refusals.specs.declared.Refusal.{Refusal}
 use Rattle.policy.specs.declared.codes.Code.{Code}
 use Rattle.policy.specs.declared.codes.Code.TheVariants as code
 use Rattle.policy.specs.Codes.{CodeRead, code_number}
-use Rattle.policy.specs.OwnKey.{reach}
-use Rattle.policy.specs.Leaf.{Leaf, finite, cofinite, definition, leaf_of, leaf_as, leaf_has, leaf_open, some_leaf}
+use Rattle.policy.specs.Leaf.{leaf_of, leaf_as, some_leaf}
 use Rattle.policy.specs.Syntax.{Term, Expr, leaf, union, difference, comprehension, Body, head, draw, same, different, absent}
-use Rattle.policy.specs.Decode.{Read, got, refused, Reader, after, need, give, refuse, word, word_where, count_draw, term, width, row, rows, Pattern, slots, is_draw, is_absent, guard_of, guard_as, body, code_of, is_code, some_code, expr_as, expr}
+use Rattle.policy.specs.Decode.{Read, got, refused, Reader, after, need, give, refuse, word, word_where, count_draw, term, width, row, Pattern, slots, is_draw, is_absent, guard_of, guard_as, body, code_of, is_code, some_code, expr_as, expr}
 use Rattle.policy.specs.Polarity.{has_polarity, guards_have, open_expr, draws_closed, guards_closed}
 use Rattle.policy.specs.Held.{Opening, draw_opens, absent_opens, same_opens, different_opens}
 use Rattle.policy.proofs.Basics.{impossible}
@@ -17,13 +16,9 @@ use Rattle.check_terms.proofs.Reading.{after_after}
 use Rattle.check_polarity.specs.Earlier.{Before, scope_at}
 use Rattle.check_polarity.specs.Facts.{facts_for, term_facts, union_of, difference_of, draw_of, absent_of}
 use Rattle.check_polarity.specs.declared.Facts.{Facts}
-use Rattle.check_leaves.specs.Checks.{literal_facts, head_facts, definition_facts, leaf_facts}
+use Rattle.check_leaves.specs.Checks.{head_facts, leaf_facts}
+use Rattle.check_leaves.proofs.Leaving.{kept_give}
 use Rattle.check_expressions.specs.Expressions.{inside, expr_facts, two_facts, code_facts, body_facts, guard_facts}
-
-kept_give : {A B C : Type 0} (F : B → C) (g : A → B) (x : Read A) → kept F (after x (λ a. give (g a))) ≡ kept (λ a. F (g a)) x
-unfolding kept
-kept_give F g (got a us k) = refl
-kept_give F g (refused n) = refl
 
 -- ---- an expression
 
@@ -105,31 +100,17 @@ module _ (b : Before) (inner : ℕ → Reader Expr) (n : ℕ) (us : List ℕ) (k
   unfolding code_facts leaf_facts keeping
   leaf_code w e = ap (kept (facts_for b)) (e us k) ∙ kept_give (facts_for b) leaf (leaf_as (scope_at b) n (leaf_of w) us k)
 
-  literal : (f : List (List Term) → Leaf) (c : Bool) → ((rs : List (List Term)) → facts_for b (leaf (f rs)) ≡ term_facts c) → (x : Read (List (List Term))) →
-      kept (λ y. facts_for b (leaf y)) (after x (λ rs. give (f rs))) ≡ kept (λ rs. term_facts c) x
-  unfolding kept
-  literal f c e (got rs vs j) = ap (λ z. got z vs j) (e rs)
-  literal f c e (refused m) = refl
-
-  pub code_finite : code_facts b inner n 1 us k ≡ literal_facts false n us k
-  unfolding expr_as code_of leaf_facts literal_facts keeping leaf_as leaf_of facts_for has_polarity leaf_has open_expr leaf_open draws_closed
-  code_finite = leaf_code 1 (λ vs j. refl) ∙ literal finite false (λ rs. refl) (rows n us k)
-
-  pub code_cofinite : code_facts b inner n 2 us k ≡ literal_facts true n us k
-  unfolding expr_as code_of leaf_facts literal_facts keeping leaf_as leaf_of facts_for has_polarity leaf_has open_expr leaf_open draws_closed
-  code_cofinite = leaf_code 2 (λ vs j. refl) ∙ literal cofinite true (λ rs. refl) (rows n us k)
-
-  pub code_definition : code_facts b inner n 3 us k ≡ definition_facts b us k
-  unfolding expr_as code_of leaf_facts definition_facts keeping leaf_as leaf_of
-  code_definition = leaf_code 3 (λ vs j. refl) ∙ kept_give (λ x. facts_for b (leaf x)) definition (word_where not_in_scope (λ d. ltb d (reach (scope_at b))) us k)
-
-  pub code_name : code_facts b inner n 4 us k ≡ leaf_facts b n 4 us k
+  -- a code that is no node's
+  pub code_leaf : (c : Code) → c ≢ code.Union → c ≢ code.Difference → c ≢ code.Comprehension → code_facts b inner n (code_number c) us k ≡ leaf_facts b n (code_number c) us k
   unfolding expr_as code_of leaf_of
-  code_name = leaf_code 4 (λ vs j. refl)
-
-  pub code_vetted : code_facts b inner n 8 us k ≡ leaf_facts b n 8 us k
-  unfolding expr_as code_of leaf_of
-  code_vetted = leaf_code 8 (λ vs j. refl)
+  code_leaf code.Finite x y z = leaf_code 1 (λ vs j. refl)
+  code_leaf code.Cofinite x y z = leaf_code 2 (λ vs j. refl)
+  code_leaf code.Definition x y z = leaf_code 3 (λ vs j. refl)
+  code_leaf code.Name x y z = leaf_code 4 (λ vs j. refl)
+  code_leaf code.Union x y z = absurd (x refl)
+  code_leaf code.Difference x y z = absurd (y refl)
+  code_leaf code.Comprehension x y z = absurd (z refl)
+  code_leaf code.Vetted x y z = leaf_code 8 (λ vs j. refl)
 
   pub code_comprehension : code_facts b inner n 7 us k ≡ after (word_where bad_word (λ c. leb c 8) us k) (λ c. body_facts b inner c n)
   unfolding code_facts body_facts keeping kept expr_as code_of

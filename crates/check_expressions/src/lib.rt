@@ -9,7 +9,7 @@ ghost use Rattle.check_terms.specs.Answers.{answered, same};
 ghost use Rattle.check_polarity.specs.Earlier.{earlier_is};
 ghost use Rattle.check_expressions.specs.Expressions.{inside, expr_facts, two_facts, code_facts, body_facts, guard_facts};
 
-use check_leaves::{check_definition, check_head, check_literal, check_name, check_vetted};
+use check_leaves::{check_head, check_leaf};
 use check_polarity::{Earlier, Facts};
 use check_terms::Decoder;
 use policy::Guard;
@@ -49,11 +49,6 @@ fn check_code(
     ensures { answered same result decoder.new ≡ code_facts (earlier_is earlier.now) (inside (earlier_is earlier.now) levels) variables (code_number code) decoder.old.words.now decoder.old.draws }
 {
     match code {
-        Code::Finite => check_literal(decoder, variables, false),
-        Code::Cofinite => check_literal(decoder, variables, true),
-        Code::Definition => check_definition(decoder, earlier),
-        Code::Name => check_name(decoder, variables, earlier),
-        Code::Vetted => check_vetted(decoder, variables, earlier),
         Code::Union => {
             let (left, right) = check_two(decoder, levels, variables, earlier)?;
             Ok(left.union(right))
@@ -66,6 +61,7 @@ fn check_code(
             let count = decoder.word_up_to(MOST_GUARDS)?;
             check_guards(decoder, levels, variables, earlier, count)
         }
+        _ => check_leaf(decoder, variables, earlier, code),
     }
 }
 

@@ -1,5 +1,6 @@
 -- The checks of leaves: what each definition reads is what the code reads, one after the other.
 use Rattle.std.proofs.Common.{ℕ, zero, suc, ◌≡◌, ◌<◌, Bool, true, false, List, [], ◌∷◌, Result, Ok, Err, Option, Some, None, cond, length, map, get_or, ltb, leb, eqb, refl, sym, ◌∙◌, ap, arith}
+use mathlib.Core.Logic.{◌⊎◌, inl, inr}
 use lib.ListN.{length-map}
 use borrow.Author.Tests.{ltb-true, lt-leb, ne_eqb}
 use Rattle.refusals.specs.RefusalTable.{bad_word, not_in_scope}
@@ -13,25 +14,33 @@ use Rattle.rows.specs.declared.Polarity.TheVariants.{Plus, Minus}
 use Rattle.rows.specs.contracts.Polarity.{the_type}
 use denote.Enum.Bare.{sameb}
 use Rattle.std.specs.Option.{ok_or}
+use Rattle.policy.specs.declared.codes.Code.{Code}
+use Rattle.policy.specs.declared.codes.Code.TheVariants as code
+use Rattle.policy.specs.Codes.{code_number}
 use Rattle.policy.specs.OwnKey.{reach, Origin, by_certificates, by_definition, definition_of, origin_of, is_available, origin}
-use Rattle.policy.specs.Leaf.{unknown, Leaf, definition, listed, vetted, declaration, leaf_has, leaf_open, name_has, name_open, leaf_of, leaf_as}
+use Rattle.policy.specs.Leaf.{unknown, Leaf, finite, cofinite, definition, listed, vetted, declaration, leaf_has, leaf_open, name_has, name_open, leaf_of, leaf_as}
 use Rattle.policy.specs.Syntax.{Term, atom, var, leaf}
-use Rattle.policy.specs.Decode.{Read, got, refused, Reader, after, need, give, refuse, word_where, polarity, issuer}
+use Rattle.policy.specs.Decode.{Read, got, refused, Reader, after, need, give, refuse, word_where, polarity, issuer, rows}
 use Rattle.policy.specs.Polarity.{has_polarity, open_expr, draws_closed}
 use Rattle.policy.proofs.Basics.{impossible}
 use Rattle.check_terms.specs.Answers.{kept, keeping, nothing}
 use Rattle.check_polarity.specs.Earlier.{Before, scope_at, known_is, earlier_is, number_in}
-use Rattle.check_polarity.specs.Facts.{facts_for, difference_of, one_polarity}
+use Rattle.check_polarity.specs.Facts.{facts_for, term_facts, difference_of, one_polarity}
 use Rattle.check_polarity.specs.declared.Facts.{Facts}
 use Rattle.check_polarity.specs.declared.Earlier.{Earlier}
 use Rattle.check_polarity.specs.declared.Definition.{Definition}
-use Rattle.check_leaves.specs.Checks.{definition_facts, issued, is_own, facts_from, name_facts_for, leaf_facts}
+use Rattle.check_leaves.specs.Checks.{literal_facts, definition_facts, issued, is_own, facts_from, name_facts_for, leaf_facts}
 
 -- whatever was read, its facts are these
 pub forgot : {A B : Type 0} (x : Read A) {b : B} {us : List ℕ} {k : ℕ} → got tt us k ≡ kept nothing x → got b us k ≡ kept (λ a. b) x
 unfolding kept
 forgot (got a vs j) e = cc
 forgot (refused n) e = impossible cc
+
+pub kept_give : {A B C : Type 0} (F : B → C) (g : A → B) (x : Read A) → kept F (after x (λ a. give (g a))) ≡ kept (λ a. F (g a)) x
+unfolding kept
+kept_give F g (got a us k) = refl
+kept_give F g (refused n) = refl
 
 pub forgot_refused : {A B : Type 0} (x : Read A) (b : B) {n : ℕ} → refused n ≡ kept nothing x → refused n ≡ kept (λ a. b) x
 unfolding kept
@@ -196,3 +205,30 @@ module _ (b : Before) where
   pub vetted_reads : (n : ℕ) (us : List ℕ) (k : ℕ) → leaf_facts b n 8 us k ≡ after (issued n us k) (λ i. vetted_rest i.0 i.1)
   unfolding leaf_facts keeping leaf_as leaf_of
   vetted_reads n us k = issued_then F n (λ t name us k. after (word_where bad_word (λ w. eqb w 0) us k) (λ p vs j. after (origin (scope_at b) t name plus vs j) (λ o vs j. after (word_where not_in_scope (λ d. ltb d (reach (scope_at b))) vs j) (λ d. give (vetted t name o d))))) vetted_rest vetted_same us k
+
+-- ---- a leaf by its code
+
+module _ (b : Before) (n : ℕ) (us : List ℕ) (k : ℕ) where
+  literal : (f : List (List Term) → Leaf) (c : Bool) → ((rs : List (List Term)) → facts_for b (leaf (f rs)) ≡ term_facts c) → (x : Read (List (List Term))) →
+      kept (λ y. facts_for b (leaf y)) (after x (λ rs. give (f rs))) ≡ kept (λ rs. term_facts c) x
+  unfolding kept
+  literal f c e (got rs vs j) = ap (λ z. got z vs j) (e rs)
+  literal f c e (refused m) = refl
+
+  pub finite_reads : leaf_facts b n 1 us k ≡ literal_facts false n us k
+  unfolding leaf_facts literal_facts keeping leaf_as leaf_of facts_for has_polarity leaf_has open_expr leaf_open draws_closed
+  finite_reads = literal finite false (λ rs. refl) (rows n us k)
+
+  pub cofinite_reads : leaf_facts b n 2 us k ≡ literal_facts true n us k
+  unfolding leaf_facts literal_facts keeping leaf_as leaf_of facts_for has_polarity leaf_has open_expr leaf_open draws_closed
+  cofinite_reads = literal cofinite true (λ rs. refl) (rows n us k)
+
+  pub definition_reads : leaf_facts b n 3 us k ≡ definition_facts b us k
+  unfolding leaf_facts definition_facts keeping leaf_as leaf_of
+  definition_reads = kept_give (λ x. facts_for b (leaf x)) definition (word_where not_in_scope (λ d. ltb d (reach (scope_at b))) us k)
+
+  pub no_leaf_reads : {c : Code} → (c ≡ code.Union) ⊎ ((c ≡ code.Difference) ⊎ (c ≡ code.Comprehension)) → refused bad_word ≡ leaf_facts b n (code_number c) us k
+  unfolding leaf_facts keeping kept leaf_as leaf_of
+  no_leaf_reads (inl e) = rw e refl
+  no_leaf_reads (inr (inl e)) = rw e refl
+  no_leaf_reads (inr (inr e)) = rw e refl

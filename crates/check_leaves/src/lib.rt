@@ -4,6 +4,7 @@
 ghost use Rattle.std.specs.Prelude.{◌<◌, ◌≡◌};
 ghost use Rattle.arrayvec.specs.ArrayVec.{array_vec_len};
 ghost use Rattle.rows.specs.Polarities.{polarity_is};
+ghost use Rattle.policy.specs.Codes.{code_number};
 ghost use Rattle.policy.specs.Leaf.{definition};
 ghost use Rattle.policy.specs.Syntax.{leaf};
 ghost use Rattle.policy.specs.Held.{term_is};
@@ -15,11 +16,12 @@ ghost use Rattle.check_leaves.specs.Checks.{literal_facts, head_facts, definitio
 use check_polarity::{Earlier, Facts, polarity_of};
 use check_terms::Decoder;
 use policy::Term;
+use policy::codes::Code;
 use refusals::Refusal;
 use rows::{LAST_NAME, Polarity};
 
 // The rows of a literal.
-pub fn check_literal(
+fn check_literal(
     decoder: &mut Decoder<'_>,
     variables: u32,
     complement: bool,
@@ -28,14 +30,6 @@ pub fn check_literal(
 {
     decoder.rows(variables)?;
     Ok(Facts::of_terms(complement))
-}
-
-// The head of a comprehension.
-pub fn check_head(decoder: &mut Decoder<'_>, variables: u32) -> Result<Facts, Refusal>
-    ensures { answered same result decoder.new ≡ head_facts variables decoder.old.words.now decoder.old.draws }
-{
-    decoder.row(variables)?;
-    Ok(Facts::of_terms(false))
 }
 
 // The facts of an earlier definition.
@@ -48,7 +42,7 @@ fn of_definition(earlier: &Earlier, d: usize) -> Facts
 }
 
 // An earlier definition, by its number.
-pub fn check_definition(decoder: &mut Decoder<'_>, earlier: &Earlier) -> Result<Facts, Refusal>
+fn check_definition(decoder: &mut Decoder<'_>, earlier: &Earlier) -> Result<Facts, Refusal>
     ensures { answered same result decoder.new ≡ definition_facts (earlier_is earlier.now) decoder.old.words.now decoder.old.draws }
 {
     let d = decoder.number_below(earlier.definitions.len() as u32)?;
@@ -90,7 +84,7 @@ fn name_facts(
 }
 
 // A name: issuer, name, polarity.
-pub fn check_name(
+fn check_name(
     decoder: &mut Decoder<'_>,
     variables: u32,
     earlier: &Earlier,
@@ -103,7 +97,7 @@ pub fn check_name(
 }
 
 // A name whose issuer is looked up: issuer, name, polarity +, the definition that the issuer is to be absent from.
-pub fn check_vetted(
+fn check_vetted(
     decoder: &mut Decoder<'_>,
     variables: u32,
     earlier: &Earlier,
@@ -116,4 +110,31 @@ pub fn check_vetted(
     // The more rows that definition has, the fewer this has, as in a difference.
     let absent_from = check_definition(decoder, earlier)?;
     Ok(guarded.difference(absent_from))
+}
+
+// A leaf, after its code; a code that is no leaf's is refused.
+pub fn check_leaf(
+    decoder: &mut Decoder<'_>,
+    variables: u32,
+    earlier: &Earlier,
+    code: Code,
+) -> Result<Facts, Refusal>
+    ensures { answered same result decoder.new ≡ leaf_facts (earlier_is earlier.now) variables (code_number code) decoder.old.words.now decoder.old.draws }
+{
+    match code {
+        Code::Finite => check_literal(decoder, variables, false),
+        Code::Cofinite => check_literal(decoder, variables, true),
+        Code::Definition => check_definition(decoder, earlier),
+        Code::Name => check_name(decoder, variables, earlier),
+        Code::Vetted => check_vetted(decoder, variables, earlier),
+        Code::Union | Code::Difference | Code::Comprehension => Err(Refusal::BadWord),
+    }
+}
+
+// The head of a comprehension.
+pub fn check_head(decoder: &mut Decoder<'_>, variables: u32) -> Result<Facts, Refusal>
+    ensures { answered same result decoder.new ≡ head_facts variables decoder.old.words.now decoder.old.draws }
+{
+    decoder.row(variables)?;
+    Ok(Facts::of_terms(false))
 }

@@ -1,9 +1,9 @@
 -- Each way out is a step of `Steps`, and what was read on the way to it.
-use Rattle.std.proofs.Common.{rules}
+use Rattle.std.proofs.Common.{rules, sym, ◌∙◌}
 use Rattle.policy.specs.Held.{guard_is}
 use Rattle.check_polarity.specs.Earlier.{earlier_is}
 use Rattle.check_expressions.specs.Expressions.{inside, two_facts}
-use Rattle.check_expressions.proofs.Steps.{expr_unread, expr_uncoded, expr_deep, expr_coded, code_finite, code_cofinite, code_definition, code_name, code_vetted, code_union, code_difference, code_comprehension, opened, body_head, body_opens, body_then, draw_reads, absent_reads}
+use Rattle.check_expressions.proofs.Steps.{expr_unread, expr_uncoded, expr_deep, expr_coded, code_leaf, code_union, code_difference, code_comprehension, opened, body_head, body_opens, body_then, draw_reads, absent_reads}
 use Rattle.check_expressions.proofs.+checkers.Goals as goal
 
 pub check_expr-returns-in_err-word : goal.check_expr-returns-in_err-word
@@ -18,20 +18,10 @@ check_expr-returns-then-levels-eq0 t c = expr_deep (earlier_is c.args.earlier.no
 pub check_expr-returns : goal.check_expr-returns
 check_expr-returns t c = expr_coded (earlier_is c.args.earlier.now) c.args.variables c.args.decoder.now.words.now c.args.decoder.now.draws c.in_ok-word.ensures c.args.levels c.in_ok-code.code c.in_ok-code.ensures c.if-levels-eq0.false c.check_code.ensures
 
-pub check_code-returns-in-Finite : goal.check_code-returns-in-Finite
-check_code-returns-in-Finite t c = rw (c.in-Finite.is, code_finite (earlier_is c.args.earlier.now) (inside (earlier_is c.args.earlier.now) c.args.levels) c.args.variables c.args.decoder.now.words.now c.args.decoder.now.draws) (search rules)
-
-pub check_code-returns-in-Cofinite : goal.check_code-returns-in-Cofinite
-check_code-returns-in-Cofinite t c = rw (c.in-Cofinite.is, code_cofinite (earlier_is c.args.earlier.now) (inside (earlier_is c.args.earlier.now) c.args.levels) c.args.variables c.args.decoder.now.words.now c.args.decoder.now.draws) (search rules)
-
-pub check_code-returns-in-Definition : goal.check_code-returns-in-Definition
-check_code-returns-in-Definition t c = rw (c.in-Definition.is, code_definition (earlier_is c.args.earlier.now) (inside (earlier_is c.args.earlier.now) c.args.levels) c.args.variables c.args.decoder.now.words.now c.args.decoder.now.draws) (search rules)
-
-pub check_code-returns-in-Name : goal.check_code-returns-in-Name
-check_code-returns-in-Name t c = rw (c.in-Name.is, code_name (earlier_is c.args.earlier.now) (inside (earlier_is c.args.earlier.now) c.args.levels) c.args.variables c.args.decoder.now.words.now c.args.decoder.now.draws) (search rules)
-
-pub check_code-returns-in-Vetted : goal.check_code-returns-in-Vetted
-check_code-returns-in-Vetted t c = rw (c.in-Vetted.is, code_vetted (earlier_is c.args.earlier.now) (inside (earlier_is c.args.earlier.now) c.args.levels) c.args.variables c.args.decoder.now.words.now c.args.decoder.now.draws) (search rules)
+pub check_code-returns-in_default : goal.check_code-returns-in_default
+check_code-returns-in_default t c =
+    c.check_leaf.ensures
+    ∙ sym (code_leaf (earlier_is c.args.earlier.now) (inside (earlier_is c.args.earlier.now) c.args.levels) c.args.variables c.args.decoder.now.words.now c.args.decoder.now.draws c.args.code c.in_default.not-Union c.in_default.not-Difference c.in_default.not-Comprehension)
 
 pub check_code-returns-in_err-left-in-Union : goal.check_code-returns-in_err-left-in-Union
 check_code-returns-in_err-left-in-Union t c = rw (c.in-Union.is, code_union (earlier_is c.args.earlier.now) c.args.levels c.args.variables c.args.decoder.now.words.now c.args.decoder.now.draws) (search rules)
