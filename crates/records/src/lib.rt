@@ -5,8 +5,6 @@ ghost use Rattle.std.specs.Prelude.{◌+◌, ◌*◌, ◌≤◌, ◌<◌, ◌≡
 ghost use Rattle.rows.specs.Ordered.{leading, PassFirst};
 ghost use Rattle.rows.specs.Records.{count_of, records_in, record_at, put_in, begins_before};
 
-use std::cmp::Ordering;
-
 /// The words of record `i`.
 pub fn record_at<'a>(area: &'a [u32], width: usize, i: usize) -> &'a [u32]
     requires { 1 + width * (i + 1) ≤ length area.now }
@@ -22,11 +20,13 @@ fn begins_before(area: &[u32], at: usize, words: &[u32], also: bool) -> bool
     ensures { result ≡ begins_before also words.now (drop at area.now) }
 {
     let front = &area[at..at + words.len()];
-    match front.cmp(words) {
-        Ordering::Less => true,
-        Ordering::Equal => also,
-        Ordering::Greater => false,
+    // A loop: on so few words the slices' own `cmp` takes half as long again.
+    for j in 0..words.len() {
+        if front[j] != words[j] {
+            return front[j] < words[j];
+        }
     }
+    also
 }
 
 /// How many records begin with words before these, with `also` those that begin with these too, by binary search.

@@ -1,19 +1,17 @@
 -- A row in words and in hand, and which of two comes first.
 use Prim.Native.Nat.{ℕ, suc, ◌+◌, ◌-◌, ◌≤◌, ◌<◌}
 use mathlib.Core.Path.{◌≡◌, refl, sym, ◌∙◌, ap}
-use mathlib.Core.Bool.{Bool, true, false}
+use mathlib.Core.Bool.{true, false}
 use mathlib.Core.List.{List, [], ◌∷◌, ◌++◌}
 use native.Mathlib.Omega.{arith}
 use lib.ListN.{length, get_or, take, drop, replicate, length-drop, get_or-replicate, get_or-append}
 use lib.Seq.{split_at, drop-cons, get_or-take, get_or-drop, get_or-append-add, take-suc, take_all, length-take-le, take-take, drop-drop}
 use borrow.Author.Tests.{le-leb, lt-leb}
-use Rattle.rows.specs.Ordered.{StrictTotal, words_before}
+use Rattle.rows.specs.Ordered.{words_before}
 use Rattle.rows.specs.Row.{Row, row_before}
 use Rattle.rows.specs.Layout.{row_in, row_words, five_at, zeros, sound_row}
-use Rattle.row_words.specs.Values.{five_is, row_is, order_for}
+use Rattle.row_words.specs.Values.{five_is, row_is}
 use Rattle.row_words.specs.declared.row.Row as Held
-use Rattle.row_words.specs.declared.row.Order.TheVariants.{Before, Same, After}
-use Rattle.rows.proofs.Case.{Case, is_true, is_false, split, never}
 use Rattle.rows.proofs.LayoutLaws.{row_length, sound_width}
 use Rattle.rows.proofs.Scan.{and_true_left, and_false_left, zeros_next, zeros_fails, zeros_end}
 use Rattle.rows.proofs.Order.{word_by_word, shorter_first}
@@ -154,54 +152,6 @@ front_next x y j f h k e =
     let p : take (suc j) x ≡ take j x ++ (get_or x j 0 ∷ []) = take-suc x j 0 h in
     let q : take (suc j) y ≡ take j y ++ (get_or y j 0 ∷ []) = take-suc y j 0 k in
     rw s (cc)
-
-module _ {A : Type 0} {before : A → A → Bool} (laws : StrictTotal before) (x y : A) where
-  pub order_before : before x y ≡ true → order_for before x y ≡ Before
-  unfolding order_for
-  order_before e = rw (e, order_for)
-
-  pub order_after : before y x ≡ true → order_for before x y ≡ After
-  unfolding order_for
-  order_after e = go (split (before x y))
-    where
-      go : Case (before x y) → order_for before x y ≡ After
-      go (is_true f) = never (laws.transitive x y x f e) (laws.irreflexive x)
-      go (is_false f) = rw (f, e, order_for)
-
-  pub order_same : x ≡ y → order_for before x y ≡ Same
-  unfolding order_for
-  order_same e =
-      let f : before x y ≡ false = ap (before x) (sym e) ∙ laws.irreflexive x in
-      let g : before y x ≡ false = ap (before y) e ∙ laws.irreflexive y in
-      rw (f, g, order_for)
-
-  -- and back
-  pub before_order : order_for before x y ≡ Before → before x y ≡ true
-  unfolding order_for
-  before_order e = go (split (before x y)) (split (before y x))
-    where
-      go : Case (before x y) → Case (before y x) → before x y ≡ true
-      go (is_true f) g = f
-      go (is_false f) (is_true g) = let h = rw (f, g, order_for) at e in let z : ◌≡◌ {A = ℕ} 0 1 = cc in absurd (omega arith)
-      go (is_false f) (is_false g) = let h = rw (f, g, order_for) at e in let z : ◌≡◌ {A = ℕ} 0 1 = cc in absurd (omega arith)
-
-  pub after_order : order_for before x y ≡ After → before y x ≡ true
-  unfolding order_for
-  after_order e = go (split (before x y)) (split (before y x))
-    where
-      go : Case (before x y) → Case (before y x) → before y x ≡ true
-      go (is_true f) g = let h = rw (f, order_for) at e in let z : ◌≡◌ {A = ℕ} 0 1 = cc in absurd (omega arith)
-      go (is_false f) (is_true g) = g
-      go (is_false f) (is_false g) = let h = rw (f, g, order_for) at e in let z : ◌≡◌ {A = ℕ} 0 1 = cc in absurd (omega arith)
-
-  pub same_order : order_for before x y ≡ Same → x ≡ y
-  unfolding order_for
-  same_order e = go (split (before x y)) (split (before y x))
-    where
-      go : Case (before x y) → Case (before y x) → x ≡ y
-      go (is_true f) g = let h = rw (f, order_for) at e in let z : ◌≡◌ {A = ℕ} 0 1 = cc in absurd (omega arith)
-      go (is_false f) (is_true g) = let h = rw (f, g, order_for) at e in let z : ◌≡◌ {A = ℕ} 0 1 = cc in absurd (omega arith)
-      go (is_false f) (is_false g) = laws.total x y f g
 
 -- the first words of two lists of one length are the same, as the first atoms of two rows of one width
 pub record Agree (x y : Row) (j : ℕ) : Type 0 where

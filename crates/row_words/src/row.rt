@@ -2,7 +2,7 @@
 ghost use Rattle.std.specs.Prelude.{◌≡◌, ◌+◌, ◌≤◌, ◌<◌, length, get_or};
 ghost use Rattle.rows.specs.Row.{row_before};
 ghost use Rattle.rows.specs.Layout.{row_in, row_words, five_at, sound_row, put};
-ghost use Rattle.row_words.specs.Values.{five_is, row_is, order_for, ordering_for};
+ghost use Rattle.row_words.specs.Values.{five_is, row_is, ordering_for};
 
 use std::cmp::Ordering;
 
@@ -11,13 +11,6 @@ use std::cmp::Ordering;
 pub struct Row {
     pub width: u32,
     pub atoms: [u32; 4],
-}
-
-#[derive(Clone, Copy)]
-pub enum Order {
-    Before,
-    Same,
-    After,
 }
 
 impl Row {
@@ -99,22 +92,4 @@ pub fn load(words: &[u32], at: usize) -> Row
     ensures { five_is result ≡ five_at words.now at }
 {
     Row::at(words, at)
-}
-
-pub fn compare(row: Row, words: &[u32], at: usize) -> Order
-    requires { (at + 5 ≤ length words.now) × (row.width ≤ 4) × (get_or words.now at 0 ≤ 4) }
-    ensures { result ≡ order_for row_before (row_is row) (row_in (five_at words.now at)) }
-{
-    match row.compare(words, at) {
-        Ordering::Less => Order::Before,
-        Ordering::Equal => Order::Same,
-        Ordering::Greater => Order::After,
-    }
-}
-
-pub fn store(area: &mut [u32], at: usize, row: Row)
-    requires { (at + 5 ≤ length area.old) × (row.width ≤ 4) }
-    ensures { area.new ≡ put at (row_words (row_is row)) area.old }
-{
-    row.write(area, at);
 }

@@ -1,24 +1,23 @@
 -- Which of two sound records comes before, by their names, then by their rows, then by their terms.
-use Prim.Native.Nat.{ℕ, ◌≤◌}
+use Prim.Native.Nat.{ℕ, ◌≤◌, ◌<◌}
 use mathlib.Core.Path.{◌≡◌, sym, ◌∙◌, ap}
 use mathlib.Core.Bool.{true, false}
 use mathlib.Core.List.{List}
 use native.Mathlib.Omega.{arith}
 use lib.Dec.{ltb, eqb}
-use lib.ListN.{get_or}
-use borrow.Author.Tests.{le-ltb, eq-eqb, ne_eqb}
+use lib.ListN.{length, get_or, take}
+use lib.Seq.{length-take-le, take-take, get_or-take}
+use borrow.Author.Tests.{le-ltb, eq-eqb, ne_eqb, ltb-true, ltb-false}
 use Rattle.rows.specs.Ordered.{words_before}
 use Rattle.rows.specs.Layout.{five_at}
 use Rattle.rows.specs.Row.{Row, row_before}
 use Rattle.rows.proofs.Case.{Case, is_true, is_false, split}
-use Rattle.rows.proofs.Order.{words_order, row_order}
+use Rattle.rows.proofs.Order.{row_order}
 use Rattle.row_words.specs.Values.{five_is, row_is, ordering_for}
 use Rattle.row_words.specs.declared.row.Row as Held
 use Rattle.std.proofs.Common.{Ordering, Less, Equal, Greater}
-use Rattle.std.specs.Ordering.{nat_cmp}
-use Rattle.std.specs.Cmp.Lexicographic.{slice_cmp}
-use Rattle.row_words.proofs.RowLaws.{loaded_row, sound_narrow}
-use Rattle.row_words.proofs.Orderings.{less_before, equal_same, greater_after, words_compared}
+use Rattle.row_words.proofs.RowLaws.{first_differs, loaded_row, sound_narrow}
+use Rattle.row_words.proofs.Orderings.{less_before, equal_same, greater_after}
 use Rattle.certificates.specs.Certificate.{first_minute, end_minute, record_name, record_row, record_term, sound_record, record_before}
 use Rattle.certificates.proofs.RecordOrder.{name_decides, name_denies, row_decides, row_denies}
 use Rattle.certificates.proofs.Sound.{sound_record_lem}
@@ -46,19 +45,26 @@ module _ (a b : List ℕ) where
       go (is_false t) (is_true u) = rw (le-ltb (first_minute a) (first_minute b) (omega arith), eq-eqb _ _ e, t, u)
       go (is_false t) (is_false u) = rw (le-ltb (first_minute a) (first_minute b) (omega arith), eq-eqb _ _ e, t, u)
 
--- the names, as the code compares them
-module _ (a b : List ℕ) {o : Ordering} (by_words : o ≡ slice_cmp nat_cmp (record_name a) (record_name b)) where
-  compared : o ≡ ordering_for words_before (record_name a) (record_name b)
-  compared = by_words ∙ words_compared (record_name a) (record_name b)
+-- the names, as the code compares them: the first words that differ decide
+module _ (a b : List ℕ) (j : ℕ) (alike : take j a ≡ take j b) where
+  unlike : (x y : List ℕ) → length x ≡ 10 → length y ≡ 10 → take j x ≡ take j y → j < 3 → get_or x j 0 < get_or y j 0 → words_before (record_name x) (record_name y) ≡ true
+  unlike x y l m e h d =
+      let p : take j (take 3 x) ≡ take j x = take-take j 3 x (omega arith) in
+      let q : take j (take 3 y) ≡ take j y = take-take j 3 y (omega arith) in
+      let u : get_or (take 3 x) j 0 ≡ get_or x j 0 = get_or-take 3 x j 0 h in
+      let v : get_or (take 3 y) j 0 ≡ get_or y j 0 = get_or-take 3 y j 0 h in
+      first_differs (take 3 x) (take 3 y) j (p ∙ e ∙ sym q) (omega (arith, length-take-le 3 x (omega arith))) (omega (arith, length-take-le 3 y (omega arith))) (omega arith)
 
-  pub name_before : o ≡ Less → true ≡ record_before a b
-  name_before e = sym (name_decides a b (less_before words_order (record_name a) (record_name b) (sym compared ∙ e)))
+  pub name_differs : length a ≡ 10 → length b ≡ 10 → j < 3 → (get_or a j 0 ≡ get_or b j 0 → ⊥) → ltb (get_or a j 0) (get_or b j 0) ≡ record_before a b
+  name_differs l m h n = go (split (ltb (get_or a j 0) (get_or b j 0)))
+    where
+      go : Case (ltb (get_or a j 0) (get_or b j 0)) → ltb (get_or a j 0) (get_or b j 0) ≡ record_before a b
+      go (is_true t) = let d = ltb-true _ _ t in t ∙ sym (name_decides a b (unlike a b l m alike h (omega arith)))
+      go (is_false t) = let d = ltb-false _ _ t in t ∙ sym (name_denies a b (unlike b a m l (sym alike) h (omega arith)))
 
-  pub name_same : o ≡ Equal → record_name a ≡ record_name b
-  name_same e = equal_same words_order (record_name a) (record_name b) (sym compared ∙ e)
-
-  pub name_after : o ≡ Greater → false ≡ record_before a b
-  name_after e = sym (name_denies a b (greater_after words_order (record_name a) (record_name b) (sym compared ∙ e)))
+  -- or none does
+  pub name_same : j ≡ 3 → record_name a ≡ record_name b
+  name_same e = ap (λ (n : ℕ). take n a) (sym e) ∙ alike ∙ ap (λ (n : ℕ). take n b) e
 
 -- the names are the same: the rows, as the code compares them
 module _ (a b : List ℕ) (sound_a : sound_record a ≡ true) (sound_b : sound_record b ≡ true) (named : record_name a ≡ record_name b) where

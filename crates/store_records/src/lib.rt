@@ -12,7 +12,6 @@ ghost use Rattle.certificates.specs.Steps.{sound_at, pair_at, ShortRow, Follows,
 use crate::record::{record_before, sound_record, sound_term, term_before};
 use certificates::{CAPACITY, RECORD_WORDS, ROW_IN_RECORD, STORE_WORDS};
 use records::record_at;
-use row_words::wide;
 
 const FIRST_ATOM: usize = ROW_IN_RECORD + 1;
 
@@ -43,7 +42,7 @@ fn short_row(words: &[u32], polarity: u32) -> bool
     if pair(words, FIRST_ATOM + 2) != 0 {
         return false;
     }
-    let one_atom = wide(polarity) + 4294967296;
+    let one_atom = polarity as usize + 4294967296;
     let kind = pair(words, 2);
     if kind == one_atom {
         return words[FIRST_ATOM + 1] == 0;

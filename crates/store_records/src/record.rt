@@ -38,6 +38,7 @@ pub fn sound_record(words: &[u32]) -> bool
 }
 
 /// Does the term of `a` come before that of `b`, by the first minute, then by the end?
+#[tactic(auto, using(crate::proofs::Before::first_differ, crate::proofs::Before::first_alike))]
 pub fn term_before(a: &[u32], b: &[u32]) -> bool
     requires { (length a.now ≡ record_words) × (length b.now ≡ record_words) }
     ensures { result ≡ words_before (record_term a.now) (record_term b.now) }
@@ -51,18 +52,22 @@ pub fn term_before(a: &[u32], b: &[u32]) -> bool
 }
 
 /// Does `a` come before `b`? Key, name and polarity nearly always decide it; where these are the same the rows do, and where these are, the terms.
-// By `match`: as an `Ordering` of slices joined by `then_with`, it makes the test of a store of many names nearly twice as long.
+// By steps: as an `Ordering` of slices joined by `then_with`, it makes the test of a store of many names nearly twice as long; and a loop over the names' three
+// words is quicker than the slices' own `cmp`.
 pub fn record_before(a: &[u32], b: &[u32]) -> bool
     requires { (sound_record a.now ≡ true) × (sound_record b.now ≡ true) }
     ensures { result ≡ record_before a.now b.now }
 {
-    match a[..ROW_IN_RECORD].cmp(&b[..ROW_IN_RECORD]) {
+    for j in 0..ROW_IN_RECORD {
+        let x = a[j];
+        let y = b[j];
+        if x != y {
+            return x < y;
+        }
+    }
+    match Row::at(a, ROW_IN_RECORD).compare(b, ROW_IN_RECORD) {
         Ordering::Less => true,
-        Ordering::Equal => match Row::at(a, ROW_IN_RECORD).compare(b, ROW_IN_RECORD) {
-            Ordering::Less => true,
-            Ordering::Equal => term_before(a, b),
-            Ordering::Greater => false,
-        },
+        Ordering::Equal => term_before(a, b),
         Ordering::Greater => false,
     }
 }
