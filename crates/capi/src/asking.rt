@@ -3,7 +3,7 @@ ghost use Rattle.demands.specs.Query.{lent};
 ghost use Rattle.capi.specs.Replies.{Asked};
 
 use crate::{NO_REFUSAL, NO_VERDICT};
-use engine::{Reply, query as ask};
+use engine::query as ask;
 use refusals::NO_PART;
 
 // Answers a query under our key: the refusal's number, 0 for none.
@@ -38,23 +38,17 @@ pub extern "C" fn txb_query<'a>(
         definitions,
         scratch,
     ) {
-        Reply::Answered {
-            verdict: word,
-            draws: made,
-        } => {
+        Ok(given) => {
             *part = NO_PART;
-            *verdict = word;
-            *draws = made;
+            *verdict = u32::from(given.verdict);
+            *draws = given.draws;
             NO_REFUSAL
         }
-        Reply::Refused {
-            number,
-            part: about,
-        } => {
-            *part = about;
+        Err(refused) => {
+            *part = u32::from(refused.part);
             *verdict = NO_VERDICT;
             *draws = 0;
-            number
+            u32::from(refused.refusal)
         }
     }
 }

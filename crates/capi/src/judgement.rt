@@ -5,7 +5,7 @@ ghost use Rattle.capi.specs.Replies.{hand_judgement};
 ghost use Rattle.capi.specs.Spans.{PartAt};
 
 use crate::{NO_REFUSAL, NO_VERDICT};
-use judging::{Judgement, judge};
+use judging::judge;
 use policy_table::parts::{PartSpan, part_span};
 use refusals::NO_PART;
 
@@ -22,18 +22,15 @@ pub extern "C" fn txb_judge(
         ≡ record { number = result; part = part.new; verdict = verdict.new } }
 {
     match judge(policy, query, our_key) {
-        Judgement::Verdict(word) => {
+        Ok(given) => {
             *part = NO_PART;
-            *verdict = word;
+            *verdict = u32::from(given);
             NO_REFUSAL
         }
-        Judgement::Refused {
-            number,
-            part: about,
-        } => {
-            *part = about;
+        Err(refused) => {
+            *part = u32::from(refused.part);
             *verdict = NO_VERDICT;
-            number
+            u32::from(refused.refusal)
         }
     }
 }

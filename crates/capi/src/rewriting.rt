@@ -2,7 +2,7 @@
 ghost use Rattle.capi.specs.Replies.{RewrittenInto};
 
 use crate::NO_REFUSAL;
-use policy_rewriting::{Rewritten, rewrite};
+use policy_rewriting::rewrite;
 use refusals::NO_PART;
 
 // Rewrites an external policy under our key into the area: the refusal's number, 0 for none. The length is the output's.
@@ -18,18 +18,15 @@ pub extern "C" fn txb_rewrite(
         (record { number = result; part = part.new; size = length.new }) area.new }
 {
     match rewrite(policy, our_key, area) {
-        Rewritten::Length(words) => {
+        Ok(words) => {
             *part = NO_PART;
             *length = words;
             NO_REFUSAL
         }
-        Rewritten::Refused {
-            number,
-            part: about,
-        } => {
-            *part = about;
+        Err(refused) => {
+            *part = u32::from(refused.part);
             *length = 0;
-            number
+            u32::from(refused.refusal)
         }
     }
 }

@@ -1,5 +1,7 @@
 // What a call replied, in words: a refusal, an area's untouched rest, the set in an answer area that was full of fives before.
-use engine::Reply;
+use engine::Answer;
+use policy::codes::Verdict;
+use refusals::Refused;
 use std::{fmt, io};
 
 /// Words, with a space before each.
@@ -62,43 +64,45 @@ impl fmt::Display for SetIn<'_> {
 
 /// The refusal of a call that reads a policy or a query.
 #[derive(Clone, Copy, Debug)]
-pub struct RefusedCall {
-    pub number: u32,
-    pub part: u32,
-}
+pub struct RefusedCall(pub Refused);
 
 impl fmt::Display for RefusedCall {
     fn fmt<W: fmt::Write>(&self, f: &mut fmt::Formatter<W>) -> fmt::Result {
-        let number = self.number;
-        let part = self.part;
+        let number = u32::from(self.0.refusal);
+        let part = u32::from(self.0.part);
         write!(f, "refused {number}, part {part}")
     }
 }
 
-fn verdict_name(verdict: u32) -> &'static str {
+fn verdict_name(verdict: Verdict) -> &'static str {
     match verdict {
-        0 => "exact",
-        1 => "lower",
-        _ => "upper",
+        Verdict::Exact => "exact",
+        Verdict::Lower => "lower",
+        Verdict::Upper => "upper",
     }
 }
 
 /// Prints the reply to a query, whose answer area was full of fives before.
-pub fn print_reply(rt: &impl Print, reply: Reply, answer: &[u32]) -> io::Result<()> {
+pub fn print_reply(
+    rt: &impl Print,
+    reply: Result<Answer, Refused>,
+    area: &[u32],
+) -> io::Result<()> {
     match reply {
-        Reply::Answered { verdict, draws } => {
+        Ok(answer) => {
             print!(rt;
-                "{}, {draws} draws, {}",
-                verdict_name(verdict),
-                SetIn(answer)
+                "{}, {} draws, {}",
+                verdict_name(answer.verdict),
+                answer.draws,
+                SetIn(area)
             )
         }
-        Reply::Refused { number, part } => {
+        Err(refused) => {
             print!(rt;
                 "{}{}",
-                RefusedCall { number, part },
+                RefusedCall(refused),
                 Rest {
-                    words: answer,
+                    words: area,
                     was: 5
                 }
             )

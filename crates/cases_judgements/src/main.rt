@@ -8,14 +8,16 @@ use cases::headings::{OUR_KEY, heading};
 use cases::input::read_input;
 use cases::replies::{RefusedCall, Spaced};
 use cases::text::Text;
-use judging::{Judgement, judge};
+use judging::judge;
+use policy::codes::Verdict;
 use policy_table::parts::part;
+use refusals::Refused;
 use std::io;
 
-fn print_judgement(rt: &impl Print, judgement: Judgement) -> io::Result<()> {
+fn print_judgement(rt: &impl Print, judgement: Result<Verdict, Refused>) -> io::Result<()> {
     match judgement {
-        Judgement::Verdict(verdict) => print!(rt; "verdict {verdict}"),
-        Judgement::Refused { number, part } => print!(rt; "{}", RefusedCall { number, part }),
+        Ok(verdict) => print!(rt; "verdict {}", u32::from(verdict)),
+        Err(refused) => print!(rt; "{}", RefusedCall(refused)),
     }
 }
 

@@ -12,7 +12,7 @@ use cases::headings::{OUR_KEY, heading};
 use cases::input::read_input;
 use cases::replies::{RefusedCall, Rest, Spaced};
 use cases::text::Text;
-use policy_rewriting::{Rewritten, rewrite};
+use policy_rewriting::rewrite;
 use std::io;
 
 // Longer outputs are not printed.
@@ -53,10 +53,10 @@ fn rewrite_in(rt: &(impl Print + AllocGlobal), mut text: Text<'_>, our_key: u32)
     let mut area = [99u32; 8300];
     let end = lent.min(area.len());
     match rewrite(&policy, our_key, &mut area[..end]) {
-        Rewritten::Length(count) => print_output(rt, text, &area, count),
-        Rewritten::Refused { number, part } => print!(rt;
+        Ok(count) => print_output(rt, text, &area, count),
+        Err(refused) => print!(rt;
             "{}{}",
-            RefusedCall { number, part },
+            RefusedCall(refused),
             Rest {
                 words: &area,
                 was: 99
