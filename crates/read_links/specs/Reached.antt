@@ -1,9 +1,13 @@
 -- What the search along links asks and finds.
-use Rattle.std.specs.Prelude.{ℕ, zero, suc, ◌+◌, ◌*◌, ◌≤◌, ◌<◌, ◌≡◌, ◌↔◌, Bool, true, List, [], ◌∷◌, ◌++◌, length, get_or, drop}
+use Rattle.std.specs.Prelude.{ℕ, zero, suc, ◌+◌, ◌≤◌, ◌<◌, ◌≡◌, ◌↔◌, ◌⊎◌, Bool, true, List, [], ◌∷◌, ◌++◌, get_or, drop}
 use Rattle.rows.specs.Ordered.{◌∈◌}
 use Rattle.rows.specs.Records.{count_of, record_at}
 use Rattle.rows.specs.Name.{Polarity, polarity_of}
 use Rattle.certificates.specs.Link.{Named, Link, link_words, link_of, most_links, link_records, links_said}
+use Rattle.rows.specs.Polarities.{polarity_is}
+use Rattle.rows.specs.declared.Polarity as Held
+use Rattle.rows.specs.declared.Polarity.TheVariants.{Plus}
+use Rattle.read_links.specs.declared.Name.{Name}
 use Rattle.meaning.specs.Links.{Reaches}
 use Rattle.meaning.specs.Evidence.{named}
 
@@ -11,19 +15,26 @@ use Rattle.meaning.specs.Evidence.{named}
 abbrev pub links_of : List ℕ → List Link
 links_of links = links_said (link_records links)
 
--- so many names, two words each
-unfoldable pub names_in : ℕ → List ℕ → List Named
-names_in zero ws = []
-names_in (suc n) ws = named (get_or ws 0 0) (get_or ws 1 0) ∷ names_in n (drop 2 ws)
+-- a key's list without its polarity
+abbrev pub named_by : Name → Named
+named_by n = named n.key n.number
+
+abbrev pub nobody : Name
+nobody = record { key = 0; number = 0; polarity = Plus }
+
+-- the first so many names
+unfoldable pub names_in : ℕ → List Name → List Named
+names_in zero ns = []
+names_in (suc n) ns = named_by (get_or ns 0 nobody) ∷ names_in n (drop 1 ns)
 
 -- no name stands there twice
 unfoldable pub Once : List Named → Type 0
 Once [] = Unit {0}
 Once (x ∷ xs) = (¬ (x ∈ xs)) × Once xs
 
--- room for a name and the second name of each link
+-- room for a name and the second of each link
 abbrev pub found_room : ℕ
-found_room = 2 * (1 + most_links)
+found_room = 1 + most_links
 
 -- a link of this polarity starts at the name
 pub record StartsAt (links : List ℕ) (p : Polarity) (x : Named) : Type 0 where
@@ -35,11 +46,12 @@ pub record StartsAt (links : List ℕ) (p : Polarity) (x : Named) : Type 0 where
 pub record SayLinked (links : List ℕ) (polarity key name : ℕ) (r : Bool) : Type 0 where
   pub means : (r ≡ true) ↔ StartsAt links (polarity_of polarity) (named key name)
 
--- so many names lie there: just those that links of this polarity reach from this one, each once
-pub record SayReached (links : List ℕ) (polarity key name : ℕ) (found : List ℕ) (count : ℕ) : Type 0 where
-  pub room : 2 * count ≤ length found
-  pub just : (y : Named) → (y ∈ names_in count found) ↔ Reaches (links_of links) (polarity_of polarity) (named key name) y
+-- just the names that links of this polarity reach from this one, each once, and all of this polarity
+pub record SayReached (links : List ℕ) (name : Name) (found : List Name) (count : ℕ) : Type 0 where
+  pub few : count ≤ found_room
+  pub just : (y : Named) → (y ∈ names_in count found) ↔ Reaches (links_of links) (polarity_is name.polarity) (named_by name) y
   pub once : Once (names_in count found)
+  pub polar : (i : ℕ) → i < count → (get_or found i nobody).polarity ≡ name.polarity
 
 -- ---- what the functions within ask and find
 
@@ -47,8 +59,8 @@ pub record SayReached (links : List ℕ) (polarity key name : ℕ) (found : List
 abbrev pub link_in : List ℕ → ℕ → Link
 link_in links i = link_of (record_at link_words links i)
 
-abbrev pub name_in : List ℕ → ℕ → Named
-name_in found i = named (get_or found (2 * i) 0) (get_or found (2 * i + 1) 0)
+abbrev pub name_in : List Name → ℕ → Named
+name_in found i = named_by (get_or found i nobody)
 
 -- link i starts at the name
 pub record From (links : List ℕ) (key name polarity i : ℕ) : Type 0 where
@@ -64,22 +76,21 @@ pub record FirstFrom (links : List ℕ) (key name polarity start : ℕ) : Type 0
   pub none : (i : ℕ) → From links key name polarity i → start ≤ i
   pub together : (i j : ℕ) → start ≤ i → i ≤ j → From links key name polarity j → From links key name polarity i
 
-pub record SayFound (found : List ℕ) (count key name : ℕ) (r : Bool) : Type 0 where
+pub record SayFound (found : List Name) (count key name : ℕ) (r : Bool) : Type 0 where
   pub means : (r ≡ true) ↔ (named key name ∈ names_in count found)
 
 -- there is room for the name, if it is not there
-pub record RoomFor (x : Named) (found : List ℕ) (count : ℕ) : Type 0 where
-  pub whole : 2 * count ≤ length found
-  pub new : (¬ (x ∈ names_in count found)) → 2 * count + 2 ≤ length found
+pub record RoomFor (x : Named) (found : List Name) (count : ℕ) : Type 0 where
+  pub new : (¬ (x ∈ names_in count found)) → count < found_room
 
 -- a name put behind others, if it is not among them
 pub data Adding (x : Named) (xs : List Named) : List Named → Type 0 where
   known : x ∈ xs → Adding x xs xs
   new : (¬ (x ∈ xs)) → Adding x xs (xs ++ (x ∷ []))
 
-pub record Added (x : Named) (found : List ℕ) (count : ℕ) (found' : List ℕ) (count' : ℕ) : Type 0 where
-  pub size : length found' ≡ length found
-  pub names : Adding x (names_in count found) (names_in count' found')
+pub record Added (x : Name) (found : List Name) (count : ℕ) (found' : List Name) (count' : ℕ) : Type 0 where
+  pub names : Adding (named_by x) (names_in count found) (names_in count' found')
+  pub each : (i : ℕ) → i < count' → (get_or found' i nobody ≡ x) ⊎ ((i < count) × (get_or found' i nobody ≡ get_or found i nobody))
 
 -- what was found so far from the name x: no name twice, and none that is not reached
 pub record Sought (ls : List Link) (p : Polarity) (x : Named) (names : List Named) : Type 0 where
@@ -87,10 +98,10 @@ pub record Sought (ls : List Link) (p : Polarity) (x : Named) (names : List Name
   pub only : (y : Named) → y ∈ names → Reaches ls p x y
   pub once : Once names
 
--- the same in words: the search started from the first name
-pub record Search (links : List ℕ) (polarity : ℕ) (found : List ℕ) (count : ℕ) : Type 0 where
-  pub room : found_room ≤ length found
-  pub sought : Sought (links_of links) (polarity_of polarity) (name_in found 0) (names_in count found)
+-- the same of the names found: the search started from the first
+pub record Search (links : List ℕ) (p : Held.Polarity) (found : List Name) (count : ℕ) : Type 0 where
+  pub sought : Sought (links_of links) (polarity_is p) (name_in found 0) (names_in count found)
+  pub polar : (i : ℕ) → i < count → (get_or found i nobody).polarity ≡ p
 
 -- names added behind others
 pub record Grows (xs ys : List Named) : Type 0 where
@@ -102,8 +113,7 @@ abbrev pub Led : List Link → Polarity → Named → List Named → Type 0
 Led ls p x names = (l : Link) → l ∈ ls → l.polarity ≡ p → l.first ≡ x → l.second ∈ names
 
 -- the names found stay, and the links of name `next` lead to none that is not there
-pub record SayFollowed (links : List ℕ) (polarity : ℕ) (found : List ℕ) (count next : ℕ) (found' : List ℕ) (count' : ℕ) : Type 0 where
-  pub size : length found' ≡ length found
-  pub search : Search links polarity found' count'
+pub record SayFollowed (links : List ℕ) (p : Held.Polarity) (found : List Name) (count next : ℕ) (found' : List Name) (count' : ℕ) : Type 0 where
+  pub search : Search links p found' count'
   pub grows : Grows (names_in count found) (names_in count' found')
-  pub led : Led (links_of links) (polarity_of polarity) (name_in found next) (names_in count' found')
+  pub led : Led (links_of links) (polarity_is p) (name_in found next) (names_in count' found')

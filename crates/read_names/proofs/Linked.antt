@@ -27,7 +27,13 @@ use Rattle.certificates.proofs.Sound.{sound_record_lem}
 use Rattle.meaning.specs.Evidence.{joined}
 use Rattle.meaning.proofs.Model.{rows_ascending, joined_alone, reached-∈}
 use Rattle.read_values.specs.Answers.{Filled, Empty}
-use Rattle.read_links.specs.Reached.{links_of, names_in, name_in, SayLinked, SayReached}
+use Rattle.meaning.specs.Links.{Reaches}
+use Rattle.read_links.specs.declared.Name.{Name}
+use Rattle.read_links.specs.Reached.{links_of, nobody, named_by, names_in, name_in, SayLinked, SayReached}
+use Rattle.rows.specs.Polarities.{polarity_number}
+use Rattle.read_links.proofs.Finding.{of_number}
+use lib.ListN.{take, length-take}
+use lib.Seq.{get_or-take}
 use Rattle.read_links.proofs.Names.{names_last, name-∈, ∈-name}
 use Rattle.read_values.proofs.Answers.{stands_filled}
 use Rattle.read_steps.proofs.Inserting as inserting
@@ -44,6 +50,10 @@ use Rattle.read_held.proofs.Holding.{rows_none, rows_few, rows_ascend}
 use Rattle.read_held.proofs.Copying.{record_wide, rows_of, rows_put, rows_same, all_rows, rows_within, rows_wide}
 use Rattle.read_names.proofs.Own.{own_rows_lem, records_few}
 
+-- just these names are reached
+pub record Reached (links : List ℕ) (v : ℕ) (x : Named) (found : List Name) (count : ℕ) : Type 0 where
+  pub just : (y : Named) → (y ∈ names_in count found) ↔ Reaches (links_of links) (polarity_of v) x y
+
 -- ---- what a name's rows are
 
 module _ (minute : ℕ) (store links : List ℕ) (key name v : ℕ) where
@@ -58,7 +68,7 @@ module _ (minute : ℕ) (store links : List ℕ) (key name v : ℕ) where
         (λ l i p h. let t : b ≡ true = s.means.1 (record { link = l; held = i; polar = p; here = h }) in never t f)
         ∙ own_rows_lem store sound key name v e small minute
 
-    pub reached_rows : {found : List ℕ} {count : ℕ} → SayReached links v key name found count →
+    pub reached_rows : {found : List Name} {count : ℕ} → Reached links v (record { key = key; name = name }) found count →
         (x : Row) → (x ∈ name_rows minute store links key name v) ↔ HeldFor minute store v (names_in count found) x
     reached_rows s x = reached-∈ (links_of links) (certificates_at minute store) key name (polarity_of v) x then (
       λ t. (t.0, (s.just t.0).1 t.1, subst (λ (l : List Row). x ∈ l) (own t.0) t.2),
@@ -176,8 +186,29 @@ pub no_records : (minute : ℕ) (rs : List (List ℕ)) (x : Row) → x ∈ rows_
 unfolding ◌∈◌
 no_records minute rs x m = subst (λ (xs : List Row). x ∈ xs) (rows_none minute) m
 
+-- what is known of the names that were found from a name
+module _ {links : List ℕ} {n : Name} {found : List Name} {count : ℕ} (s : SayReached links n found count) where
+  pub just_reached : Reached links (polarity_number n.polarity) (named_by n) found count
+  just_reached = record { just = λ y. subst (λ p. (y ∈ names_in count found) ↔ Reaches (links_of links) p (named_by n) y) (sym (of_number n.polarity)) (s.just y) }
+
+  -- a place among them, and the records of the name there
+  module _ {names : List Name} (is : names ≡ take count found) where
+    pub in_found : (i : ℕ) → i < length names → i < count
+    in_found i h = omega (arith, h, ap (λ (l : List Name). length l) is, length-take count found)
+
+    pub few_found : (i : ℕ) → i ≤ length names → i ≤ count
+    few_found i h = omega (arith, h, ap (λ (l : List Name). length l) is, length-take count found)
+
+    pub its_records : (store : List ℕ) (i : ℕ) → i < length names → {rs : List (List ℕ)} →
+        rs ≡ records_of store (polarity_number (get_or names i nobody).polarity) (named_by (get_or names i nobody)) → rs ≡ records_of store (polarity_number n.polarity) (name_in found i)
+    its_records store i h e =
+        let less = in_found i h in
+        let there : get_or names i nobody ≡ get_or found i nobody = ap (λ (l : List Name). get_or l i nobody) is ∙ get_or-take count found i nobody less in
+        e ∙ ap (λ (m : Name). records_of store (polarity_number m.polarity) (named_by m)) there
+        ∙ ap (λ p. records_of store (polarity_number p) (name_in found i)) (s.polar i less)
+
 -- the rows of one name more
-module _ (minute : ℕ) (store : List ℕ) (v : ℕ) (found : List ℕ) (i : ℕ) where
+module _ (minute : ℕ) (store : List ℕ) (v : ℕ) (found : List Name) (i : ℕ) where
   pub name_adds : (x : Row) → HeldFor minute store v (names_in (i + 1) found) x ↔ (HeldFor minute store v (names_in i found) x ⊎ (x ∈ own_rows minute store v (name_in found i)))
   name_adds x = (
     λ t. elim ((∈-last (names_in i found) (name_in found i) t.0).0 (subst (λ (ys : List Named). t.0 ∈ ys) last t.1)) [
@@ -202,30 +233,30 @@ pub part_full : (minute v : ℕ) (store : List ℕ) (y : Named) {rs : List (List
     NotJoined (λ x. x ∈ rows_held minute rs) before r → NotJoined (λ x. x ∈ own_rows minute store v y) before r
 part_full minute v store y before {r} e j = subst (λ (l : List (List ℕ)). NotJoined (λ x. x ∈ rows_held minute l) before r) e j
 
-names_within : (found : List ℕ) (i count : ℕ) → i ≤ count → (y : Named) → y ∈ names_in i found → y ∈ names_in count found
+names_within : (found : List Name) (i count : ℕ) → i ≤ count → (y : Named) → y ∈ names_in i found → y ∈ names_in count found
 names_within found i count h y m =
     let f = ∈-name i found y m in
     let less = f.1 in
     subst (λ (z : Named). z ∈ names_in count found) (sym f.2) (name-∈ count found f.0 (omega arith))
 
 -- the rows of these names are among those of more
-pub name_among : (minute : ℕ) (store : List ℕ) (v : ℕ) (found : List ℕ) (i count : ℕ) → i < count → (x : Row) →
+pub name_among : (minute : ℕ) (store : List ℕ) (v : ℕ) (found : List Name) (i count : ℕ) → i < count → (x : Row) →
     HeldFor minute store v (names_in i found) x ⊎ (x ∈ own_rows minute store v (name_in found i)) → HeldFor minute store v (names_in count found) x
 name_among minute store v found i count h x t =
     let u = (name_adds minute store v found i x).1 t in
     (u.0, names_within found (i + 1) count (omega arith) u.0 u.1, u.2)
 
-pub all_names : (minute : ℕ) (store : List ℕ) (v : ℕ) (found : List ℕ) (i count : ℕ) → i ≤ count → count ≤ i → (x : Row) →
+pub all_names : (minute : ℕ) (store : List ℕ) (v : ℕ) (found : List Name) (i count : ℕ) → i ≤ count → count ≤ i → (x : Row) →
     HeldFor minute store v (names_in i found) x ↔ HeldFor minute store v (names_in count found) x
 all_names minute store v found i count h l x =
     (λ t. (t.0, names_within found i count h t.0 t.1, t.2), λ t. (t.0, names_within found count i l t.0 t.1, t.2))
 
-pub no_names : (minute : ℕ) (store : List ℕ) (v : ℕ) (found : List ℕ) (x : Row) → HeldFor minute store v (names_in 0 found) x → ⊥
+pub no_names : (minute : ℕ) (store : List ℕ) (v : ℕ) (found : List Name) (x : Row) → HeldFor minute store v (names_in 0 found) x → ⊥
 unfolding names_in ◌∈◌
 no_names minute store v found x t = t.1
 
 -- whether a row is held for these names, and rows that have all of theirs
-module _ (minute : ℕ) (store : List ℕ) (v : ℕ) (found : List ℕ) (x : Row) where
+module _ (minute : ℕ) (store : List ℕ) (v : ℕ) (found : List Name) (x : Row) where
   -- so far
   pub record Looked (total : ℕ) (held : Bool) (i : ℕ) : Type 0 where
     pub means : (held ≡ true) ↔ HeldFor minute store v (names_in i found) x
@@ -288,7 +319,7 @@ module _ (minute : ℕ) (store : List ℕ) (v : ℕ) (found : List ℕ) (x : Row
 
 -- ---- the whole of them
 
-module _ (minute : ℕ) (store links : List ℕ) (key name v : ℕ) (sound : sound_store store ≡ true) (small : v ≤ 1) {found : List ℕ} {count : ℕ} (s : SayReached links v key name found count) where
+module _ (minute : ℕ) (store links : List ℕ) (key name v : ℕ) (sound : sound_store store ≡ true) (small : v ≤ 1) {found : List Name} {count : ℕ} (s : Reached links v (record { key = key; name = name }) found count) where
   abbrev rows : List Row
   rows = name_rows minute store links key name v
 

@@ -53,7 +53,7 @@ impl<'a> Held<'a> {
         if name.key < FIRST_KEY {
             return Ok(());
         }
-        if is_linked(self.links, name.key, name.number, u32::from(name.polarity)) {
+        if is_linked(self.links, name) {
             return self.list_reached(name, area);
         }
         copy_rows(self.records_of(name), self.minute, area)
@@ -77,7 +77,7 @@ impl<'a> Held<'a> {
         requires { set_room ≤ length area.old }
         ensures { MatchResult result (λ listed. Belongs (only (rows_for self.now name)) row.now listed) (λ refusal. Large (only (rows_for self.now name)) refusal) }
     {
-        if is_linked(self.links, name.key, name.number, u32::from(name.polarity)) {
+        if is_linked(self.links, name) {
             return self.look_reached(name, row, area);
         }
         let records = self.records_of(name);

@@ -6,18 +6,18 @@ ghost use Rattle.rows.specs.Layout.{set_room, formed};
 ghost use Rattle.rows.specs.Polarities.{polarity_number};
 ghost use Rattle.certificates.specs.Certificate.{record_row, sound_record};
 ghost use Rattle.read_values.specs.Answers.{Filled, Empty};
-ghost use Rattle.read_links.specs.Reached.{names_in, name_in, found_room};
+ghost use Rattle.read_links.specs.Reached.{names_in, SayReached};
 ghost use Rattle.read_held.specs.Held.{Records, rows_held};
-ghost use Rattle.read_names.specs.Reached.{records_of, HeldFor, Joined, NotJoined, SayLooking, Listed, Belongs, Large};
+ghost use Rattle.read_names.specs.Reached.{HeldFor, Joined, NotJoined, SayLooking, Listed, Belongs, Large};
 ghost use Rattle.read_names.specs.Names.{rows_for};
 
 use crate::{Held, Name};
 use certificates::ROW_IN_RECORD;
 use read_held::{Record, holds, is_held};
-use read_links::{FOUND_ROOM, reach};
+use read_links::{Found, reach};
 use refusals::Refusal;
 use row_words::row::load;
-use rows::{MOST_ROWS, Polarity};
+use rows::MOST_ROWS;
 use sets::{Inserted, clear, insert};
 
 // Has a set list the row of a record too: refused if it is full.
@@ -53,46 +53,27 @@ struct Looking {
 }
 
 impl Held<'_> {
-    // The records of name `i` of those found.
-    fn found_records(&self, found: &[u32], i: usize, polarity: Polarity) -> &[Record]
-        requires { 2 * i + 1 < length found.now }
-        ensures records { result.now ≡ records_of self.now.store.now (polarity_number polarity) (name_in found.now i) }
-        ensures sound { Records result.now }
+    // Has a set list the rows of all the names that were found from this one.
+    fn join_names(&self, name: Name, found: &Found, area: &mut [u32]) -> Result<(), Refusal>
+        requires { SayReached self.now.links.now name found.now.names found.now.count × Filled area.old }
+        ensures { MatchResult result (λ done. Joined (HeldFor self.now.minute self.now.store.now (polarity_number name.polarity) (names_in found.now.count found.now.names)) area.old area.new)
+            (λ refusal. NotJoined (HeldFor self.now.minute self.now.store.now (polarity_number name.polarity) (names_in found.now.count found.now.names)) area.old refusal) }
     {
-        self.records_of(Name {
-            key: found[2 * i],
-            number: found[2 * i + 1],
-            polarity,
-        })
-    }
-
-    // Has a set list the rows of all these names.
-    fn join_names(
-        &self,
-        found: &[u32],
-        count: usize,
-        polarity: Polarity,
-        area: &mut [u32],
-    ) -> Result<(), Refusal>
-        requires { (2 * count ≤ length found.now) × Filled area.old }
-        ensures { MatchResult result (λ done. Joined (HeldFor self.now.minute self.now.store.now (polarity_number polarity) (names_in count found.now)) area.old area.new)
-            (λ refusal. NotJoined (HeldFor self.now.minute self.now.store.now (polarity_number polarity) (names_in count found.now)) area.old refusal) }
-    {
-        for i in 0..count {
-            join_rows(self.found_records(found, i, polarity), self.minute, area)?;
+        for reached in found.names() {
+            join_rows(self.records_of(*reached), self.minute, area)?;
         }
         Ok(())
     }
 
     // Looks for a row among the records of all these names.
-    fn look_in(&self, found: &[u32], count: usize, polarity: Polarity, row: &[u32]) -> Looking
-        requires { (2 * count ≤ length found.now) × (length found.now ≤ found_room) }
-        ensures { SayLooking self.now.minute self.now.store.now (polarity_number polarity) (names_in count found.now) row.now result }
+    fn look_in(&self, name: Name, found: &Found, row: &[u32]) -> Looking
+        requires { SayReached self.now.links.now name found.now.names found.now.count }
+        ensures { SayLooking self.now.minute self.now.store.now (polarity_number name.polarity) (names_in found.now.count found.now.names) row.now result }
     {
         let mut total: usize = 0;
         let mut held = false;
-        for i in 0..count {
-            let records = self.found_records(found, i, polarity);
+        for reached in found.names() {
+            let records = self.records_of(*reached);
             total += records.len();
             if is_held(records, self.minute, row) {
                 held = true;
@@ -110,15 +91,8 @@ impl Held<'_> {
         ensures { MatchResult result (λ done. Listed (formed (polarity_number name.polarity) (rows_for self.now name)) area.new)
             (λ refusal. Large (formed (polarity_number name.polarity) (rows_for self.now name)) refusal) }
     {
-        let mut found = [0u32; FOUND_ROOM];
-        let count = reach(
-            self.links,
-            name.key,
-            name.number,
-            u32::from(name.polarity),
-            &mut found,
-        );
-        self.join_names(&found, count, name.polarity, area)
+        let found = reach(self.links, name);
+        self.join_names(name, &found, area)
     }
 
     // Looks for a row among those of every name that links reach from this one. They are joined only where there are more records than rows in a set.
@@ -126,18 +100,11 @@ impl Held<'_> {
         requires { set_room ≤ length area.old }
         ensures { MatchResult result (λ listed. Belongs (only (rows_for self.now name)) row.now listed) (λ refusal. Large (only (rows_for self.now name)) refusal) }
     {
-        let mut found = [0u32; FOUND_ROOM];
-        let count = reach(
-            self.links,
-            name.key,
-            name.number,
-            u32::from(name.polarity),
-            &mut found,
-        );
-        let looking = self.look_in(&found, count, name.polarity, row);
+        let found = reach(self.links, name);
+        let looking = self.look_in(name, &found, row);
         if MOST_ROWS < looking.records {
             clear(area, 0);
-            self.join_names(&found, count, name.polarity, area)?;
+            self.join_names(name, &found, area)?;
         }
         Ok(looking.held)
     }

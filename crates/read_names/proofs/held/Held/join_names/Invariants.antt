@@ -5,5 +5,5 @@ use Rattle.read_names.specs.Reached.{HeldFor}
 use Rattle.read_names.proofs.Linked.{Joining}
 use Rattle.read_names.proofs.held.Held.join_names.Given as goal
 
-abbrev pub invariant-loop-i : goal.invariant-loop-i
-invariant-loop-i l = Joining (HeldFor l.self.minute l.self.store.now (polarity_number l.polarity) (names_in l.i l.found)) l.initial.area l.area
+abbrev pub invariant-loop-reached : goal.invariant-loop-reached
+invariant-loop-reached l = Joining (HeldFor l.self.minute l.self.store.now (polarity_number l.fn.name.polarity) (names_in l.reached-index l.fn.found.names)) l.initial.area l.area

@@ -1,9 +1,8 @@
 -- A number issues nothing; a key's rows are its own where no link starts at the name.
-use Rattle.std.proofs.Common.{subst, arith, ap, [], ◌∙◌}
+use Rattle.std.proofs.Common.{arith, ap, [], ◌∙◌}
 use Rattle.rows.specs.Polarities.{polarity_number}
 use Rattle.rows.specs.Layout.{written, formed}
 use Rattle.read_values.proofs.Answers.{cleared}
-use Rattle.read_links.specs.Reached.{SayLinked}
 use Rattle.read_names.proofs.Linked.{own_copied, own_large}
 use Rattle.read_names.proofs.Named.{told_so, polarity_few, number_listed, key_listed, key_large}
 use Rattle.read_names.proofs.held.Held.list.Goals as goal
@@ -37,7 +36,7 @@ returns c =
     let v = polarity_number n.polarity in
     let few = polarity_few n.polarity in
     let empty = cleared c.args.area.now c.requires few (c.clear.ensures ∙ ap (λ f. written (formed f []) c.args.area.now) c.from.ensures) in
-    let alone = subst (λ v. SayLinked h.links.now v n.key n.number c.is_linked.result) c.from-2.ensures c.is_linked.ensures in
+    let alone = c.is_linked.ensures in
     told_so c.copy_rows.result c.copy_rows.ensures
     (λ a w. key_listed h n c.if-name-lt-FIRST_KEY.false (own_copied h.minute h.store.now h.links.now n.key n.number v h.sound few alone c.if-is_linked.false c.records_of.ensures.records empty c.records_of.ensures.sound w))
     (λ e w. key_large h n c.if-name-lt-FIRST_KEY.false (own_large h.minute h.store.now h.links.now n.key n.number v h.sound few alone c.if-is_linked.false c.records_of.ensures.records w))
