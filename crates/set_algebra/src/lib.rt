@@ -8,7 +8,7 @@ ghost use Rattle.rows.specs.Row.{row_before};
 ghost use Rattle.rows.specs.Sets.{most_rows, combined};
 ghost use Rattle.rows.specs.Layout.{set_room, row_in, five_at, laid, rows_in, formed, set_in, sound_set, written, put};
 ghost use Rattle.row_words.specs.Values.{row_is};
-ghost use Rattle.set_algebra.specs.Combined.{TwoSets, left_by, Combined, is_difference, room_for, Combines};
+ghost use Rattle.set_algebra.specs.Combined.{TwoSets, left_by, is_difference, room_for, Combines};
 ghost use Rattle.set_algebra.specs.Private.{LastRows, last_order_for, lefts, rights, Rooms, Passed, Sought, reached, picked, rest, strike_out, Struck, Taken};
 
 use refusals::Refusal;
@@ -57,18 +57,6 @@ impl Operation {
         }
         join(area)
     }
-}
-
-pub fn combine(minus: bool, area: &mut [u32]) -> bool
-    requires { TwoSets area.old }
-    ensures { Combined (combined minus (set_in area.old) (set_in (drop set_room area.old))) area.old area.new result }
-{
-    let operation = if minus {
-        Operation::Difference
-    } else {
-        Operation::Union
-    };
-    operation.combine(area).is_ok()
 }
 
 // Passes the rows that come before `row`, from `start` on: `Ok` of the row's place, or `Err` of the place where it would stand.
