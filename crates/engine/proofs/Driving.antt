@@ -17,9 +17,9 @@ use Rattle.policy.specs.Table.{Entry, entry_at, entry_words, table}
 use Rattle.policy.specs.Definitions.{known_of}
 use Rattle.policy.specs.Checking.{checked, check}
 use Rattle.policy.proofs.Judging.{AcceptedDefinition, Accepted, none, one, AcceptedPair, check_accepted}
-use Rattle.policy_table.specs.Entries.{entry_place, entries_from, declared_as, declared_in}
+use Rattle.policy_table.specs.Entries.{entry_place, Inside, entries_from, declared_as, declared_in}
 use Rattle.policy_table.proofs.Declared.{known_more}
-use Rattle.policy_table.proofs.PartAnswers.{table_parts, inside, Listed, listed_of}
+use Rattle.policy_table.proofs.PartAnswers.{table_parts, Listed, listed_of}
 use Rattle.meaning.specs.Reading.{done, refused}
 use Rattle.read_values.specs.Answers.{Filled}
 use Rattle.read_values.specs.Outcomes.{outcome, IfOk}
@@ -163,7 +163,7 @@ module _ {s : Stores} {ours : ℕ} {policy : List ℕ} {count : ℕ} {definition
   number_small = omega (arith, listed.few)
 
   -- a definition has its words in the policy, and its place in the area
-  pub words_inside : (d ≤ 15) × (entry_place d + 4 ≤ length policy) × inside policy (entry_at policy (entry_place d))
+  pub words_inside : (d ≤ 15) × (entry_place d + 4 ≤ length policy) × Inside policy (entry_at policy (entry_place d))
   words_inside = (number_small, omega (arith, listed.fits), listed.parts d more)
 
   pub place_inside : {n : ℕ} → n ≡ length definitions → 642 * d + 642 ≤ n

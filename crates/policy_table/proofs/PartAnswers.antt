@@ -12,17 +12,12 @@ use Rattle.rows.proofs.Lists.{all_at}
 use Rattle.policy.specs.Table.{Entry, entry_at, Table, table, refused, read_table}
 use Rattle.policy.specs.Part.{in_policy, whole_query, nowhere, no_entry, span_among, part_span, words_at, part_words}
 use Rattle.policy.specs.Part as Part
-use Rattle.policy_table.specs.Entries.{entry_place, Inside, entries_from, table_is}
-use Rattle.policy_table.specs.declared.TableRead.{TableRead}
-use Rattle.policy_table.specs.declared.TableRead.TheVariants as table_read
+use Rattle.policy_table.specs.Entries.{entry_place, Inside, entries_from}
 use Rattle.policy_table.specs.Spans.{part_span_is}
 use Rattle.policy_table.specs.declared.parts.PartSpan as Held
 use Rattle.policy_table.specs.declared.parts.PartSpan.TheVariants as span
 use Rattle.policy.proofs.Basics.{impossible}
 use Rattle.policy.proofs.SoundTable.{Header, InTable, table_sound}
-
-abbrev pub inside : List ℕ → Entry → Type 0
-inside policy x = Inside policy x
 
 pub length_entries : (n : ℕ) (policy : List ℕ) (at : ℕ) → length (entries_from n policy at) ≡ n
 unfolding entries_from
@@ -144,11 +139,6 @@ pub policy_part : (policy query : List ℕ) (number start size : ℕ) → in_pol
 unfolding part_words words_at
 policy_part policy query number start size e =
     ap (λ (n : ℕ). take n (drop start policy)) (let m : start + size - start ≡ size = omega arith in m) ∙ ap (words_at policy query) e
-
--- a table in hand
-pub table_got : (policy : List ℕ) (r : TableRead) (n : ℕ) → table_is policy r ≡ read_table policy → r ≡ table_read.Sound n → table (entries_from n policy 2) ≡ read_table policy
-unfolding table_is
-table_got policy r n e is = ap (table_is policy) (sym is) ∙ e
 
 -- a span in hand
 pub span_held : (p : Part.PartSpan) (r : Held.PartSpan) (start size : ℕ) → part_span_is r ≡ p → r ≡ span.InPolicy start size → in_policy start size ≡ p

@@ -1,10 +1,8 @@
--- The entries of a policy's table by their places, what they declare, and what the code's reader of the table answers.
+-- The entries of a policy's table by their places, and what they declare.
 use Rattle.std.specs.Prelude.{ℕ, zero, suc, ◌+◌, ◌*◌, ◌≤◌, List, [], ◌∷◌, length, map}
 use Rattle.rows.specs.Name.{polarity_of}
 use Rattle.policy.specs.OwnKey.{Declared}
-use Rattle.policy.specs.Table.{Entry, entry_at, Table, table, refused}
-use Rattle.policy_table.specs.declared.TableRead.{TableRead}
-use Rattle.policy_table.specs.declared.TableRead.TheVariants as table_read
+use Rattle.policy.specs.Table.{Entry, entry_at}
 use Rattle.policy_table.specs.declared.entries.Entry as Read
 
 -- the word at which entry i begins
@@ -42,8 +40,3 @@ declared_as x = record { name = x.name; polarity = polarity_of x.polarity }
 unfoldable pub declared_in : List ℕ → ℕ → List Declared
 unfolding entries_from polarity_of
 declared_in policy n = map declared_as (entries_from n policy 2)
-
-unfoldable pub table_is : List ℕ → TableRead → Table
-unfolding entries_from
-table_is policy (table_read.Sound n) = table (entries_from n policy 2)
-table_is policy (table_read.Refused m) = refused m

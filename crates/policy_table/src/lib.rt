@@ -8,18 +8,11 @@ mod reading;
 ghost use Rattle.std.specs.Prelude.{◌+◌, ◌*◌, ◌≤◌, ◌≡◌, length};
 ghost use Rattle.rows.specs.Name.{polarity_of};
 ghost use Rattle.policy.specs.OwnKey.{definition_of};
-ghost use Rattle.policy.specs.Table.{entry_at, entry_words, read_table};
-ghost use Rattle.policy_table.specs.Entries.{entry_place, declared_in, table_is};
+ghost use Rattle.policy.specs.Table.{entry_at, entry_words};
+ghost use Rattle.policy_table.specs.Entries.{entry_place, declared_in};
 
 pub use entries::{Entry, entry_place, find_definition, polarity_of};
 pub use reading::{MOST_WORDS, Table};
-
-// The count of the definitions.
-#[derive(Clone, Copy)]
-pub enum TableRead {
-    Sound(u32),
-    Refused(u32),
-}
 
 // The definition of this name and polarity among the first `known`: its number; where none of them is it, `known`.
 pub fn definition_of(policy: &[u32], known: usize, name: u32, polarity: u32) -> usize
@@ -30,17 +23,7 @@ pub fn definition_of(policy: &[u32], known: usize, name: u32, polarity: u32) -> 
     find_definition(policy, known, name, polarity).unwrap_or(known)
 }
 
-#[tactic(auto, unfolding(crate::specs::Entries::table_is))]
-pub fn read_table(policy: &[u32]) -> TableRead
-    ensures { table_is policy.now result ≡ read_table policy.now }
-{
-    match Table::read(policy) {
-        Ok(table) => TableRead::Sound(table.count as u32),
-        Err(refusal) => TableRead::Refused(refusal.into()),
-    }
-}
-
-// The words of definition `i`: a part of the policy.
+// The words of definition `i`, a part of the policy, for those who know its table to be sound and do not read it again.
 #[tactic(auto, unfolding(policy::specs::Table::entry_words, policy::specs::Table::entry_at))]
 pub fn definition_words<'a>(policy: &'a [u32], i: usize) -> &'a [u32]
     requires { (i ≤ 15) × (entry_place i + 4 ≤ length policy.now) × ((entry_at policy.now (entry_place i)).offset + (entry_at policy.now (entry_place i)).size ≤ length policy.now) }
