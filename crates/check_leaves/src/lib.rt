@@ -13,10 +13,11 @@ ghost use Rattle.check_polarity.specs.Earlier.{earlier_is};
 ghost use Rattle.check_polarity.specs.Facts.{facts_for};
 ghost use Rattle.check_leaves.specs.Checks.{literal_facts, head_facts, definition_facts, issued, issued_is, is_own, name_facts_for, leaf_facts};
 
-use check_polarity::{Earlier, Facts, polarity_of};
+use check_polarity::{Earlier, Facts};
 use check_terms::Decoder;
 use policy::Term;
 use policy::codes::Code;
+use policy_table::polarity_of;
 use refusals::Refusal;
 use rows::{LAST_NAME, Polarity};
 

@@ -4,7 +4,6 @@
 
 ghost use Rattle.std.specs.Prelude.{◌+◌, ◌≤◌, ◌≡◌, ◌&&◌, ◌||◌};
 ghost use Rattle.arrayvec.specs.ArrayVec.{array_vec_len};
-ghost use Rattle.rows.specs.Name.{polarity_of};
 ghost use Rattle.rows.specs.Polarities.{polarity_is};
 ghost use Rattle.policy.specs.OwnKey.{declares};
 ghost use Rattle.policy.specs.Leaf.{declaration};
@@ -201,16 +200,5 @@ impl Earlier {
         self.definitions
             .iter()
             .position(|d| d.is_named(name, polarity))
-    }
-}
-
-// The polarity that a word, 0 or another, stands for.
-#[tactic(auto, unfolding(rows::specs::Name::polarity_of))]
-pub fn polarity_of(word: u32) -> Polarity
-    ensures { polarity_is result ≡ polarity_of word }
-{
-    match word {
-        0 => Polarity::Plus,
-        _ => Polarity::Minus,
     }
 }
