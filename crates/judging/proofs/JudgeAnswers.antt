@@ -10,7 +10,7 @@ use Rattle.rows.specs.Name.{plus, minus, polarity_of}
 use Rattle.policy.specs.Syntax.{Expr}
 use Rattle.policy.specs.Parse.{Parsed, parsed}
 use Rattle.policy.specs.Parse as Parse
-use Rattle.policy.specs.Polarity.{Known, has_polarity, open_expr, verdict_word}
+use Rattle.policy.specs.Polarity.{Known, has_polarity, open_expr}
 use Rattle.policy.specs.Table.{Entry, entry_at, entry_words, Table, table, read_table}
 use Rattle.policy.specs.Table as Tables
 use Rattle.policy.specs.Definitions.{check_definition, known_of, PolicyChecked, passed, push_definition, definitions_from, check_table, check_policy}
@@ -19,8 +19,6 @@ use Rattle.policy.specs.Checking.{Checked, checked, check_query, verdict_of, che
 use Rattle.policy.specs.Checking as Checking
 use Rattle.policy.specs.Judgement.{JudgementReply, reply_of, judge}
 use Rattle.policy.specs.declared.codes.Verdict as HeldVerdict
-use Rattle.policy.specs.declared.codes.Verdict.TheVariants as held
-use Rattle.policy.specs.Codes.{verdict_number}
 use Rattle.policy.proofs.Basics.{impossible}
 use Rattle.policy_table.specs.Entries.{entry_place, entries_from}
 use Rattle.policy_table.specs.Tables.{table_read}

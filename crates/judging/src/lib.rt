@@ -46,7 +46,8 @@ fn judge_definition(words: &[u32], polarity: Polarity, earlier: &Earlier) -> Res
     facts.admit(facts.has(polarity))
 }
 
-// A query's words: 1 to 1,024 of them.
+// A query's words: 1 to 1,024 of them. What it shares with a definition is `check_whole`: a definition's length is tested with the table,
+// and it declares its polarity, where a query needs to have any.
 fn judge_query(words: &[u32], earlier: &Earlier) -> Result<Facts, Refusal>
     ensures { whole_is result ≡ whole_for (earlier_is earlier.now) (query_at (earlier_is earlier.now) words.now) }
 {

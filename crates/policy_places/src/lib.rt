@@ -15,6 +15,7 @@ pub fn term_at(words: &[u32], at: usize) -> Term
     ensures { IsTerm words.now at result }
 {
     let word = words[at + 1];
+    // An `if`, no match on tags: any word may stand here, and one that is no atom's tag is read as a variable's.
     if words[at] == Tag::Atom as u32 {
         Term::Atom(word)
     } else {
@@ -26,6 +27,7 @@ pub fn slot_at(words: &[u32], at: usize) -> Slot
     requires { at + 2 ≤ length words.now }
     ensures { IsSlot words.now at result }
 {
+    // An `if` for the same reason: any other word begins a term.
     if words[at] == Tag::New as u32 {
         Slot::New
     } else {
