@@ -31,6 +31,7 @@ fn begins_before(area: &[u32], at: usize, words: &[u32], also: bool) -> bool
 
 /// How many records begin with words before these, with `also` those that begin with these too, by binary search.
 // A loop: `partition_point` goes over arrays, and the width is a number at run time.
+// `also` tells the two ends of a part with one beginning: as two functions they would be one loop written twice.
 pub fn count_before(area: &[u32], width: usize, words: &[u32], also: bool) -> usize
     requires in_bounds { (1 + width * count_of area.now ≤ length area.now) × (length words.now ≤ width) }
     requires pass_first { PassFirst (begins_before also words.now) (records_in width area.now) }
