@@ -1,64 +1,65 @@
--- A name's rows are refused for their number alone.
-use Prim.Native.Nat.{ℕ}
-use mathlib.Core.Path.{◌≡◌, refl, sym, ap, ◌∙◌}
-use mathlib.Core.Bool.{Bool, true, false}
+-- A name's rows, and a row among them, where the name stands in the words.
+use Prim.Native.Nat.{ℕ, ◌≤◌, ◌<◌}
+use mathlib.Core.Path.{◌≡◌, sym, ap, ◌∙◌}
+use mathlib.Core.Bool.{Bool}
 use mathlib.Core.List.{List}
-use native.Mathlib.Omega.{arith}
-use lib.Dec.{leb}
 use lib.ListN.{length}
-use borrow.Author.Tests.{leb-true, leb-false}
+use Rattle.refusals.specs.declared.Refusal.{Refusal}
+use Rattle.refusals.specs.Numbers.{number}
+use Rattle.rows.specs.Name.{Polarity}
 use Rattle.rows.specs.Sets.{RowSet, listing, has}
-use Rattle.meaning.specs.Values.{Values, row_of}
+use Rattle.row_words.specs.Values.{row_is}
+use Rattle.row_words.specs.declared.row.Row as HeldRow
+use Rattle.policy.specs.Syntax.{Term}
+use Rattle.meaning.specs.Values.{Values, value, row_of}
 use Rattle.meaning.specs.Evidence.{Evidence}
 use Rattle.meaning.specs.Reading.{Result, done, refused, after, small}
-use Rattle.read_values.specs.Answers.{set_read_is, tested_is, IfDone}
+use Rattle.policy_places.specs.Places.{At, name_words}
+use Rattle.read_values.specs.Rows.{SayRow}
 use Rattle.read_values.specs.Outcomes.{outcome, tested, IfOk}
-use Rattle.read_values.specs.declared.Read as Read
-use Rattle.read_values.specs.declared.Tested as Tested
 use Rattle.read_values.proofs.Answers.{small_few, small_many}
 use Rattle.std.specs.Prelude.{Ok, Err}
-use Rattle.refusals.specs.declared.Refusal.TheVariants.{TooManyRows}
-use Rattle.read_names.specs.Names.{SayName, SayNameHas}
-use Rattle.read_leaves.specs.Leaves.{SayCertified, SayCertifiedHas}
+use Rattle.read_links.specs.declared.Name as HeldName
+use Rattle.read_names.specs.declared.held.Held as Lent
+use Rattle.read_names.specs.Reached.{Listed, Belongs, Large}
+use Rattle.read_names.specs.Names.{name_set, StandsFor}
+use Rattle.read_leaves.specs.Leaves.{held_by, SayCertified, SayCertifiedHas}
 
-small_refused : (s : RowSet) (k n : ℕ) → small s k ≡ refused n → small s k ≡ refused 13
-small_refused s k n e = go (leb (length (listing s)) 128) refl
-  where
-    go : (b : Bool) → leb (length (listing s)) 128 ≡ b → small s k ≡ refused 13
-    go true t =
-        let d : done s k ≡ refused n = sym (small_few s k (leb-true _ 128 t)) ∙ e in
-        let z : ◌≡◌ {A = ℕ} 0 1 = cc in
-        absurd (omega arith)
-    go false t = small_many s k (leb-false _ 128 t)
+-- a row looked up in a set that is read: it is small, or it is not
+module _ (s : RowSet) {z : RowSet} (e : s ≡ z) (x : List ℕ) (k : ℕ) where
+  looked_up : {a : Result Bool} → length (listing z) ≤ 128 → done (has z x) k ≡ a → after (small s k) (λ y i. done (has y x) i) ≡ a
+  unfolding after
+  looked_up few g = ap (λ (y : RowSet). after (small y k) (λ w i. done (has w x) i)) e ∙ ap (λ (b : Result RowSet). after b (λ w i. done (has w x) i)) (small_few z k few) ∙ g
 
-looked_refused : {A : Type 0} (h : RowSet → A) (s : RowSet) (k n : ℕ) → after (small s k) (λ y i. done (h y) i) ≡ refused n → after (small s k) (λ y i. done (h y) i) ≡ refused 13
-unfolding after
-looked_refused {A} h s k n e = go (leb (length (listing s)) 128) refl
-  where
-    go : (b : Bool) → leb (length (listing s)) 128 ≡ b → after (small s k) (λ y i. done (h y) i) ≡ refused 13
-    go true t =
-        let d : done (h s) k ≡ refused n = sym (ap (λ (x : Result RowSet). after x (λ y i. done (h y) i)) (small_few s k (leb-true _ 128 t))) ∙ e in
-        let z : ◌≡◌ {A = ℕ} 0 1 = cc in
-        absurd (omega arith)
-    go false t = ap (λ (x : Result RowSet). after x (λ y i. done (h y) i)) (small_many s k (leb-false _ 128 t))
+  not_looked_up : 128 < length (listing z) → after (small s k) (λ y i. done (has y x) i) ≡ refused 13
+  unfolding after
+  not_looked_up many = ap (λ (y : RowSet). after (small y k) (λ w i. done (has w x) i)) e ∙ ap (λ (b : Result RowSet). after b (λ w i. done (has w x) i)) (small_many z k many)
 
-module _ {held : Evidence} {ws : List ℕ} {at : ℕ} {vs : Values} {k : ℕ} where
-  pub certified_done : {j : ℕ} {area : List ℕ} → SayName held ws at vs k (Read.TheVariants.Done j) area → SayCertified held ws at vs k (Ok j) area
-  unfolding set_read_is IfDone outcome IfOk
-  certified_done s = record { filled = s.filled; means = λ t n p h. s.means t n p h }
+module _ {ws : List ℕ} {at : ℕ} {vs : Values} {n : HeldName.Name} (stands : StandsFor ws at vs n) (h : Lent.Held) {held : Evidence} (is : held_by h ≡ held) where
+  its : (t : Term) (m : ℕ) (p : Polarity) → At ws at (name_words t m p) → held (value vs t) m p ≡ name_set h n
+  its t m p w =
+      ap (λ (g : Evidence). g (value vs t) m p) (sym is)
+      ∙ ap (λ (k : ℕ). held_by h k m p) (stands.key t m p w) ∙ ap (λ (i : ℕ). held_by h n.key i p) (stands.number t m p w)
+      ∙ ap (λ (q : Polarity). held_by h n.key n.number q) (stands.polarity t m p w)
 
-  pub certified_refused : {m : ℕ} {area : List ℕ} → SayName held ws at vs k (Read.TheVariants.Refused m) area → SayCertified held ws at vs k (Err TooManyRows) area
-  unfolding set_read_is outcome IfOk
-  certified_refused {m} s = record { filled = tt; means = λ t n p h. small_refused _ k m (s.means t n p h) }
+  pub certified_done : {k : ℕ} {area : List ℕ} → Listed (name_set h n) area → SayCertified held ws at vs k (Ok k) area
+  unfolding IfOk outcome
+  certified_done {k} s = record {
+    filled = s.filled;
+    means = λ t m p w. ap (λ (z : RowSet). small z k) (its t m p w) ∙ small_few (name_set h n) k s.few ∙ ap (λ (z : RowSet). done z k) (sym s.set);
+  }
 
-  pub certified_in : {row j : ℕ} → SayNameHas held ws at row vs k (Tested.TheVariants.Has j) → SayCertifiedHas held ws at row vs k (Ok (true, j))
-  unfolding tested_is tested
-  certified_in s = record { means = λ t m p h n ts r. s.means t m p h n ts r }
+  pub certified_refused : {k : ℕ} {area : List ℕ} {e : Refusal} → Large (name_set h n) e → SayCertified held ws at vs k (Err e) area
+  unfolding IfOk outcome
+  certified_refused {k} s = record { filled = tt; means = λ t m p w. ap (λ (z : RowSet). small z k) (its t m p w) ∙ small_many (name_set h n) k s.1 ∙ ap (λ m. refused m) (sym (ap number s.0)) }
 
-  pub certified_out : {row j : ℕ} → SayNameHas held ws at row vs k (Tested.TheVariants.Lacks j) → SayCertifiedHas held ws at row vs k (Ok (false, j))
-  unfolding tested_is tested
-  certified_out s = record { means = λ t m p h n ts r. s.means t m p h n ts r }
+  module _ {row k : ℕ} {z : HeldRow.Row} (sought : SayRow ws row vs z) where
+    pub certified_belongs : {b : Bool} → Belongs (name_set h n) (row_is z) b → SayCertifiedHas held ws at row vs k (Ok (b, k))
+    unfolding tested
+    certified_belongs s = record {
+      means = λ t m p w i ts g. looked_up _ (its t m p w) (row_of vs ts) k s.few (ap (λ (d : Bool). done d k) (ap (has (name_set h n)) (sym (sought.means i ts g)) ∙ s.means));
+    }
 
-  pub certified_many : {row m : ℕ} → SayNameHas held ws at row vs k (Tested.TheVariants.Refused m) → SayCertifiedHas held ws at row vs k (Err TooManyRows)
-  unfolding tested_is tested
-  certified_many {m = m} s = record { means = λ t l p h n ts r. looked_refused (λ y. has y (row_of vs ts)) _ k m (s.means t l p h n ts r) }
+    pub certified_many : {e : Refusal} → Large (name_set h n) e → SayCertifiedHas held ws at row vs k (Err e)
+    unfolding tested
+    certified_many s = record { means = λ t m p w i ts g. not_looked_up _ (its t m p w) (row_of vs ts) k s.1 ∙ ap (λ m. refused m) (sym (ap number s.0)) }

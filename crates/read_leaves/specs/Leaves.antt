@@ -8,7 +8,9 @@ use Rattle.policy.specs.Leaf.{Leaf, vetted}
 use Rattle.policy.specs.Syntax.{Term}
 use Rattle.policy_table.specs.Entries.{entry_place, declared_in}
 use Rattle.meaning.specs.Values.{Values, value, row_of}
-use Rattle.meaning.specs.Evidence.{Evidence}
+use Rattle.certificates.specs.Stores.{held_in}
+use Rattle.meaning.specs.Evidence.{Evidence, names_held}
+use Rattle.read_names.specs.declared.held.Held as Lent
 use Rattle.meaning.specs.Reading.{done, after, small, rows_of, read_name, read_leaf}
 use Rattle.read_values.specs.Values.{Bound}
 use Rattle.policy_places.specs.Places.{At, name_words, StandsName, StandsLeaf, StandsRow, StandsRows}
@@ -56,6 +58,10 @@ pub record AskOwn (ours known : ℕ) (policy ws : List ℕ) (at : ℕ) : Type 0 
 pub record SayOwnSet (known : ℕ) (policy defs ws : List ℕ) (at : ℕ) (set : List ℕ) : Type 0 where
   pub filled : Filled set
   pub means : (s : Scope) (t : Term) (n : ℕ) (p : Polarity) (o : Origin) → StandsName s ws at t n p o → set_in set ≡ get_or (sets_in known defs) (definition_of (declared_in policy known) n p) (only [])
+
+-- what is held, as evidence
+abbrev pub held_by : Lent.Held → Evidence
+held_by h = names_held (held_in h.minute (record { store = h.store.now; links = h.links.now }))
 
 -- the certified rows of the name that stands there, where this evidence is held
 pub record SayCertified (held : Evidence) (ws : List ℕ) (at : ℕ) (vs : Values) (k : ℕ) (r : Outcome ℕ Refusal) (area : List ℕ) : Type 0 where

@@ -9,16 +9,15 @@ ghost use Rattle.policy_places.specs.Places.{SomeName, SomeRow, SomeRows};
 ghost use Rattle.certificates.specs.Store.{sound_store};
 ghost use Rattle.certificates.specs.Link.{sound_links};
 ghost use Rattle.read_values.specs.From.{from, names, FilledSets};
-ghost use Rattle.read_leaves.specs.Leaves.{SayRows, SayDefinition, SayAmong, SayOwn, AskOwn, SayOwnSet, SayCertified, SayCertifiedHas, AskName, SayListed, SayListedHas, AskLeaf, SayLeaf, SayLeafHas};
+ghost use Rattle.read_leaves.specs.Leaves.{held_by, SayRows, SayDefinition, SayAmong, SayOwn, AskOwn, SayOwnSet, SayCertified, SayCertifiedHas, AskName, SayListed, SayListedHas, AskLeaf, SayLeaf, SayLeafHas};
 
-use policy::codes::Tag;
-use policy::codes::Code;
+use policy::codes::{Code, Tag};
 use policy_places::skip::skip_row;
 use policy_places::term_at;
 use policy_table::definition_of;
-use read_names::{name_has, read_name};
+use read_names::{Held, name_at};
 use read_steps::has_row;
-use read_values::{Bindings, Lent, Read, Tested};
+use read_values::{Bindings, Lent};
 use refusals::Refusal;
 use row_words::row::Row;
 use row_words::wide;
@@ -74,6 +73,15 @@ fn own_set<'a>(lent: &Lent<'a>, at: usize) -> &'a [u32]
     definition_set(lent, d)
 }
 
+// The certificates and the links that are lent, asked at the minute.
+fn held<'a>(lent: &Lent<'a>) -> Held<'a>
+    requires sound { sound_store lent.now.store.now ≡ true }
+    requires linked { sound_links lent.now.links.now ≡ true }
+    ensures { held_by result ≡ names (from lent.now) }
+{
+    Held::new(lent.store, lent.links, lent.minute)
+}
+
 // The certified rows of the name at `at`.
 fn read_certified(
     lent: &Lent<'_>,
@@ -85,20 +93,9 @@ fn read_certified(
     requires { Bound bindings.now.values bindings.now.count × SomeName lent.now.words.now at × (sound_store lent.now.store.now ≡ true) × (sound_links lent.now.links.now ≡ true) × (set_room ≤ length area.old) }
     ensures { SayCertified (names (from lent.now)) lent.now.words.now at (take bindings.now.count bindings.now.values) draws result area.new }
 {
-    match read_name(
-        lent.words,
-        at,
-        &bindings.values,
-        bindings.count,
-        draws,
-        area,
-        lent.minute,
-        lent.store,
-        lent.links,
-    ) {
-        Read::Done(used) => Ok(used),
-        Read::Refused(_) => Err(Refusal::TooManyRows),
-    }
+    let name = name_at(lent.words, at, &bindings.values, bindings.count);
+    held(lent).list(name, area)?;
+    Ok(draws)
 }
 
 // Whether the row written at `row` is among them.
@@ -113,22 +110,10 @@ fn certified_has(
     requires { Bound bindings.now.values bindings.now.count × SomeName lent.now.words.now at × SomeRow lent.now.words.now row × (sound_store lent.now.store.now ≡ true) × (sound_links lent.now.links.now ≡ true) × (set_room ≤ length area.old) }
     ensures { SayCertifiedHas (names (from lent.now)) lent.now.words.now at row (take bindings.now.count bindings.now.values) draws result }
 {
-    match name_has(
-        lent.words,
-        at,
-        &bindings.values,
-        bindings.count,
-        draws,
-        area,
-        lent.minute,
-        lent.store,
-        lent.links,
-        row,
-    ) {
-        Tested::Has(used) => Ok((true, used)),
-        Tested::Lacks(used) => Ok((false, used)),
-        Tested::Refused(_) => Err(Refusal::TooManyRows),
-    }
+    let name = name_at(lent.words, at, &bindings.values, bindings.count);
+    let sought = lent.row_of(row, bindings);
+    let listed = held(lent).has(name, sought, area)?;
+    Ok((listed, draws))
 }
 
 // A name: its certified rows, or under our own key those of the definition that it stands for.
