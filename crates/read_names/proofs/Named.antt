@@ -7,7 +7,6 @@ use native.Mathlib.Omega.{arith}
 use lib.ListN.{length, get_or, take}
 use borrow.Author.Tests.{lt-leb, le-leb}
 use Rattle.refusals.specs.declared.Refusal.{Refusal}
-use Rattle.refusals.specs.Numbers.{number}
 use Rattle.rows.specs.Ordered.{lists}
 use Rattle.rows.specs.Row.{Row, is_key, first_key}
 use Rattle.rows.specs.Name.{Polarity, plus, minus, polarity_of, polarity_word}
@@ -24,23 +23,16 @@ use Rattle.policy.specs.Syntax.{Term}
 use Rattle.policy.specs.Words.{term_words}
 use Rattle.policy.specs.Held.{term_is}
 use Rattle.policy.specs.declared.Term as HeldTerm
-use Rattle.meaning.specs.Values as values
 use Rattle.meaning.specs.Values.{Values, value}
 use Rattle.meaning.specs.Evidence.{joined, names_held}
 use Rattle.std.proofs.Common.{Result, Ok, Err, MatchResult}
-use Rattle.meaning.specs.Reading as reading
-use Rattle.meaning.specs.Reading.{done, refused, after, small}
 use Rattle.policy_places.specs.Places.{At, name_words, SomeName, IsTerm}
 use Rattle.policy_places.proofs.Places.{at_word, at_next, at_skip, at_front, at_long, term_length}
-use Rattle.read_values.specs.Rows.{SayRow}
-use Rattle.read_values.specs.Answers.{Empty, set_read_is, tested_is, IfDone}
-use Rattle.read_values.proofs.Answers.{small_few, small_many}
-use Rattle.read_values.specs.declared.Read.TheVariants.{Done, Refused}
-use Rattle.read_values.specs.declared.Tested as Tested
+use Rattle.read_values.specs.Answers.{Empty}
 use Rattle.read_links.specs.declared.Name as HeldName
 use Rattle.read_names.specs.declared.held.Held as Lent
 use Rattle.read_names.specs.Reached.{Listed, Belongs, Large}
-use Rattle.read_names.specs.Names.{name_set, rows_for, StandsFor, SayName, SayBelongs, SayNameHas}
+use Rattle.read_names.specs.Names.{name_set, rows_for, StandsFor, SayBelongs}
 
 -- what is told of an answer, said otherwise
 pub told_so : {A E : Type 0} {P Q : A → Type 0} {R S : E → Type 0} (r : Result A E) → MatchResult r P R → ((a : A) → P a → Q a) → ((e : E) → R e → S e) → MatchResult r Q S
@@ -81,16 +73,6 @@ of_number : (p : HeldPolarity.Polarity) → polarity_is p ≡ polarity_of (polar
 unfolding polarity_of
 of_number Plus = refl
 of_number Minus = refl
-
--- a row looked up in a set that is read: it is small, or it is not
-module _ (s : RowSet) {z : RowSet} (e : s ≡ z) (x : Row) (k : ℕ) where
-  looked_up : {a : reading.Result Bool} → length (listing z) ≤ 128 → done (has z x) k ≡ a → after (small s k) (λ y i. done (has y x) i) ≡ a
-  unfolding after
-  looked_up few g = ap (λ (y : RowSet). after (small y k) (λ w i. done (has w x) i)) e ∙ ap (λ (b : reading.Result RowSet). after b (λ w i. done (has w x) i)) (small_few z k few) ∙ g
-
-  not_looked_up : 128 < length (listing z) → after (small s k) (λ y i. done (has y x) i) ≡ refused 13
-  unfolding after
-  not_looked_up many = ap (λ (y : RowSet). after (small y k) (λ w i. done (has w x) i)) e ∙ ap (λ (b : reading.Result RowSet). after b (λ w i. done (has w x) i)) (small_many z k many)
 
 -- whether it belongs goes by the form and by whether the row is listed
 module _ {form : ℕ} {listed : Bool} where
@@ -206,36 +188,3 @@ module _ {ws : List ℕ} {at : ℕ} (vs : Values) {x : HeldTerm.Term} (issuer : 
     number = λ t i p h. sym (name_here t i p h).name ∙ sym m;
     polarity = λ t i p h. form_is (get_or ws (at + 3) 0) p (name_here t i p h).polarity n.polarity a b;
   }
-
--- ---- the answers by words
-
-module _ {ws : List ℕ} {at : ℕ} {vs : Values} {n : HeldName.Name} (stands : StandsFor ws at vs n) (h : Lent.Held) where
-  abbrev evidence : Held
-  evidence = held_in h.minute (record { store = h.store.now; links = h.links.now })
-
-  its : (t : Term) (m : ℕ) (p : Polarity) → At ws at (name_words t m p) → names_held evidence (value vs t) m p ≡ name_set h n
-  its t m p w =
-      ap (λ (k : ℕ). names_held evidence k m p) (stands.key t m p w) ∙ ap (λ (i : ℕ). names_held evidence n.key i p) (stands.number t m p w)
-      ∙ ap (λ (q : Polarity). names_held evidence n.key n.number q) (stands.polarity t m p w)
-
-  pub say_listed : {k : ℕ} {area : List ℕ} → Listed (name_set h n) area → SayName (names_held evidence) ws at vs k (Done k) area
-  unfolding IfDone set_read_is
-  say_listed {k} s = record {
-    filled = s.filled;
-    means = λ t m p w. ap (λ (z : RowSet). small z k) (its t m p w) ∙ small_few (name_set h n) k s.few ∙ ap (λ (z : RowSet). done z k) (sym s.set);
-  }
-
-  pub say_large : {k m : ℕ} {area : List ℕ} {e : Refusal} → Large (name_set h n) e → m ≡ number e → SayName (names_held evidence) ws at vs k (Refused m) area
-  unfolding IfDone set_read_is
-  say_large {k} s q = record { filled = tt; means = λ t m p w. ap (λ (z : RowSet). small z k) (its t m p w) ∙ small_many (name_set h n) k s.1 ∙ ap (λ m. refused m) (sym (q ∙ ap number s.0)) }
-
-  module _ {row k : ℕ} {z : HeldRow.Row} (sought : SayRow ws row vs z) where
-    pub say_has : {b : Bool} {r : Tested.Tested} → Belongs (name_set h n) (row_is z) b → tested_is r ≡ done b k → SayNameHas (names_held evidence) ws at row vs k r
-    say_has s e = record {
-      means = λ t m p w i ts g.
-          looked_up _ (its t m p w) (values.row_of vs ts) k s.few (ap (λ (d : Bool). done d k) (ap (has (name_set h n)) (sym (sought.means i ts g)) ∙ s.means) ∙ sym e);
-    }
-
-    pub say_not : {m : ℕ} {e : Refusal} → Large (name_set h n) e → m ≡ number e → SayNameHas (names_held evidence) ws at row vs k (Tested.TheVariants.Refused m)
-    unfolding tested_is
-    say_not s q = record { means = λ t m p w i ts g. not_looked_up _ (its t m p w) (values.row_of vs ts) k s.1 ∙ ap (λ m. refused m) (sym (q ∙ ap number s.0)) }

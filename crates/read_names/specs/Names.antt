@@ -9,13 +9,9 @@ use Rattle.rows.specs.Polarities.{polarity_is, polarity_number}
 use Rattle.certificates.specs.Link.{Named}
 use Rattle.certificates.specs.Stores.{held_in}
 use Rattle.policy.specs.Syntax.{Term}
-use Rattle.meaning.specs.Values.{Values, value, row_of}
-use Rattle.meaning.specs.Evidence.{Evidence, named, names_held}
-use Rattle.meaning.specs.Reading.{done, after, small}
-use Rattle.policy_places.specs.Places.{At, name_words, StandsRow}
-use Rattle.read_values.specs.Answers.{Filled, set_read_is, tested_is, IfDone}
-use Rattle.read_values.specs.declared.Read.{Read}
-use Rattle.read_values.specs.declared.Tested.{Tested}
+use Rattle.meaning.specs.Values.{Values, value}
+use Rattle.meaning.specs.Evidence.{named, names_held}
+use Rattle.policy_places.specs.Places.{At, name_words}
 use Rattle.read_links.specs.declared.Name.{Name}
 use Rattle.read_names.specs.Reached.{name_rows}
 use Rattle.read_names.specs.declared.held.Held as Lent
@@ -38,15 +34,6 @@ pub record StandsFor (ws : List ℕ) (at : ℕ) (vs : Values) (n : Name) : Type 
   pub number : (t : Term) (m : ℕ) (p : Polarity) → At ws at (name_words t m p) → m ≡ n.number
   pub polarity : (t : Term) (m : ℕ) (p : Polarity) → At ws at (name_words t m p) → p ≡ polarity_is n.polarity
 
-pub record SayName (held : Evidence) (ws : List ℕ) (at : ℕ) (vs : Values) (k : ℕ) (r : Read) (area : List ℕ) : Type 0 where
-  pub filled : IfDone Filled r area
-  pub means : (t : Term) (n : ℕ) (p : Polarity) → At ws at (name_words t n p) → small (held (value vs t) n p) k ≡ set_read_is r area
-
 -- whether a row belongs to a set of this form that lists it or does not
 pub record SayBelongs (form : ℕ) (listed r : Bool) : Type 0 where
   pub means : (xs : List Row) (x : Row) → lists row_before xs x ≡ listed → has (formed form xs) x ≡ r
-
--- whether the row that the terms come to belongs to the name's set, or the refusal that reading the name meets
-pub record SayNameHas (held : Evidence) (ws : List ℕ) (at row : ℕ) (vs : Values) (k : ℕ) (r : Tested) : Type 0 where
-  pub means : (t : Term) (m : ℕ) (p : Polarity) → At ws at (name_words t m p) → (n : ℕ) (ts : List Term) → StandsRow n ws row ts →
-      after (small (held (value vs t) m p) k) (λ s i. done (has s (row_of vs ts)) i) ≡ tested_is r

@@ -4,20 +4,16 @@
 mod held;
 mod reached;
 
-ghost use Rattle.std.specs.Prelude.{◌≡◌, true, ◌≤◌, MatchResult, length, take};
+ghost use Rattle.std.specs.Prelude.{◌≤◌, ◌≡◌, MatchResult, length, take};
 ghost use Rattle.rows.specs.Sets.{only};
 ghost use Rattle.rows.specs.Layout.{set_room};
 ghost use Rattle.rows.specs.Polarities.{polarity_number};
 ghost use Rattle.row_words.specs.Values.{row_is};
-ghost use Rattle.certificates.specs.Store.{sound_store};
-ghost use Rattle.certificates.specs.Link.{sound_links};
-ghost use Rattle.certificates.specs.Stores.{held_in};
-ghost use Rattle.meaning.specs.Evidence.{names_held};
 ghost use Rattle.read_values.specs.Values.{Bound};
-ghost use Rattle.policy_places.specs.Places.{SomeName, SomeRow};
+ghost use Rattle.policy_places.specs.Places.{SomeName};
 ghost use Rattle.read_held.specs.Held.{Records};
 ghost use Rattle.read_names.specs.Reached.{records_of, Listed, Belongs, Large};
-ghost use Rattle.read_names.specs.Names.{name_set, rows_for, named_by, StandsFor, SayName, SayBelongs, SayNameHas};
+ghost use Rattle.read_names.specs.Names.{name_set, rows_for, named_by, StandsFor, SayBelongs};
 
 pub use crate::held::Held;
 use certificates::RECORD_WORDS;
@@ -25,7 +21,7 @@ use policy_places::term_at;
 use read_held::{Record, copy_rows, is_held};
 pub use read_links::Name;
 use read_links::is_linked;
-use read_values::{Read, Tested, row_of, told, value_of};
+use read_values::value_of;
 use refusals::Refusal;
 use row_words::row::Row;
 use row_words::wide;
@@ -114,59 +110,5 @@ pub fn name_at(words: &[u32], at: usize, values: &[u32; 16], count: usize) -> Na
         key: value_of(values, count, issuer),
         number: words[at + 2],
         polarity,
-    }
-}
-
-// The rows of the name that stands at a word, with the draws made so far.
-pub fn read_name(
-    words: &[u32],
-    at: usize,
-    values: &[u32; 16],
-    count: usize,
-    draws: u32,
-    area: &mut [u32],
-    minute: u32,
-    store: &[u32],
-    links: &[u32],
-) -> Read
-    requires { Bound values.now count × SomeName words.now at × (sound_store store.now ≡ true) × (sound_links links.now ≡ true) × (set_room ≤ length area.old) }
-    ensures { SayName (names_held (held_in minute (record { store = store.now; links = links.now }))) words.now at (take count values.now) draws result area.new }
-{
-    let held = Held {
-        store,
-        links,
-        minute,
-    };
-    match held.list(name_at(words, at, values, count), area) {
-        Ok(()) => Read::Done(draws),
-        Err(refusal) => Read::Refused(u32::from(refusal)),
-    }
-}
-
-// Whether the row written at `row` belongs to the name's set.
-pub fn name_has(
-    words: &[u32],
-    at: usize,
-    values: &[u32; 16],
-    count: usize,
-    draws: u32,
-    area: &mut [u32],
-    minute: u32,
-    store: &[u32],
-    links: &[u32],
-    row: usize,
-) -> Tested
-    requires { Bound values.now count × SomeName words.now at × SomeRow words.now row × (sound_store store.now ≡ true) × (sound_links links.now ≡ true) × (set_room ≤ length area.old) }
-    ensures { SayNameHas (names_held (held_in minute (record { store = store.now; links = links.now }))) words.now at row (take count values.now) draws result }
-{
-    let held = Held {
-        store,
-        links,
-        minute,
-    };
-    let sought = row_of(words, row, values, count);
-    match held.has(name_at(words, at, values, count), sought, area) {
-        Ok(has) => told(has, draws),
-        Err(refusal) => Tested::Refused(u32::from(refusal)),
     }
 }
