@@ -9,9 +9,7 @@ ghost use Rattle.meaning.specs.Values.{value};
 ghost use Rattle.read_values.specs.Values.{Bound, passing};
 ghost use Rattle.policy_places.specs.Places.{SomeRow};
 ghost use Rattle.read_values.specs.Rows.{SayAtom, SayRow};
-ghost use Rattle.read_values.specs.Answers.{tested_is};
 ghost use Rattle.read_values.specs.Outcomes.{outcome};
-ghost use Rattle.meaning.specs.Reading.{done};
 
 use policy::{Guard, Term};
 use policy_places::term_at;
@@ -39,21 +37,6 @@ pub struct Lent<'a> {
 pub struct Bindings {
     pub values: [u32; 16],
     pub count: usize,
-}
-
-// The draws made so far, or the number of a refusal.
-#[derive(Clone, Copy)]
-pub enum Read {
-    Done(u32),
-    Refused(u32),
-}
-
-// Whether a row belongs to an expression, with the draws made so far; or the number of a refusal.
-#[derive(Clone, Copy)]
-pub enum Tested {
-    Has(u32),
-    Lacks(u32),
-    Refused(u32),
 }
 
 const MOST_DRAWS: u32 = 1000000;
@@ -137,16 +120,6 @@ impl Lent<'_> {
     }
 }
 
-pub fn told(has: bool, draws: u32) -> Tested
-    ensures { tested_is result ≡ done has draws }
-{
-    if has {
-        Tested::Has(draws)
-    } else {
-        Tested::Lacks(draws)
-    }
-}
-
 // What a term comes to; a checked one names a variable in scope.
 pub fn value_of(values: &[u32; 16], count: usize, term: Term) -> u32
     requires { Bound values.now count }
@@ -158,34 +131,5 @@ pub fn value_of(values: &[u32; 16], count: usize, term: Term) -> u32
             let i = wide(v);
             if i < count { values[i] } else { 0 }
         }
-    }
-}
-
-// What term `j` of a row of terms comes to; 0 behind the last.
-pub fn atom_of(words: &[u32], at: usize, values: &[u32; 16], count: usize, j: usize) -> u32
-    requires { Bound values.now count × SomeRow words.now at }
-    ensures { SayAtom words.now at (take count values.now) j result }
-{
-    let width = words[at];
-    if wide(width) <= j {
-        return 0;
-    }
-    let term = term_at(words, at + 1 + 2 * j);
-    value_of(values, count, term)
-}
-
-// The row that the terms come to. Its atoms are not written one by one: a processor waits where words written apart are read back together.
-pub fn row_of(words: &[u32], at: usize, values: &[u32; 16], count: usize) -> Row
-    requires { Bound values.now count × SomeRow words.now at }
-    ensures { SayRow words.now at (take count values.now) result }
-{
-    let width = words[at];
-    let a = atom_of(words, at, values, count, 0);
-    let b = atom_of(words, at, values, count, 1);
-    let c = atom_of(words, at, values, count, 2);
-    let d = atom_of(words, at, values, count, 3);
-    Row {
-        width: width,
-        atoms: [a, b, c, d],
     }
 }
