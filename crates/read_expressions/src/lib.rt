@@ -8,18 +8,17 @@ ghost use Rattle.set_algebra.specs.Combined.{is_difference};
 ghost use Rattle.read_values.specs.From.{from};
 ghost use Rattle.read_expressions.specs.Readers.{AskExpr, AskTwo, AskBody, AskDraw, AskEach, AskAbsent, AskHas, SayExpr, SayTwo, SayBody, SayDraw, SayEach, SayAbsent, SayExprHas, AskWhole, SayWhole};
 
-use policy::codes::Code;
 use policy::Guard;
+use policy::codes::Code;
 use policy_places::guard_at;
 use policy_places::skip::{skip_expr, skip_pattern, skip_row};
 use read_leaves::{leaf_has, read_leaf};
 use read_steps::{Drawn, combine_parts, draw_next, has_row, insert_head};
 use read_values::{Bindings, Lent};
 use refusals::Refusal;
-use row_words::wide;
-use rows::SET_ROOM;
+use rows::{Form, SET_ROOM};
 use set_algebra::Operation;
-use sets::clear;
+use sets::listing::clear;
 
 // What is left of a comprehension: so many guards from `at` on, then its head. From `free` on the area is theirs.
 #[derive(Clone, Copy)]
@@ -51,7 +50,7 @@ fn read_expr(
                 left: lent.words[at + 1],
                 free: SET_ROOM,
             };
-            clear(area, 0);
+            clear(area, Form::Finite);
             read_guards(lent, body, bindings, draws, area)
         }
         _ => read_leaf(lent, at, bindings, draws, area),
@@ -178,7 +177,7 @@ fn draw_rows(
         left: body.left,
         free: free + SET_ROOM,
     };
-    let listed = wide(area[free + 1]);
+    let listed = area[free + 1] as usize;
     let mut used = draws;
     let mut i: usize = 0;
     // A loop: the index moves on by as many rows as were drawn.

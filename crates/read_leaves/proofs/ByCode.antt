@@ -68,14 +68,14 @@ module _ {ws : List ℕ} {at : ℕ} (d : get_or ws at 0 ≡ 3 → ⊥) (l : get_
       on_rows (λ y. StandsLeaf x.scope x.n ws at y → (1 ≤ get_or ws at 0) × (get_or ws at 0 ≤ 2)) x.here d l v
       (λ rs s. let c = at_word s.words in (omega arith, omega arith)) (λ rs s. let c = at_word s.words in (omega arith, omega arith)) x.here
 
-  pub leaf_rows : {f : From} {vs : Values} {k : ℕ} {area : List ℕ} → SayRows ws (at + 1) (get_or ws at 0 - 1) vs area → SayLeaf f ws at vs k (Ok k) area
+  pub leaf_rows : {f : From} {vs : Values} {k form : ℕ} {area : List ℕ} → form ≡ get_or ws at 0 - 1 → SayRows ws (at + 1) form vs area → SayLeaf f ws at vs k (Ok k) area
   unfolding read_leaf IfOk outcome leaf_words leaf_code formed
-  leaf_rows {f} {vs} {k} {area} s = record {
+  leaf_rows {f} {vs} {k} {form} {area} q s = record {
     filled = s.filled;
     means = λ n x h.
         on_rows (λ y. StandsLeaf (scope_in f) n ws at y → read_leaf (names f) (sets f) y vs k ≡ done (set_in area) k) h d l v
-        (λ rs g. let e : 0 ≡ get_or ws at 0 - 1 = omega (arith, at_word g.words) in ap (λ (i : ℕ). small (formed i (rows_of vs rs)) k) e ∙ s.means n rs (in_finite g) k)
-        (λ rs g. let e : 1 ≡ get_or ws at 0 - 1 = omega (arith, at_word g.words) in ap (λ (i : ℕ). small (formed i (rows_of vs rs)) k) e ∙ s.means n rs (in_cofinite g) k) h;
+        (λ rs g. let e : 0 ≡ form = omega (arith, q, at_word g.words) in ap (λ (i : ℕ). small (formed i (rows_of vs rs)) k) e ∙ s.means n rs (in_finite g) k)
+        (λ rs g. let e : 1 ≡ form = omega (arith, q, at_word g.words) in ap (λ (i : ℕ). small (formed i (rows_of vs rs)) k) e ∙ s.means n rs (in_cofinite g) k) h;
   }
 
 module _ (f : From) {ws : List ℕ} {at : ℕ} {vs : Values} {k : ℕ} where

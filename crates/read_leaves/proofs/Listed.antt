@@ -6,6 +6,8 @@ use mathlib.Core.List.{List, []}
 use native.Mathlib.Omega.{arith}
 use lib.Dec.{eqb}
 use lib.ListN.{length, get_or}
+use Rattle.rows.specs.Polarities.{polarity_is}
+use Rattle.rows.specs.declared.Polarity as Held
 use Rattle.rows.specs.Name.{Polarity, polarity_of}
 use Rattle.rows.specs.Sets.{RowSet, only, has}
 use Rattle.rows.specs.Layout.{set_in, written}
@@ -63,6 +65,15 @@ module _ {ours known : ℕ} {policy ws : List ℕ} {at : ℕ} (a : AskOwn ours k
       let w = name_here t n p h.words in
       ap (λ (m : ℕ). definition_of (declared_in policy known) m (polarity_of (get_or ws (at + 3) 0))) w.name
       ∙ ap (definition_of (declared_in policy known) n) (ap polarity_of w.polarity ∙ sym (polarity_back p))
+
+  -- where the table is asked for it
+  module _ (q : Held.Polarity) (e : polarity_is q ≡ polarity_of (get_or ws (at + 3) 0)) where
+    pub own_found : {d : ℕ} → definition_of (declared_in policy known) (get_or ws (at + 2) 0) (polarity_is q) ≡ d →
+        d ≡ definition_of (declared_in policy known) (get_or ws (at + 2) 0) (polarity_of (get_or ws (at + 3) 0))
+    own_found f = sym f ∙ ap (definition_of (declared_in policy known) (get_or ws (at + 2) 0)) e
+
+    pub own_missing : definition_of (declared_in policy known) (get_or ws (at + 2) 0) (polarity_is q) ≡ known → ⊥
+    own_missing f = let g = own_found {d = known} f in omega (arith, g, number_is a.here, a.within)
 
   pub own_long : at + 4 ≤ length ws
   own_long = (name_here a.t a.n a.p a.here.words).inside

@@ -10,6 +10,9 @@ use Rattle.rows.specs.Row.{Row, row_before}
 use Rattle.rows.specs.Layout.{rows_in, formed, set_in}
 use Rattle.row_words.specs.Values as held
 use Rattle.row_words.specs.declared.row.Row as HeldRow
+use Rattle.rows.specs.Polarities.{form_number}
+use Rattle.rows.specs.declared.Form.{Form}
+use Rattle.rows.specs.declared.Form.TheVariants.{Finite, Complement}
 use Rattle.rows.proofs.Case.{◌then◌, iff_refl, iff_sym, both_or}
 use Rattle.rows.proofs.Order.{row_order}
 use Rattle.rows.proofs.Ordered.{Ascending, insert-∈, insert_ascending, join_ascending, ascending_unique}
@@ -66,6 +69,10 @@ pub record Filling (ws : List ℕ) (at form : ℕ) (vs : Values) (area : List �
   pub few : length (rows_in area) ≤ i
   pub means : (z : List Row) → ((n : ℕ) (rs : List (List Term)) → RowsLeft ws next (get_or ws at 0 - i) n rs → join row_before (map (row_of vs) rs) (rows_in area) ≡ z) →
       (n : ℕ) (rs : List (List Term)) → RowsLeft ws (at + 1) (get_or ws at 0) n rs → join row_before (map (row_of vs) rs) [] ≡ z
+
+pub form_few : (f : Form) → form_number f ≤ 1
+form_few Finite = omega arith
+form_few Complement = omega arith
 
 pub literal_few : {ws : List ℕ} {at : ℕ} → SomeRows ws at → get_or ws at 0 ≤ 128
 literal_few s = omega (arith, (rows_inside s.here).many, s.here.fit.few)

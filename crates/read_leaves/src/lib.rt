@@ -3,6 +3,7 @@
 #![tactic(auto)]
 
 ghost use Rattle.std.specs.Prelude.{◌+◌, ◌≤◌, ◌<◌, ◌≡◌, true, length, get_or, take};
+ghost use Rattle.rows.specs.Polarities.{form_number};
 ghost use Rattle.rows.specs.Layout.{set_room};
 ghost use Rattle.read_values.specs.Values.{Bound};
 ghost use Rattle.policy_places.specs.Places.{SomeName, SomeRow, SomeRows};
@@ -14,21 +15,20 @@ ghost use Rattle.read_leaves.specs.Leaves.{held_by, SayRows, SayDefinition, SayA
 use policy::codes::{Code, Tag};
 use policy_places::skip::skip_row;
 use policy_places::term_at;
-use policy_table::definition_of;
+use policy_table::{find_definition, polarity_of};
 use read_names::{Held, name_at};
 use read_steps::has_row;
 use read_values::{Bindings, Lent};
 use refusals::Refusal;
 use row_words::row::Row;
-use row_words::wide;
-use rows::SET_ROOM;
-use sets::listing::insert;
-use sets::{clear, copy, has};
+use rows::{Form, SET_ROOM};
+use sets::listing::{clear, insert};
+use sets::{copy, has};
 
 // The rows written there, in a set of this form: no more than a set lists, so there is room for each.
-fn read_rows(lent: &Lent<'_>, at: usize, bindings: &Bindings, area: &mut [u32], form: u32)
-    requires { Bound bindings.now.values bindings.now.count × (form ≤ 1) × (set_room ≤ length area.old) × SomeRows lent.now.words.now at }
-    ensures { SayRows lent.now.words.now at form (take bindings.now.count bindings.now.values) area.new }
+fn read_rows(lent: &Lent<'_>, at: usize, bindings: &Bindings, area: &mut [u32], form: Form)
+    requires { Bound bindings.now.values bindings.now.count × (set_room ≤ length area.old) × SomeRows lent.now.words.now at }
+    ensures { SayRows lent.now.words.now at (form_number form) (take bindings.now.count bindings.now.values) area.new }
 {
     clear(area, form);
     let mut next = at + 1;
@@ -64,13 +64,12 @@ fn own_set<'a>(lent: &Lent<'a>, at: usize) -> &'a [u32]
     requires { AskOwn lent.now.our_key lent.now.known lent.now.policy.now lent.now.words.now at × FilledSets lent.now.known lent.now.definitions.now }
     ensures { SayOwnSet lent.now.known lent.now.policy.now lent.now.definitions.now lent.now.words.now at result.now }
 {
-    let d = definition_of(
-        lent.policy,
-        lent.known,
-        lent.words[at + 2],
-        lent.words[at + 3],
-    );
-    definition_set(lent, d)
+    let name = lent.words[at + 2];
+    let polarity = polarity_of(lent.words[at + 3]);
+    match find_definition(lent.policy, lent.known, name, polarity) {
+        Some(d) => definition_set(lent, d),
+        None => unreachable!(),
+    }
 }
 
 // The certificates and the links that are lent, asked at the minute.
@@ -160,7 +159,7 @@ fn issuer_among(lent: &Lent<'_>, at: usize, bindings: &Bindings) -> bool
     ensures { SayAmong lent.now.known lent.now.definitions.now lent.now.words.now at (take bindings.now.count bindings.now.values) result }
 {
     let key = bindings.value_of(term_at(lent.words, at + 1));
-    let set = definition_set(lent, wide(lent.words[at + 5]));
+    let set = definition_set(lent, lent.words[at + 5] as usize);
     let row = Row {
         width: 1,
         atoms: [key, 0, 0, 0],
@@ -180,7 +179,7 @@ fn read_vetted(
     ensures { SayLeaf (from lent.now) lent.now.words.now at (take bindings.now.count bindings.now.values) draws result area.new }
 {
     if issuer_among(lent, at, bindings) {
-        clear(area, 0);
+        clear(area, Form::Finite);
         Ok(draws)
     } else {
         read_listed(lent, at + 1, bindings, draws, area)
@@ -216,17 +215,20 @@ pub fn read_leaf(
     requires { AskLeaf (from lent.now) lent.now.words.now at bindings.now.values bindings.now.count × (set_room ≤ length area.old) }
     ensures { SayLeaf (from lent.now) lent.now.words.now at (take bindings.now.count bindings.now.values) draws result area.new }
 {
-    let word = lent.words[at];
-    match Code::of(word) {
+    match Code::of(lent.words[at]) {
         Code::Name => read_listed(lent, at + 1, bindings, draws, area),
         Code::Definition => {
-            copy(definition_set(lent, wide(lent.words[at + 1])), area);
+            copy(definition_set(lent, lent.words[at + 1] as usize), area);
             Ok(draws)
         }
         Code::Vetted => read_vetted(lent, at, bindings, draws, area),
+        Code::Finite => {
+            read_rows(lent, at + 1, bindings, area, Form::Finite);
+            Ok(draws)
+        }
         _ => {
-            // a literal's code is one more than the form of its set
-            read_rows(lent, at + 1, bindings, area, word - 1);
+            // of the leaves only a complement is left
+            read_rows(lent, at + 1, bindings, area, Form::Complement);
             Ok(draws)
         }
     }
@@ -247,7 +249,7 @@ pub fn leaf_has(
     match Code::of(lent.words[at]) {
         Code::Name => listed_has(lent, at + 1, row, bindings, draws, area),
         Code::Definition => {
-            let set = definition_set(lent, wide(lent.words[at + 1]));
+            let set = definition_set(lent, lent.words[at + 1] as usize);
             Ok((has_row(lent, row, bindings, set), draws))
         }
         Code::Vetted => vetted_has(lent, at, row, bindings, draws, area),

@@ -10,7 +10,8 @@ use Rattle.refusals.specs.declared.Refusal.{Refusal}
 use Rattle.rows.specs.Ordered.{lists}
 use Rattle.rows.specs.Row.{Row, is_key, first_key}
 use Rattle.rows.specs.Name.{Polarity, plus, minus, polarity_of, polarity_word}
-use Rattle.rows.specs.Polarities.{polarity_is, polarity_number}
+use Rattle.rows.specs.Polarities.{polarity_is, polarity_number, form_number, form_of}
+use Rattle.rows.specs.declared.Form.{Form}
 use Rattle.rows.specs.declared.Polarity as HeldPolarity
 use Rattle.rows.specs.declared.Polarity.TheVariants.{Plus, Minus}
 use Rattle.rows.specs.Sets.{RowSet, only, listing, has}
@@ -62,6 +63,11 @@ polarity_back minus = refl
 pub polarity_few : (p : HeldPolarity.Polarity) → polarity_number p ≤ 1
 polarity_few Plus = omega arith
 polarity_few Minus = omega arith
+
+-- the form that it says
+pub polarity_form : (p : HeldPolarity.Polarity) {f : Form} → f ≡ form_of p → form_number f ≡ polarity_number p
+polarity_form Plus e = ap form_number e
+polarity_form Minus e = ap form_number e
 
 -- its number, its word and what it is
 word_is : (p : HeldPolarity.Polarity) → polarity_word (polarity_is p) ≡ polarity_number p

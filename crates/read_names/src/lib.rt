@@ -24,9 +24,8 @@ use read_links::is_linked;
 use read_values::value_of;
 use refusals::Refusal;
 use row_words::row::Row;
-use row_words::wide;
-use rows::{FIRST_KEY, MOST_ROWS, Polarity};
-use sets::clear;
+use rows::{FIRST_KEY, Form, MOST_ROWS, Polarity};
+use sets::listing::clear;
 use store::certificates_in;
 
 impl<'a> Held<'a> {
@@ -45,7 +44,7 @@ impl<'a> Held<'a> {
         requires { set_room ≤ length area.old }
         ensures { MatchResult result (λ done. Listed (name_set self.now name) area.new) (λ refusal. Large (name_set self.now name) refusal) }
     {
-        clear(area, u32::from(name.polarity));
+        clear(area, name.polarity.into());
         if name.key < FIRST_KEY {
             return Ok(());
         }
@@ -64,7 +63,7 @@ impl<'a> Held<'a> {
         if name.key < FIRST_KEY {
             return Ok(belongs(name.polarity, false));
         }
-        let listed = self.look_up(name, &row.atoms[..wide(row.width)], area)?;
+        let listed = self.look_up(name, &row.atoms[..row.width as usize], area)?;
         Ok(belongs(name.polarity, listed))
     }
 
@@ -78,7 +77,7 @@ impl<'a> Held<'a> {
         }
         let records = self.records_of(name);
         if MOST_ROWS < records.len() {
-            clear(area, 0);
+            clear(area, Form::Finite);
             copy_rows(records, self.minute, area)?;
         }
         Ok(is_held(records, self.minute, row))

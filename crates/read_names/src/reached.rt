@@ -16,20 +16,18 @@ use certificates::ROW_IN_RECORD;
 use read_held::{Record, holds, is_held};
 use read_links::{Found, reach};
 use refusals::Refusal;
-use row_words::row::load;
-use rows::MOST_ROWS;
-use sets::{Inserted, clear, insert};
+use row_words::row::Row;
+use rows::{Form, MOST_ROWS};
+use sets::listing::{clear, insert};
 
 // Has a set list the row of a record too: refused if it is full.
 fn join_row(held: &Record, area: &mut [u32]) -> Result<(), Refusal>
     requires { (sound_record held.now ≡ true) × Filled area.old }
     ensures { MatchResult result (λ done. Joined (λ x. x ≡ record_row held.now) area.old area.new) (λ refusal. NotJoined (λ x. x ≡ record_row held.now) area.old refusal) }
 {
-    match insert(area, load(held, ROW_IN_RECORD)) {
-        Inserted::New => Ok(()),
-        Inserted::Known => Ok(()),
-        Inserted::Full => Err(Refusal::TooManyRows),
-    }
+    let row = Row::at(held, ROW_IN_RECORD);
+    insert(area, row)?;
+    Ok(())
 }
 
 // Has a set list the rows of these records that hold: refused if they and its own are too many.
@@ -103,7 +101,7 @@ impl Held<'_> {
         let found = reach(self.links, name);
         let looking = self.look_in(name, &found, row);
         if MOST_ROWS < looking.records {
-            clear(area, 0);
+            clear(area, Form::Finite);
             self.join_names(name, &found, area)?;
         }
         Ok(looking.held)

@@ -16,7 +16,6 @@ use policy::codes::Format;
 use policy_places::slot_at;
 use read_values::{Bindings, Lent, tick};
 use refusals::Refusal;
-use row_words::wide;
 use set_algebra::{Operation, TWO_ROOMS};
 use sets::has;
 use sets::listing::insert;
@@ -59,7 +58,7 @@ fn is_row(lent: &Lent<'_>, at: usize, bindings: &Bindings, set: &[u32], place: u
     if set[place] != width {
         return false;
     }
-    for j in 0..wide(width) {
+    for j in 0..width as usize {
         if lent.atom_of(at, bindings, j) != set[place + 1 + j] {
             return false;
         }
@@ -72,7 +71,7 @@ fn is_last(lent: &Lent<'_>, at: usize, bindings: &Bindings, set: &[u32]) -> bool
     requires { Bound bindings.now.values bindings.now.count × SomeRow lent.now.words.now at × Filled set.now }
     ensures { SayLast lent.now.words.now at (take bindings.now.count bindings.now.values) set.now result }
 {
-    let listed = wide(set[1]);
+    let listed = set[1] as usize;
     if listed == 0 {
         return false;
     }
@@ -123,7 +122,7 @@ pub fn match_row(
         return false;
     }
     let count = bindings.count;
-    for j in 0..wide(width) {
+    for j in 0..width as usize {
         let atom = area[row + 1 + j];
         match slot_at(lent.words, at + 1 + 2 * j) {
             Slot::New => bindings.bind(atom),
@@ -151,7 +150,7 @@ pub fn draw_next(
     ensures { SayDrawn lent.now.format lent.now.words.now at bindings.old.values bindings.old.count (rows_in set.now) i draws result bindings.new.values bindings.new.count }
 {
     let mut used = draws;
-    for j in i..wide(set[1]) {
+    for j in i..set[1] as usize {
         used = tick(used)?;
         if match_row(lent, at, bindings, set, 2 + 5 * j) {
             return Ok(Drawn::Matches {

@@ -15,7 +15,6 @@ use policy::{Guard, Term};
 use policy_places::term_at;
 use refusals::Refusal;
 use row_words::row::Row;
-use row_words::wide;
 
 /// What stays the same through a reading: the words that are read, the stores and the minute at which they are looked into, the policy with its format and our
 /// key, and the sets of the definitions that were read before, `known` of them. It is passed by `&`: by value its slices are copied at each call.
@@ -60,7 +59,7 @@ impl Bindings {
         match term {
             Term::Atom(a) => a,
             Term::Variable(v) => {
-                let i = wide(v);
+                let i = v as usize;
                 if i < self.count { self.values[i] } else { 0 }
             }
         }
@@ -96,7 +95,7 @@ impl Lent<'_> {
         ensures { SayAtom self.now.words.now at (take bindings.now.count bindings.now.values) j result }
     {
         let width = self.words[at];
-        if wide(width) <= j {
+        if width as usize <= j {
             return 0;
         }
         let term = term_at(self.words, at + 1 + 2 * j);
@@ -128,7 +127,7 @@ pub fn value_of(values: &[u32; 16], count: usize, term: Term) -> u32
     match term {
         Term::Atom(a) => a,
         Term::Variable(v) => {
-            let i = wide(v);
+            let i = v as usize;
             if i < count { values[i] } else { 0 }
         }
     }

@@ -1,5 +1,5 @@
 -- Each answer calls the law of its step.
-use Rattle.std.proofs.Common.{sym, ◌∙◌, ap, arith}
+use Rattle.std.proofs.Common.{refl, sym, ◌∙◌, ap, arith}
 use Rattle.std.proofs.lemmas.Result.{err_from_is_err_and}
 use Rattle.policy.specs.Decode.{is_node}
 use Rattle.policy_places.proofs.Places.{inside, inside_body}
@@ -46,7 +46,7 @@ pub read_expr-bounds-lent-at-in-Comprehension : goal.read_expr-bounds-lent-at-in
 read_expr-bounds-lent-at-in-Comprehension t c = let i = inside_body (some_body (some_expr c.requires) (sym c.in-Comprehension.ensures)).here in omega arith
 
 pub read_expr-clear-requires : goal.read_expr-clear-requires
-read_expr-clear-requires t c = let room = long c.requires in (omega arith, omega arith)
+read_expr-clear-requires t c = let room = long c.requires in omega arith
 
 pub read_expr-read_guards-requires : goal.read_expr-read_guards-requires
 read_expr-read_guards-requires t c =
@@ -222,7 +222,7 @@ read_draw-returns-clause-says t c =
 -- ---- the rows drawn
 
 pub draw_rows-loop-i-init : goal.draw_rows-loop-i-init
-draw_rows-loop-i-init t c = drawing_start c.requires c.wide-listed.ensures
+draw_rows-loop-i-init t c = drawing_start c.requires refl
 
 pub draw_rows-slice_bounds-draw_next-count : goal.draw_rows-slice_bounds-draw_next-count
 draw_rows-slice_bounds-draw_next-count t c = let r = now_room c.loop-i.invariant in omega arith

@@ -1,5 +1,5 @@
 -- A name's row and a definition's are looked up where they stand; of any other leaf the set is read.
-use Rattle.std.proofs.Common.{sym, arith}
+use Rattle.std.proofs.Common.{refl, sym, arith}
 use Rattle.std.proofs.lemmas.Result.{err_from_is_err_and}
 use Rattle.policy_places.proofs.Codes.{leaf_code_lem}
 use Rattle.policy_places.proofs.Leaves.{inside_leaf, definition_inside}
@@ -30,11 +30,10 @@ bounds-lent-at-in-Definition c = let i = definition_inside (some_here c.requires
 pub definition_set-set-requires : goal.definition_set-set-requires
 definition_set-set-requires c =
     let known = known_here c.requires.0 (sym c.in-Definition.ensures) in
-    let number = c.wide.ensures in
     (omega arith, c.requires.0.sound.defs)
 
 pub returns-in-Definition : goal.returns-in-Definition
-returns-in-Definition c = leaf_definition_has _ (sym c.in-Definition.ensures) c.wide.ensures c.definition_set-set.ensures c.has_row.ensures
+returns-in-Definition c = leaf_definition_has _ (sym c.in-Definition.ensures) refl c.definition_set-set.ensures c.has_row.ensures
 
 pub vetted_has-requires : goal.vetted_has-requires
 vetted_has-requires c = (c.requires.0, c.requires.1, c.requires.2, sym c.in-Vetted.ensures)

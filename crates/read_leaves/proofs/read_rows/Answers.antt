@@ -1,11 +1,11 @@
 use Rattle.std.proofs.Common.{◌≡◌, length, rules, arith}
 use Rattle.read_values.proofs.Answers.{cleared}
 use Rattle.read_steps.proofs.Inserting.{row_is_wide, put_in}
-use Rattle.read_leaves.proofs.Literals.{literal_few, filling_start, filling_row, filling_next, filling_end}
+use Rattle.read_leaves.proofs.Literals.{form_few, literal_few, filling_start, filling_row, filling_next, filling_end}
 use Rattle.read_leaves.proofs.read_rows.Goals as goal
 
 pub loop-init : goal.loop-init
-loop-init c = filling_start c.requires.3 (cleared c.args.area.now c.requires.2 c.requires.1 c.clear.ensures)
+loop-init c = filling_start c.requires.2 (cleared c.args.area.now c.requires.1 (form_few c.args.form) c.clear.ensures)
 
 pub row_of-row-requires : goal.row_of-row-requires
 row_of-row-requires c = (c.requires.0, filling_row c.loop.invariant c.loop-test.true)
@@ -23,7 +23,7 @@ loop-preserved c =
     let inv = c.loop.invariant in
     let four : length c.row_of-row.result.atoms ≡ 4 = search rules in
     let wide = row_is_wide four c.row_of-row.ensures in
-    let few = literal_few c.requires.3 in
+    let few = literal_few c.requires.2 in
     let room = inv.few in
     let l = put_in inv.filled wide c.insert.result (omega arith) c.insert.ensures.answer c.insert.ensures.words in
     filling_next inv c.loop-test.true c.row_of-row.ensures l c.skip_row-next.ensures

@@ -18,12 +18,12 @@ loop-j-init c = comes_start c.args.set.now c.args.place c.requires.3 c.if-set-pl
 
 pub returns-then-atom_of-set : goal.returns-then-atom_of-set
 returns-then-atom_of-set c =
-    other_atom c.args.set.now c.args.place c.requires.3 c.if-set-place.false (omega (arith, c.wide-j-end.ensures)) c.atom_of.ensures c.if-atom_of-set.true
+    other_atom c.args.set.now c.args.place c.requires.3 c.if-set-place.false (omega arith) c.atom_of.ensures c.if-atom_of-set.true
 
 pub loop-j-preserved : goal.loop-j-preserved
 loop-j-preserved c =
-    comes_next c.args.set.now c.args.place c.requires.3 c.if-set-place.false c.loop-j.invariant (omega (arith, c.wide-j-end.ensures))
+    comes_next c.args.set.now c.args.place c.requires.3 c.if-set-place.false c.loop-j.invariant (omega arith)
     (subst (SayAtom c.args.lent.now.words.now c.args.at (take c.args.bindings.now.count c.args.bindings.now.values) c.loop-j.j) c.if-atom_of-set.false c.atom_of.ensures)
 
 pub returns : goal.returns
-returns c = comes_end c.args.set.now c.args.place c.requires.3 c.if-set-place.false c.loop-j.invariant (omega (arith, c.wide-j-end.ensures))
+returns c = comes_end c.args.set.now c.args.place c.requires.3 c.if-set-place.false c.loop-j.invariant (omega arith)

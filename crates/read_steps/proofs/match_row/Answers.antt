@@ -11,16 +11,16 @@ pub loop-j-init : goal.loop-j-init
 loop-j-init c = passed_start c.requires.0 c.requires.1
 
 pub slot_at-requires : goal.slot_at-requires
-slot_at-requires c = slot_inside c.loop-j.invariant (omega (arith, c.wide-j-end.ensures))
+slot_at-requires c = slot_inside c.loop-j.invariant (omega arith)
 
 pub bind-requires : goal.bind-requires
 bind-requires c =
-    (c.loop-j.invariant.bound, new_scope c.loop-j.invariant (omega (arith, c.wide-j-end.ensures)) (slot_told c.slot_at.ensures c.in-New.is))
+    (c.loop-j.invariant.bound, new_scope c.loop-j.invariant (omega arith) (slot_told c.slot_at.ensures c.in-New.is))
 
 pub returns-then-value_of-atom : goal.returns-then-value_of-atom
 returns-then-value_of-atom c =
     mismatched c.loop-j.invariant (fitting c.args.area.now c.args.row c.requires.2 c.requires.3 (sym c.fits.ensures ∙ c.if-not-fits.false)) c.requires.0
-    (omega (arith, c.wide-j-end.ensures)) (slot_told c.slot_at.ensures c.in-Old.is) (λ h. c.if-value_of-atom.true (c.value_of.ensures ∙ h))
+    (omega arith) (slot_told c.slot_at.ensures c.in-Old.is) (λ h. c.if-value_of-atom.true (c.value_of.ensures ∙ h))
 
 pub loop-j-preserved : goal.loop-j-preserved
 loop-j-preserved c =
@@ -28,12 +28,12 @@ loop-j-preserved c =
     elim c.match-slot_at.branch [
       | in-New w ↦
           rw (w.bindings-is, w.bind.ensures.values, w.bind.ensures.count)
-          (passed_new c.loop-j.invariant f (omega (arith, c.wide-j-end.ensures)) (slot_told c.slot_at.ensures w.in-New.is))
+          (passed_new c.loop-j.invariant f (omega arith) (slot_told c.slot_at.ensures w.in-New.is))
       | in-Old+else-value_of-atom w ↦
-          rw w.bindings-is (passed_old c.loop-j.invariant f (omega (arith, c.wide-j-end.ensures)) (slot_told c.slot_at.ensures w.in-Old.is) (sym w.value_of.ensures ∙ w.if-value_of-atom.false))
+          rw w.bindings-is (passed_old c.loop-j.invariant f (omega arith) (slot_told c.slot_at.ensures w.in-Old.is) (sym w.value_of.ensures ∙ w.if-value_of-atom.false))
     ]
 
 pub returns : goal.returns
 returns c =
     matched c.loop-j.invariant (fitting c.args.area.now c.args.row c.requires.2 c.requires.3 (sym c.fits.ensures ∙ c.if-not-fits.false)) c.requires.0
-    (omega (arith, c.wide-j-end.ensures))
+    (omega arith)

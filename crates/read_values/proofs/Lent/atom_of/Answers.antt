@@ -10,13 +10,13 @@ offset_bounds-self-at c = let w = row_width c.requires.1 in let fits = c.well_fo
 pub bounds-self-at : goal.bounds-self-at
 bounds-self-at c = let w = row_width c.requires.1 in let fits = c.well_formed in omega arith
 
-pub returns-then-wide-j : goal.returns-then-wide-j
-returns-then-wide-j c = no_atom (omega (arith, c.wide.ensures))
+pub returns-then-width-j : goal.returns-then-width-j
+returns-then-width-j c = no_atom (omega arith)
 
 pub term_at-term-requires : goal.term_at-term-requires
-term_at-term-requires c = let w = row_width c.requires.1 in omega (arith, c.wide.ensures)
+term_at-term-requires c = let w = row_width c.requires.1 in omega arith
 
 pub returns : goal.returns
 returns c =
     subst (SayAtom c.args.self.now.words.now c.args.at (take c.args.bindings.now.count c.args.bindings.now.values) c.args.j) (sym c.value_of.ensures)
-    (term_atom (omega (arith, c.wide.ensures)) c.term_at-term.ensures)
+    (term_atom (omega arith) c.term_at-term.ensures)

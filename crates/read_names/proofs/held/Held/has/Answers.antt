@@ -1,5 +1,5 @@
 -- A number issues nothing; a key's rows are asked for the row.
-use Rattle.std.proofs.Common.{subst}
+use Rattle.std.proofs.Common.{refl, subst}
 use Rattle.std.proofs.lemmas.Result.{err_from_is_err_and}
 use Rattle.rows.specs.Sets.{only}
 use Rattle.read_names.specs.Reached.{Belongs}
@@ -17,5 +17,5 @@ returns-in_err-listed c =
 
 pub returns : goal.returns
 returns c =
-    let said = subst (λ x. Belongs (only (rows_for c.args.self.now c.args.name)) x c.in_ok-listed.listed) (atoms_lem c.args.row c.wide.ensures) c.in_ok-listed.ensures in
+    let said = subst (λ x. Belongs (only (rows_for c.args.self.now c.args.name)) x c.in_ok-listed.listed) (atoms_lem c.args.row refl) c.in_ok-listed.ensures in
     key_belongs c.args.self.now c.args.name c.if-name-lt-FIRST_KEY.false said c.belongs-2.ensures
