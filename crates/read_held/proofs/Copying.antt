@@ -1,10 +1,10 @@
 -- The rows that hold are copied one after the other, and stand there as a set.
-use Rattle.std.proofs.Common.{ℕ, suc, ◌≡◌, ◌≢◌, ◌↔◌, ◌+◌, ◌*◌, ◌≤◌, ◌<◌, IsTrue, MatchOption, Bool, true, false, List, [], ◌∷◌, ◌++◌, length, get_or, take, drop, set, refl, sym, ◌∙◌, ap, subst, arith, Option, None, Some, Bor, append-nil, append_assoc, length-append}
+use Rattle.std.proofs.Common.{ℕ, suc, ◌≡◌, ◌≢◌, ◌↔◌, ◌+◌, ◌-◌, ◌*◌, ◌≤◌, ◌<◌, IsTrue, MatchOption, Bool, true, false, List, [], ◌∷◌, ◌++◌, length, get_or, take, drop, set, refl, sym, ◌∙◌, ap, subst, arith, Option, None, Some, Bor, append-nil, append_assoc, length-append}
 use mathlib.Core.Logic.{◌⊎◌, inl, inr}
 use lib.ListN.{length-take}
 use lib.Seq.{take-suc, take_all, get_or-take}
 use borrow.Rule.Slice.PartMut.{put_mid}
-use Rattle.std.proofs.lemmas.List.{take-append-drop}
+use Rattle.std.proofs.lemmas.List.{take-append-drop, length-drop}
 use Rattle.std.proofs.lemmas.Slice.{take-put_mid, drop-put_mid}
 use Rattle.rows.specs.Word.{All}
 use Rattle.rows.specs.Ordered.{◌∈◌, insert}
@@ -22,12 +22,18 @@ use Rattle.sets.proofs.Laid.{Narrow, laid_length, laid_append, written_count}
 use Rattle.certificates.specs.Certificate.{record_row, sound_record, holds_at}
 use Rattle.certificates.proofs.Sound.{sound_record_lem, five_long}
 use Rattle.read_held.specs.Held.{Records, Copied, row_at, rows_held}
-use Rattle.read_held.proofs.Holding.{rows_none, rows_hold, rows_skip, rows_last, rows_longer, rows_ascend, rows_has, rows_from}
+use Rattle.read_held.proofs.Holding.{rows_none, rows_hold, rows_skip, rows_last, rows_longer, step_few, rows_ascend, rows_has, rows_from}
 
 -- the record whose row is the last of these, if there are any
 unfoldable pub Last : List Row → Option (Bor (List ℕ)) → Type 0
 Last rows None = rows ≡ []
 Last rows (Some w) = (record_row w.now ∈ rows) × ((x : Row) → x ∈ rows → row_before (record_row w.now) x ≡ false)
+
+-- so many rows are counted
+pub record Counting (listed : ℕ) (last : Option (Bor (List ℕ))) (rows : List Row) : Type 0 where
+  pub behind : Last rows last
+  pub many : listed ≡ length rows
+  pub few : listed ≤ 128
 
 -- these rows are copied
 pub record Copying (entry area : List ℕ) (listed : ℕ) (last : Option (Bor (List ℕ))) (rows : List Row) : Type 0 where
@@ -114,6 +120,14 @@ module _ (minute : ℕ) (rs : List (List ℕ)) where
 
   pub all_rows : {i : ℕ} → length rs ≤ i → rows_of i ≡ rows_held minute rs
   all_rows {i} h = ap (rows_held minute) (take_all i rs h)
+
+  -- each record that is left adds one row at most
+  rest_few : (ws vs : List (List ℕ)) → length (rows_held minute (ws ++ vs)) ≤ length (rows_held minute ws) + length vs
+  rest_few ws [] = omega (arith, ap (λ l. length (rows_held minute l)) (append-nil ws))
+  rest_few ws (v ∷ vs) = omega (arith, rest_few (ws ++ (v ∷ [])) vs, step_few minute ws v, ap (λ l. length (rows_held minute l)) (append_assoc ws (v ∷ []) vs))
+
+  pub rows_left : (i : ℕ) → length (rows_held minute rs) ≤ length (rows_of i) + (length rs - i)
+  rows_left i = omega (arith, rest_few (take i rs) (drop i rs), ap (λ l. length (rows_held minute l)) (take-append-drop i rs), length-drop i rs)
 
 -- what is told of its row and the last one's
 module _ (rs : List (List ℕ)) (i : ℕ) where
@@ -243,3 +257,33 @@ module _ (minute : ℕ) {rs : List (List ℕ)} (records : Records rs) (entry : L
               ∙ written_count s entry (omega arith) (formed_word (get_or entry 0 0) rows form);
           few = omega (arith, c.many, ap length e);
         }
+
+-- ---- the count alone
+
+module _ (minute : ℕ) {rs : List (List ℕ)} (records : Records rs) where
+  pub counting_start : Counting 0 None (rows_of minute rs 0)
+  unfolding Last
+  counting_start =
+      let none : rows_of minute rs 0 ≡ [] = rows_none minute in
+      record { behind = none; many = ap length (sym none); few = omega arith }
+
+  module _ (listed : ℕ) (last : Option (Bor (List ℕ))) (i : ℕ) (c : Counting listed last (rows_of minute rs i)) where
+    pub counting_same : rows_of minute rs (i + 1) ≡ rows_of minute rs i → Counting listed last (rows_of minute rs (i + 1))
+    counting_same e = subst (Counting listed last) (sym e) c
+
+    module _ (less : i < length rs) (held : holds_at minute (get_or rs i []) ≡ true) (new : MatchOption last (Unit {0}) (λ w. record_row w.now ≢ row_at rs i)) where
+      counted : rows_of minute rs (i + 1) ≡ rows_of minute rs i ++ (row_at rs i ∷ [])
+      counted = rows_grow minute rs less records last c.behind new held
+
+      one_longer : length (rows_of minute rs (i + 1)) ≡ listed + 1
+      one_longer = omega (arith, ap length counted, length-append (rows_of minute rs i) (row_at rs i ∷ []), c.many)
+
+      pub counting_full : listed ≡ 128 → 128 < length (rows_held minute rs)
+      counting_full e = too_many minute rs (i + 1) (omega (arith, one_longer))
+
+      pub counting_next : listed < 128 → (w : Bor (List ℕ)) → w.now ≡ get_or rs i [] → Counting (listed + 1) (Some w) (rows_of minute rs (i + 1))
+      counting_next few w e = record {
+        behind = subst (λ (xs : List Row). Last xs (Some w)) (sym counted) (last_grows minute rs less records last c.behind new w e);
+        many = sym one_longer;
+        few = omega arith;
+      }

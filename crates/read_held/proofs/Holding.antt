@@ -1,5 +1,5 @@
 -- The rows of the records that hold: which are listed, how the list grows by a record, and that it is in order.
-use Rattle.std.proofs.Common.{ℕ, zero, suc, ◌≡◌, ◌<◌, ◌≤◌, true, false, List, [], ◌∷◌, ◌++◌, map, length, get_or, take, drop, refl, sym, ◌∙◌, ap, subst, arith, append_assoc}
+use Rattle.std.proofs.Common.{ℕ, zero, suc, ◌≡◌, ◌+◌, ◌<◌, ◌≤◌, true, false, List, [], ◌∷◌, ◌++◌, map, length, get_or, take, drop, refl, sym, ◌∙◌, ap, subst, arith, append_assoc}
 use mathlib.Core.List.{append-nil, map-append}
 use mathlib.Core.Logic.{inl, inr}
 use Rattle.std.proofs.lemmas.List.{length-map}
@@ -9,7 +9,7 @@ use Rattle.rows.proofs.Case.{Case, is_true, is_false, split}
 use Rattle.rows.proofs.Order.{row_order}
 use Rattle.rows.proofs.Ordered.{Ascending, keep_append, keep_length, insert-∈, join_ascending}
 use Rattle.rows.proofs.Place.{gap_insert, get_or-∈}
-use Rattle.rows.proofs.Joining.{join_one_more, join_longer, join_shorter}
+use Rattle.rows.proofs.Joining.{join_one_more, join_longer, join_shorter, insert_shorter}
 use Rattle.certificates.specs.Certificate.{record_row, holds_at}
 use Rattle.read_held.specs.Held.{row_at, rows_held}
 
@@ -59,6 +59,13 @@ module _ (minute : ℕ) where
     unfolding join
     step_longer (is_true e) = omega (arith, ap length (rows_hold e), join_longer row_before row_order (record_row w ∷ []) (rows_held minute rs))
     step_longer (is_false e) = omega (arith, ap length (rows_skip e))
+
+    pub step_few : length (rows_held minute (rs ++ (w ∷ []))) ≤ length (rows_held minute rs) + 1
+    step_few = go (split (holds_at minute w))
+      where
+        go : Case (holds_at minute w) → length (rows_held minute (rs ++ (w ∷ []))) ≤ length (rows_held minute rs) + 1
+        go (is_true e) = omega (arith, ap length (rows_hold e), insert_shorter row_before row_order (record_row w) (rows_held minute rs))
+        go (is_false e) = omega (arith, ap length (rows_skip e))
 
     -- one that holds, whose row comes after all that are listed
     pub rows_last : holds_at minute w ≡ true → ((x : Row) → x ∈ rows_held minute rs → row_before x (record_row w) ≡ true) → rows_held minute (rs ++ (w ∷ [])) ≡ rows_held minute rs ++ (record_row w ∷ [])

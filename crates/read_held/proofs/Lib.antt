@@ -1,3 +1,4 @@
 pub mod Holding
 pub mod Copying
 pub mod Searching
+pub mod Comparing

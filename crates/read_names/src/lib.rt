@@ -18,13 +18,13 @@ ghost use Rattle.read_names.specs.Names.{name_set, rows_for, named_by, StandsFor
 pub use crate::held::Held;
 use certificates::RECORD_WORDS;
 use policy_places::term_at;
-use read_held::{Record, copy_rows, is_held};
+use read_held::{Record, are_too_many, copy_rows, is_held};
 pub use read_links::Name;
 use read_links::is_linked;
 use read_values::value_of;
 use refusals::Refusal;
 use row_words::row::Row;
-use rows::{FIRST_KEY, Form, MOST_ROWS, Polarity};
+use rows::{FIRST_KEY, Polarity};
 use sets::listing::clear;
 use store::certificates_in;
 
@@ -55,7 +55,7 @@ impl<'a> Held<'a> {
     }
 
     /// Whether a row belongs to the name's set: what a look into the set that `list` leaves would find, and refused where that is. The area is written to only
-    /// where the records are more than the rows that a set lists.
+    /// where links start at the name and the records that they reach are more than the rows that a set lists.
     pub fn has(&self, name: Name, row: Row, area: &mut [u32]) -> Result<bool, Refusal>
         requires { (row.width ≤ 4) × (set_room ≤ length area.old) }
         ensures { MatchResult result (λ has. Belongs (name_set self.now name) (row_is row) has) (λ refusal. Large (name_set self.now name) refusal) }
@@ -76,9 +76,8 @@ impl<'a> Held<'a> {
             return self.look_reached(name, row, area);
         }
         let records = self.records_of(name);
-        if MOST_ROWS < records.len() {
-            clear(area, Form::Finite);
-            copy_rows(records, self.minute, area)?;
+        if are_too_many(records, self.minute) {
+            return Err(Refusal::TooManyRows);
         }
         Ok(is_held(records, self.minute, row))
     }
