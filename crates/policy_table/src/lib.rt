@@ -5,23 +5,12 @@ mod entries;
 pub mod parts;
 mod reading;
 
-ghost use Rattle.std.specs.Prelude.{◌+◌, ◌*◌, ◌≤◌, ◌≡◌, length};
-ghost use Rattle.rows.specs.Name.{polarity_of};
-ghost use Rattle.policy.specs.OwnKey.{definition_of};
+ghost use Rattle.std.specs.Prelude.{◌+◌, ◌≤◌, ◌≡◌, length};
 ghost use Rattle.policy.specs.Table.{entry_at, entry_words};
-ghost use Rattle.policy_table.specs.Entries.{entry_place, declared_in};
+ghost use Rattle.policy_table.specs.Entries.{entry_place};
 
 pub use entries::{Entry, entry_place, find_definition, polarity_of};
 pub use reading::{MOST_WORDS, Table};
-
-// The definition of this name and polarity among the first `known`: its number; where none of them is it, `known`.
-pub fn definition_of(policy: &[u32], known: usize, name: u32, polarity: u32) -> usize
-    requires { entry_place known ≤ length policy.now }
-    ensures { result ≡ definition_of (declared_in policy.now known) name (polarity_of polarity) }
-{
-    let polarity = polarity_of(polarity);
-    find_definition(policy, known, name, polarity).unwrap_or(known)
-}
 
 // The words of definition `i`, a part of the policy, for those who know its table to be sound and do not read it again.
 #[tactic(auto, unfolding(policy::specs::Table::entry_words, policy::specs::Table::entry_at))]

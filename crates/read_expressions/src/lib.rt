@@ -18,7 +18,7 @@ use read_values::{Bindings, Lent};
 use refusals::Refusal;
 use rows::{Form, SET_ROOM};
 use set_algebra::Operation;
-use sets::listing::clear;
+use sets::clear;
 
 // What is left of a comprehension: so many guards from `at` on, then its head. From `free` on the area is theirs.
 #[derive(Clone, Copy)]

@@ -22,8 +22,7 @@ use read_values::{Bindings, Lent};
 use refusals::Refusal;
 use row_words::row::Row;
 use rows::{Form, SET_ROOM};
-use sets::listing::{clear, insert};
-use sets::{copy, has};
+use sets::{clear, copy, has, insert};
 
 // The rows written there, in a set of this form: no more than a set lists, so there is room for each.
 fn read_rows(lent: &Lent<'_>, at: usize, bindings: &Bindings, area: &mut [u32], form: Form)

@@ -25,7 +25,7 @@ use read_values::value_of;
 use refusals::Refusal;
 use row_words::row::Row;
 use rows::{FIRST_KEY, Polarity};
-use sets::listing::clear;
+use sets::clear;
 use store::certificates_in;
 
 impl<'a> Held<'a> {

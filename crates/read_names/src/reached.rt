@@ -18,7 +18,7 @@ use read_links::{Found, reach};
 use refusals::Refusal;
 use row_words::row::Row;
 use rows::{Form, MOST_ROWS};
-use sets::listing::{clear, insert};
+use sets::{clear, insert};
 
 // Has a set list the row of a record too: refused if it is full.
 fn join_row(held: &Record, area: &mut [u32]) -> Result<(), Refusal>

@@ -11,20 +11,17 @@ use Rattle.rows.specs.Row.{Row, row_before}
 use Rattle.rows.specs.Sets.{has}
 use Rattle.rows.specs.Layout.{rows_in, set_in}
 use Rattle.row_words.specs.Values as held
-use Rattle.sets.specs.Values.{inserted_for, after_insert, insert_gives, insert_leaves}
-use Rattle.sets.proofs.Inserting.{new_told, known_told, full_told, words_told, known_words_told, full_words_told}
+use Rattle.sets.specs.Values.{insert_gives, insert_leaves}
 use Rattle.rows.specs.Sets.{RowSet, listing}
 use Rattle.rows.specs.Ordered.{lists}
 use lib.Dec.{ltb}
 use Rattle.refusals.specs.declared.Refusal.{Refusal}
 use Rattle.row_words.specs.declared.row.Row as HeldRow
-use Rattle.sets.specs.declared.Inserted as Inserted
-use Rattle.sets.specs.declared.Inserted.TheVariants.{New, Known, Full}
 use Rattle.rows.proofs.Order.{row_order}
 use Rattle.rows.proofs.Joining.{insert_shorter}
 use Rattle.rows.proofs.LayoutLaws.{Width, formed_word, formed_listing, true_sound}
 use Rattle.row_words.proofs.RowLaws.{held_length}
-use Rattle.sets.proofs.Standing.{stands_rows, stands_form, formed_few, fit_size, written_stands, inserted_fit, inserted_few, inserted_words, full_many}
+use Rattle.sets.proofs.Standing.{stands_rows, stands_form, formed_few, fit_size, written_stands, inserted_fit, inserted_few, full_many}
 use Rattle.meaning.specs.Values.{Values}
 use Rattle.meaning.specs.Reading.{done, refused, within}
 use Rattle.read_values.specs.Rows.{SayRow}
@@ -54,38 +51,6 @@ pub record NoRoom (ws : List ℕ) (r : Row) (after : List ℕ) : Type 0 where
   pub stays : after ≡ ws
   pub many : 128 < length (insert row_before r (rows_in ws))
 
-module _ {ws : List ℕ} (f : Filled ws) {r : Row} (width : Width r) (a : Inserted.Inserted) (answer : a ≡ inserted_for (set_in ws) r) (after : List ℕ) (words : after ≡ after_insert a ws r) where
-  there : (a ≡ Full → ⊥) → Listed ws r after
-  there n =
-      let few = inserted_few ws r f.sound a answer n in
-      let fit = inserted_fit ws r f.sound width in
-      let few' = formed_few (get_or ws 0 0) (insert row_before r (rows_in ws)) few in
-      let e = words ∙ inserted_words a ws r n in
-      let s = written_stands fit few' ws f.long e in
-      record {
-        filled = stands_filled s;
-        form = stands_form s ∙ formed_word (get_or ws 0 0) _ (true_sound ws f.sound).form;
-        rows = stands_rows s ∙ formed_listing (get_or ws 0 0) _;
-        few = few;
-        kept = λ free. written_kept _ ws (fit_size fit few') f.long e;
-      }
-
-  pub known_listed : a ≡ Known → Listed ws r after
-  known_listed e = there (λ h. let z : ◌≡◌ {A = ℕ} 0 1 = cc in omega arith)
-
-  pub new_listed : a ≡ New → Listed ws r after
-  new_listed e = there (λ h. let z : ◌≡◌ {A = ℕ} 0 1 = cc in omega arith)
-
-  pub full_no_room : a ≡ Full → NoRoom ws r after
-  unfolding after_insert
-  full_no_room e = record { stays = words ∙ ap (λ (b : Inserted.Inserted). after_insert b ws r) e; many = full_many ws r f.sound a answer e }
-
-  -- where there is room
-  pub listed : length (rows_in ws) < 128 → Listed ws r after
-  listed h = there (λ e. let n = full_many ws r f.sound a answer e in let k = insert_shorter row_before row_order r (rows_in ws) in omega arith)
-
--- ---- the same, as a `Result` tells it
-
 no_room_refusal : (s : RowSet) (r : Row) (x : Refusal) → Err x ≡ insert_gives s r → x ≡ TooManyRows
 unfolding insert_gives
 no_room_refusal s r x e = go (lists row_before (listing s) r) (ltb (length (listing s)) 128) e
@@ -97,11 +62,23 @@ no_room_refusal s r x e = go (lists row_before (listing s) r) (ltb (length (list
 
 module _ {ws : List ℕ} (f : Filled ws) {r : Row} (width : Width r) {after : List ℕ} where
   pub put_listed : (new : Bool) → Ok new ≡ insert_gives (set_in ws) r → after ≡ insert_leaves (Ok new) ws r → Listed ws r after
-  put_listed true answer words = new_listed f width New (new_told (set_in ws) r answer) after (words ∙ words_told true ws r) refl
-  put_listed false answer words = known_listed f width Known (known_told (set_in ws) r answer) after (words ∙ known_words_told false ws r) refl
+  unfolding insert_leaves
+  put_listed new answer words =
+      let few = inserted_few ws r f.sound new answer in
+      let fit = inserted_fit ws r f.sound width in
+      let few' = formed_few (get_or ws 0 0) (insert row_before r (rows_in ws)) few in
+      let s = written_stands fit few' ws f.long words in
+      record {
+        filled = stands_filled s;
+        form = stands_form s ∙ formed_word (get_or ws 0 0) _ (true_sound ws f.sound).form;
+        rows = stands_rows s ∙ formed_listing (get_or ws 0 0) _;
+        few = few;
+        kept = λ free. written_kept _ ws (fit_size fit few') f.long words;
+      }
 
   pub put_refused : (x : Refusal) → Err x ≡ insert_gives (set_in ws) r → after ≡ insert_leaves (Err x) ws r → NoRoom ws r after × (x ≡ TooManyRows)
-  put_refused x answer words = (full_no_room f width Full (full_told (set_in ws) r x answer) after (words ∙ full_words_told x ws r) refl, no_room_refusal (set_in ws) r x answer)
+  unfolding insert_leaves
+  put_refused x answer words = (record { stays = words; many = full_many ws r f.sound x answer }, no_room_refusal (set_in ws) r x answer)
 
   -- where there is room
   pub put_in : (o : Outcome Bool Refusal) → length (rows_in ws) < 128 → o ≡ insert_gives (set_in ws) r → after ≡ insert_leaves o ws r → Listed ws r after

@@ -17,8 +17,7 @@ use policy_places::slot_at;
 use read_values::{Bindings, Lent, tick};
 use refusals::Refusal;
 use set_algebra::{Operation, TWO_ROOMS};
-use sets::has;
-use sets::listing::insert;
+use sets::{has, insert};
 
 // What drawing on came to, with the draws made: a row that matches, and the place behind it; or no row more matches.
 #[derive(Clone, Copy)]

@@ -86,10 +86,3 @@ pub fn sound(words: &[u32], at: usize) -> bool
     }
     true
 }
-
-pub fn load(words: &[u32], at: usize) -> Row
-    requires { at + 5 ≤ length words.now }
-    ensures { five_is result ≡ five_at words.now at }
-{
-    Row::at(words, at)
-}

@@ -10,12 +10,11 @@ use Rattle.rows.specs.Ordered.{◌∈◌, lists}
 use Rattle.rows.specs.Row.{Row, row_before}
 use Rattle.rows.specs.Sets.{RowSet, listing, most_rows}
 use Rattle.rows.specs.Layout.{rows_in, formed, set_in, sound_set, written}
-use Rattle.sets.specs.Values.{insert_gives, insert_leaves, inserted_for, after_insert}
+use Rattle.sets.specs.Values.{insert_gives, insert_leaves}
 use Rattle.row_words.specs.Search.{Finds}
 use Rattle.std.proofs.Common.{Result, Ok, Err}
 use Rattle.refusals.specs.declared.Refusal.{Refusal}
 use Rattle.refusals.specs.declared.Refusal.TheVariants.{TooManyRows}
-use Rattle.sets.specs.declared.Inserted.TheVariants.{New, Known, Full}
 use Rattle.rows.proofs.Case.{Case, is_true, is_false, split, T_true}
 use Rattle.rows.proofs.Order.{row_order}
 use Rattle.rows.proofs.Ordered.{lists_iff}
@@ -64,46 +63,3 @@ module _ (ws : List ℕ) (r : Row) (f : Result ℕ ℕ) (i : ℕ) (finds : Finds
     pub new_words : (now : List ℕ) → now ≡ written (formed (get_or ws 0 0) (take i (rows_in ws) ++ (r ∷ drop i (rows_in ws)))) ws → now ≡ insert_leaves (Ok true) ws r
     unfolding insert_leaves Finds
     new_words now p = p ∙ ap (λ (xs : List Row). written (formed (get_or ws 0 0) xs) ws) (sym (subst (Finds (rows_in ws) r) e finds).2)
-
--- ---- the same answers under other names
-
-module _ (s : RowSet) (r : Row) where
-  pub new_told : Ok true ≡ insert_gives s r → New ≡ inserted_for s r
-  unfolding insert_gives inserted_for
-  new_told e = go (split (lists row_before (listing s) r)) (split (ltb (length (listing s)) most_rows))
-    where
-      go : Case (lists row_before (listing s) r) → Case (ltb (length (listing s)) most_rows) → New ≡ inserted_for s r
-      go (is_true f) g = let h = rw (f, insert_gives) at e in cc
-      go (is_false f) (is_true g) = rw (f, g, inserted_for)
-      go (is_false f) (is_false g) = let h = rw (f, g, insert_gives) at e in cc
-
-  pub known_told : Ok false ≡ insert_gives s r → Known ≡ inserted_for s r
-  unfolding insert_gives inserted_for
-  known_told e = go (split (lists row_before (listing s) r)) (split (ltb (length (listing s)) most_rows))
-    where
-      go : Case (lists row_before (listing s) r) → Case (ltb (length (listing s)) most_rows) → Known ≡ inserted_for s r
-      go (is_true f) g = rw (f, inserted_for)
-      go (is_false f) (is_true g) = let h = rw (f, g, insert_gives) at e in cc
-      go (is_false f) (is_false g) = let h = rw (f, g, insert_gives) at e in cc
-
-  pub full_told : (refusal : Refusal) → Err refusal ≡ insert_gives s r → Full ≡ inserted_for s r
-  unfolding insert_gives inserted_for
-  full_told refusal e = go (split (lists row_before (listing s) r)) (split (ltb (length (listing s)) most_rows))
-    where
-      go : Case (lists row_before (listing s) r) → Case (ltb (length (listing s)) most_rows) → Full ≡ inserted_for s r
-      go (is_true f) g = let h = rw (f, insert_gives) at e in cc
-      go (is_false f) (is_true g) = let h = rw (f, g, insert_gives) at e in cc
-      go (is_false f) (is_false g) = rw (f, g, inserted_for)
-
--- the words afterwards
-pub words_told : (new : Bool) (ws : List ℕ) (r : Row) → insert_leaves (Ok new) ws r ≡ after_insert New ws r
-unfolding insert_leaves after_insert
-words_told new ws r = refl
-
-pub known_words_told : (new : Bool) (ws : List ℕ) (r : Row) → insert_leaves (Ok new) ws r ≡ after_insert Known ws r
-unfolding insert_leaves after_insert
-known_words_told new ws r = refl
-
-pub full_words_told : (refusal : Refusal) (ws : List ℕ) (r : Row) → insert_leaves (Err refusal) ws r ≡ after_insert Full ws r
-unfolding insert_leaves after_insert
-full_words_told refusal ws r = refl

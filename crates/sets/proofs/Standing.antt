@@ -12,9 +12,9 @@ use Rattle.rows.specs.Ordered.{◌∈◌, lists, insert}
 use Rattle.rows.specs.Row.{Row, row_before}
 use Rattle.rows.specs.Sets.{RowSet, listing, most_rows}
 use Rattle.rows.specs.Layout.{form_word, set_words, written, rows_in, formed, set_in, sound_set}
-use Rattle.sets.specs.Values.{inserted_for, after_insert}
-use Rattle.sets.specs.declared.Inserted as Inserted
-use Rattle.sets.specs.declared.Inserted.TheVariants.{New, Known, Full}
+use Rattle.sets.specs.Values.{insert_gives}
+use Rattle.std.proofs.Common.{Result, Ok, Err, Bool}
+use Rattle.refusals.specs.declared.Refusal.{Refusal}
 use Rattle.rows.proofs.Case.{Case, is_true, is_false, split, never, T_true, true_T}
 use Rattle.rows.proofs.Order.{row_order}
 use Rattle.rows.proofs.Ordered.{Ascending, lists_iff, insert_ascending, insert_length}
@@ -91,34 +91,27 @@ module _ (ws : List ℕ) (r : Row) (s : sound_set ws ≡ true) where
   listed_as : lists row_before (rows_in ws) r ≡ lists row_before (listing (set_in ws)) r
   listed_as = ap (λ (xs : List Row). lists row_before xs r) (sym (listing_in ws))
 
-  module _ (o : Inserted.Inserted) (q : o ≡ inserted_for (set_in ws) r) where
-    pub inserted_few : (o ≡ Full → ⊥) → length (insert row_before r (rows_in ws)) ≤ 128
-    unfolding inserted_for
-    inserted_few n = go (split (lists row_before (listing (set_in ws)) r)) (split (ltb (length (listing (set_in ws))) most_rows))
-      where
-        go : Case (lists row_before (listing (set_in ws)) r) → Case (ltb (length (listing (set_in ws))) most_rows) → length (insert row_before r (rows_in ws)) ≤ 128
-        go (is_true l) m =
-            let i : r ∈ rows_in ws = (lists_iff row_before row_order (rows_in ws) r).0 (T_true (listed_as ∙ l)) in
-            omega (arith, (size ws s).few, ap length (insert_known row_before row_order [] (rows_in ws) r (sound_ascending ws s) i))
-        go (is_false l) (is_true m) = omega (arith, ltb-true (length (listing (set_in ws))) most_rows m, ap length (listing_in ws), insert_shorter row_before row_order r (rows_in ws))
-        go (is_false l) (is_false m) = absurd (n (q ∙ rw (l, m, inserted_for)))
+  pub inserted_few : (new : Bool) → Ok new ≡ insert_gives (set_in ws) r → length (insert row_before r (rows_in ws)) ≤ 128
+  unfolding insert_gives
+  inserted_few new q = go (split (lists row_before (listing (set_in ws)) r)) (split (ltb (length (listing (set_in ws))) most_rows))
+    where
+      go : Case (lists row_before (listing (set_in ws)) r) → Case (ltb (length (listing (set_in ws))) most_rows) → length (insert row_before r (rows_in ws)) ≤ 128
+      go (is_true l) m =
+          let i : r ∈ rows_in ws = (lists_iff row_before row_order (rows_in ws) r).0 (T_true (listed_as ∙ l)) in
+          omega (arith, (size ws s).few, ap length (insert_known row_before row_order [] (rows_in ws) r (sound_ascending ws s) i))
+      go (is_false l) (is_true m) = omega (arith, ltb-true (length (listing (set_in ws))) most_rows m, ap length (listing_in ws), insert_shorter row_before row_order r (rows_in ws))
+      go (is_false l) (is_false m) = let h = rw (l, m, insert_gives) at q in let z : ◌≡◌ {A = ℕ} 0 1 = cc in absurd (omega arith)
 
-    pub full_many : o ≡ Full → 128 < length (insert row_before r (rows_in ws))
-    unfolding inserted_for
-    full_many f = go (split (lists row_before (listing (set_in ws)) r)) (split (ltb (length (listing (set_in ws))) most_rows))
-      where
-        go : Case (lists row_before (listing (set_in ws)) r) → Case (ltb (length (listing (set_in ws))) most_rows) → 128 < length (insert row_before r (rows_in ws))
-        go (is_true l) m = let k : o ≡ Known = q ∙ rw (l, inserted_for) in let z : ◌≡◌ {A = ℕ} 0 1 = cc in absurd (omega arith)
-        go (is_false l) (is_true m) = let k : o ≡ New = q ∙ rw (l, m, inserted_for) in let z : ◌≡◌ {A = ℕ} 0 1 = cc in absurd (omega arith)
-        go (is_false l) (is_false m) = omega (
-          arith,
-          ltb-false (length (listing (set_in ws))) most_rows m,
-          ap length (listing_in ws),
-          insert_length row_before row_order r (rows_in ws) (λ i. never (true_T _ ((lists_iff row_before row_order (rows_in ws) r).1 i)) (listed_as ∙ l)),
-        )
-
-pub inserted_words : (o : Inserted.Inserted) (ws : List ℕ) (r : Row) → (o ≡ Full → ⊥) → after_insert o ws r ≡ written (formed (get_or ws 0 0) (insert row_before r (rows_in ws))) ws
-unfolding after_insert
-inserted_words New ws r n = refl
-inserted_words Known ws r n = refl
-inserted_words Full ws r n = absurd (n refl)
+  pub full_many : (x : Refusal) → Err x ≡ insert_gives (set_in ws) r → 128 < length (insert row_before r (rows_in ws))
+  unfolding insert_gives
+  full_many x q = go (split (lists row_before (listing (set_in ws)) r)) (split (ltb (length (listing (set_in ws))) most_rows))
+    where
+      go : Case (lists row_before (listing (set_in ws)) r) → Case (ltb (length (listing (set_in ws))) most_rows) → 128 < length (insert row_before r (rows_in ws))
+      go (is_true l) m = let h = rw (l, insert_gives) at q in let z : ◌≡◌ {A = ℕ} 0 1 = cc in absurd (omega arith)
+      go (is_false l) (is_true m) = let h = rw (l, m, insert_gives) at q in let z : ◌≡◌ {A = ℕ} 0 1 = cc in absurd (omega arith)
+      go (is_false l) (is_false m) = omega (
+        arith,
+        ltb-false (length (listing (set_in ws))) most_rows m,
+        ap length (listing_in ws),
+        insert_length row_before row_order r (rows_in ws) (λ i. never (true_T _ ((lists_iff row_before row_order (rows_in ws) r).1 i)) (listed_as ∙ l)),
+      )

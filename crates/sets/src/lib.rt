@@ -1,28 +1,21 @@
 // A set in words: form, count, then five words a row.
 #![tactic(auto)]
 
-pub mod listing;
+mod listing;
 
-ghost use Rattle.std.specs.Prelude.{◌≡◌, true, [], ◌∷◌, ◌++◌, ◌+◌, ◌*◌, ◌≤◌, ◌<◌, length, get_or, take, drop};
+ghost use Rattle.std.specs.Prelude.{◌≡◌, true, ◌+◌, ◌*◌, ◌≤◌, length, get_or, drop};
 ghost use Rattle.rows.specs.Sets.{has};
 ghost use Rattle.rows.specs.Ordered.{ascending};
 ghost use Rattle.rows.specs.Row.{row_before};
-ghost use Rattle.rows.specs.Layout.{pieces, every, sound_row, rows_in, formed, set_in, sound_set, written};
+ghost use Rattle.rows.specs.Layout.{pieces, every, sound_row, rows_in, set_in, sound_set, written};
 ghost use Rattle.row_words.specs.Values.{row_is};
 ghost use Rattle.row_words.specs.Search.{Finds};
-ghost use Rattle.sets.specs.Values.{inserted_for, after_insert};
 
+pub use listing::{clear, insert};
 use row_words::row::Row;
 use row_words::{row, search};
 use rows::MOST_ROWS;
 use std::cmp::Ordering;
-
-#[derive(Clone, Copy)]
-pub enum Inserted {
-    New,
-    Known,
-    Full,
-}
 
 // Is each of the `count` rows sound?
 fn sound_rows(set: &[u32], count: usize) -> bool
@@ -100,26 +93,6 @@ pub fn has(set: &[u32], row: Row) -> bool
     match find(set, &row) {
         Ok(_) => finite,
         Err(_) => !finite,
-    }
-}
-
-// Starts a set of a form, with no rows listed.
-pub fn clear(set: &mut [u32], form: u32)
-    requires { (2 ≤ length set.old) × (form ≤ 1) }
-    ensures { set.new ≡ written (formed form []) set.old }
-{
-    set[1] = 0;
-    set[0] = form;
-}
-
-pub fn insert(set: &mut [u32], row: Row) -> Inserted
-    requires { (sound_set set.old ≡ true) × (642 ≤ length set.old) × (1 ≤ row.width) × (row.width ≤ 4) }
-    ensures answer { result ≡ inserted_for (set_in set.old) (row_is row) }
-    ensures words { set.new ≡ after_insert result set.old (row_is row) }
-{
-    match listing::insert(set, row) {
-        Ok(new) => { if new { Inserted::New } else { Inserted::Known } }
-        Err(_) => Inserted::Full,
     }
 }
 
