@@ -36,6 +36,7 @@ fn roomy(answer: usize, definitions: usize, scratch: usize) -> bool
 
 /// Answers a query under a policy from the certificates in the store that hold at the minute, and the links: 20, 1 to 7, 8, 18, 11, then
 /// what is met while reading. The stores and, where it is refused, the answer area stay as they were.
+// Each slice is a parameter of its own: the contract says of each store what it holds when the call ends.
 pub fn query<'a>(
     policy: &'a [u32],
     query: &'a [u32],
