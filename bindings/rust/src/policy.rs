@@ -438,12 +438,12 @@ mod tests {
 
     #[test]
     fn the_engine_and_the_header_have_the_same_formats() {
-        let engine = include_str!("../../../crates/policy/src/lib.rt");
+        let engine = include_str!("../../../crates/policy/src/codes.rt");
         let header: Vec<&str> = include_str!("../../../include/txindurbe.h").split([' ', ',', '\n']).filter(|word| !word.is_empty()).collect();
         for (constant, format) in [("EQUAL_WIDTHS", Format::EqualWidths), ("WIDER_ROWS", Format::WiderRows)] {
             let number = (format as u32).to_string();
             assert_eq!(Format::from_number(format as u32), Some(format));
-            assert!(engine.lines().any(|line| line == format!("pub const {constant}: u32 = {number};")), "the engine's {constant}");
+            assert!(engine.lines().any(|line| line == format!("    {format:?} = {number},")), "the engine's {format:?}");
             assert!(header.windows(3).any(|words| words == [&format!("TXB_{constant}"), "=", &number]), "the header's {constant}");
         }
     }

@@ -183,9 +183,16 @@ impl std::error::Error for Refusal {}
 mod tests {
     use super::*;
 
-    /// BAD_HEADER as BadHeader.
-    fn as_variant(constant: &str) -> String {
-        constant.split('_').map(|word| word[..1].to_string() + &word[1..].to_lowercase()).collect()
+    /// BadHeader as BAD_HEADER.
+    fn as_constant(variant: &str) -> String {
+        let mut constant = String::new();
+        for letter in variant.chars() {
+            if letter.is_uppercase() && !constant.is_empty() {
+                constant.push('_');
+            }
+            constant.push(letter.to_ascii_uppercase());
+        }
+        constant
     }
 
     /// Those that come with a part are given the query.
@@ -197,25 +204,34 @@ mod tests {
     fn refusals_and_header_have_the_engines_words_and_numbers() {
         let engine = include_str!("../../../crates/refusals/src/lib.rt");
         let header: Vec<&str> = include_str!("../../../include/txindurbe.h").split([' ', ',', '\n']).filter(|word| !word.is_empty()).collect();
-        let constants = engine.lines().filter_map(|line| line.strip_prefix("pub const ")?.strip_suffix(';')?.split_once(": u32 = "));
+        let in_header = |constant: &str, number: &str| header.windows(3).any(|words| words == [&format!("TXB_{constant}"), "=", number]);
+        let (_, behind) = engine.split_once("pub enum Refusal {").expect("the engine has refusals");
+        let (variants, _) = behind.split_once('}').expect("they end");
         let mut refusals = 0;
+        for (variant, number) in variants.lines().filter_map(|line| line.trim().strip_suffix(',')?.split_once(" = ")) {
+            assert!(in_header(&as_constant(variant), number), "the header's {variant}");
+            let number = number.parse().expect("each has a number");
+            let refusal = of_number(number).expect("each has a refusal");
+            assert_eq!((format!("{refusal:?}").replace("(Query)", ""), refusal.number()), (variant.to_string(), number));
+            refusals += 1;
+        }
+        assert_eq!((0..1_000).filter_map(of_number).count(), refusals);
+        let constants = engine.lines().filter_map(|line| line.strip_prefix("pub const ")?.strip_suffix(';')?.split_once(": u32 = "));
+        let mut parts = 0;
         for (constant, number) in constants {
-            assert!(header.windows(3).any(|words| words == [&format!("TXB_{constant}"), "=", number]), "the header's {constant}");
+            assert!(in_header(constant, number), "the header's {constant}");
             let number = number.parse().expect("constants are numbers");
             match constant {
                 "QUERY_PART" => assert_eq!((Part::from_number(number), Part::Query.number()), (Some(Part::Query), number)),
                 "NO_PART" => assert_eq!((Part::from_number(number), NO_PART), (None, number)),
-                _ => {
-                    let refusal = of_number(number).expect("each has a refusal");
-                    assert_eq!((format!("{refusal:?}").replace("(Query)", ""), refusal.number()), (as_variant(constant), number));
-                    refusals += 1;
-                }
+                _ => panic!("{constant} is no part"),
             }
+            parts += 1;
         }
-        assert_eq!((0..1_000).filter_map(of_number).count(), refusals);
+        assert_eq!((refusals, parts), (20, 2));
     }
 
-    /// 3 to 7 and 12 to 14, as document 01's table says: with 1, 2, 8, 11 and every number above 14 there is no part.
+    /// 3 to 7 and 12 to 14 come with a part; with 1, 2, 8, 11 and every number above 14 there is none.
     #[test]
     fn some_refusals_come_with_a_part() {
         for number in 1..=20 {
