@@ -4,18 +4,18 @@ use lib.Dec.{ltb}
 use lib.Seq.{get_or-drop, get_or-take}
 use borrow.Author.Tests.{ltb-true, ltb-false}
 use Rattle.std.specs.List.{list_any, prefix_len}
-use Rattle.std.specs.List.Sorted.{IsPartitionedBy, IsPartitionPoint}
+use Rattle.std.specs.List.Sorted.{IsPartitionPoint}
 use Rattle.std.proofs.lemmas.List.{get_or_default, length-drop}
 use Rattle.std.proofs.lemmas.List.Folds.{list_any_at, length-prefix_len}
 use Rattle.std.proofs.lemmas.List.Sums.{prefix_len_passes, prefix_len_stops, prefix_len-le-length}
 use Rattle.rows.specs.Ordered.{◌∈◌, tied}
 use Rattle.rows.specs.Row.{Row, row_before}
 use Rattle.rows.proofs.Case.{Case, is_true, is_false, split, never, T_true, true_T}
-use Rattle.rows.proofs.Order.{row_order, least_then_less}
+use Rattle.rows.proofs.Order.{row_order}
 use Rattle.rows.proofs.Ordered.{same_iff}
 use Rattle.rows.proofs.Place.{lists_not, lists-∈}
 use Rattle.certificates.specs.Certificate.{record_row, holds_at}
-use Rattle.read_held.specs.Held.{Records, row_at, rows_held, SayFound}
+use Rattle.read_held.specs.Held.{Records, row_at, rows_held, RowStart, SayFound}
 use Rattle.read_held.proofs.Holding.{rows_has, rows_from}
 
 -- a row is told by the order: neither comes before the other
@@ -43,15 +43,26 @@ module _ {rs : List (List ℕ)} (records : Records rs) (x : Row) where
   abbrev pub its : List ℕ → Bool
   its w = tied row_before (record_row w) x
 
-  pub rows_parted : IsPartitionedBy earlier rs
-  rows_parted i j d h l e = ap earlier (get_or_default rs i d [] (omega arith)) ∙ go (split (ltb i j))
-    where
-      there : row_before (row_at rs j) x ≡ true
-      there = ap earlier (get_or_default rs j [] d l) ∙ e
+  pub none_found : (minute : ℕ) → ((l : ℕ) → l < length rs → row_at rs l ≡ x → ⊥) → SayFound minute rs x false
+  none_found minute none = record {
+    means = lists_not row_before row_order [] (rows_held minute rs) x (λ m. let f = rows_from minute rs x m in none f.0 f.1 (sym f.2));
+  }
 
-      go : Case (ltb i j) → row_before (row_at rs i) x ≡ true
-      go (is_true t) = least_then_less row_order (row_at rs i) (row_at rs j) x (records.climb i j (ltb-true i j t) l) there
-      go (is_false t) = let q : j ≡ i = omega (arith, ltb-false i j t) in subst (λ (k : ℕ). row_before (row_at rs k) x ≡ true) q there
+  pub one_holds : (minute i : ℕ) → i < length rs → row_at rs i ≡ x → holds_at minute (get_or rs i []) ≡ true → SayFound minute rs x true
+  one_holds minute i h e t = record {
+    means = lists-∈ row_before row_order [] (rows_held minute rs) x (subst (λ (y : Row). y ∈ rows_held minute rs) e (rows_has minute rs i h t));
+  }
+
+  -- where the records of the row begin
+  pub row_begins : {i start : ℕ} → i < length rs → row_at rs i ≡ x → RowStart rs i start → IsPartitionPoint (λ w. earlier w ≡ true) (λ w. earlier w ≡ false) rs start
+  row_begins {i} {start} less e s = (
+    λ l d h k. let few = s.few in ap earlier (get_or_default rs l d [] (omega arith)) ∙ ap (row_before (row_at rs l)) (sym e) ∙ s.earlier l k,
+    λ l d h k. ap earlier (get_or_default rs l d [] k) ∙ ap (row_before (row_at rs l)) (sym (s.alike start (omega arith) s.few ∙ e)) ∙ onward l k h (split (ltb start l)),
+  )
+    where
+      onward : (l : ℕ) → l < length rs → start ≤ l → Case (ltb start l) → row_before (row_at rs l) (row_at rs start) ≡ false
+      onward l h k (is_true t) = records.climb start l (ltb-true start l t) h
+      onward l h k (is_false t) = let q : l ≡ start = omega (arith, ltb-false start l t) in ap (λ (n : ℕ). row_before (row_at rs n) (row_at rs start)) q ∙ row_order.irreflexive (row_at rs start)
 
   module _ (minute : ℕ) (start : ℕ) (bound : start ≤ length rs) (point : IsPartitionPoint (λ w. earlier w ≡ true) (λ w. earlier w ≡ false) rs start) where
     abbrev rest : List (List ℕ)
