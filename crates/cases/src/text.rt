@@ -34,7 +34,9 @@ impl<'a> Iterator for Lines<'a> {
 }
 
 // The digit that a byte is, and 10 for any other byte.
-fn digit(byte: u8) -> u32 {
+fn digit(byte: u8) -> u32
+    ensures { result ≤ 10 }
+{
     char::from(byte).to_digit(10).unwrap_or(10)
 }
 
