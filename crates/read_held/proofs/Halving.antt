@@ -1,5 +1,5 @@
--- A search by halving among a name's records, the first record of a row, and whether two records have one row.
-use Rattle.std.proofs.Common.{ℕ, ◌≡◌, ◌≢◌, ◌-◌, ◌+◌, ◌≤◌, ◌<◌, true, false, List, [], length, get_or, take, drop, sym, ◌∙◌, ap, subst, arith, None, Some}
+-- A search by halving among a name's records, the records of one row, and whether two records have one row.
+use Rattle.std.proofs.Common.{ℕ, ◌≡◌, ◌≢◌, ◌-◌, ◌+◌, ◌≤◌, ◌<◌, true, false, List, [], length, get_or, take, drop, refl, sym, ◌∙◌, ap, subst, arith, None, Some}
 use lib.Dec.{ltb}
 use lib.Seq.{take_all, get_or-take, get_or-drop}
 use borrow.Author.Tests.{ltb-true, ltb-false}
@@ -13,9 +13,9 @@ use Rattle.rows.proofs.LayoutLaws.{row_written}
 use Rattle.row_words.specs.Values.{ordering_for}
 use Rattle.row_words.proofs.Orderings.{less_before, equal_same, greater_after}
 use Rattle.row_words.proofs.RowLaws.{sound_narrow, front_next}
-use Rattle.certificates.specs.Certificate.{record_row, sound_record}
+use Rattle.certificates.specs.Certificate.{record_row, sound_record, holds_at}
 use Rattle.certificates.proofs.Sound.{sound_record_lem, five_long}
-use Rattle.read_held.specs.Held.{Records, row_at, SayRecord, RowStart}
+use Rattle.read_held.specs.Held.{Records, row_at, SayRecord, SayBeside}
 
 -- a sound record's row is written as its words say: its unused atoms are 0
 words_of : (w : List ℕ) → sound_record w ≡ true → five_at w 3 ≡ row_words (record_row w)
@@ -54,10 +54,16 @@ pub record Halving (rs : List (List ℕ)) (x : Row) (low high : ℕ) : Type 0 wh
   pub before : (l : ℕ) → l < low → row_before (row_at rs l) x ≡ true
   pub behind : (l : ℕ) → high ≤ l → l < length rs → row_before x (row_at rs l) ≡ true
 
--- the rows from j up to i are those of record i
-pub record Returning (rs : List (List ℕ)) (i j : ℕ) : Type 0 where
+-- the rows from j up to i are those of record i, and of these records none before it holds
+pub record Before (minute : ℕ) (rs : List (List ℕ)) (i j : ℕ) : Type 0 where
   pub few : j ≤ i
   pub alike : (l : ℕ) → j ≤ l → l ≤ i → row_at rs l ≡ row_at rs i
+  pub none : (l : ℕ) → j ≤ l → l < i → holds_at minute (get_or rs l []) ≡ false
+
+-- none of the records behind record i up to j holds, and all have its row
+pub record Behind (minute : ℕ) (rs : List (List ℕ)) (i j : ℕ) : Type 0 where
+  pub alike : (l : ℕ) → i ≤ l → l < j → row_at rs l ≡ row_at rs i
+  pub none : (l : ℕ) → i < l → l < j → holds_at minute (get_or rs l []) ≡ false
 
 module _ {rs : List (List ℕ)} (records : Records rs) where
   pub row_narrow : (i : ℕ) → i < length rs → get_or (get_or rs i []) 3 0 ≤ 4
@@ -101,34 +107,88 @@ module _ {rs : List (List ℕ)} (records : Records rs) where
         go (is_true t) = never (s.before l (ltb-true l low t)) (ap (λ y. row_before y x) e ∙ row_order.irreflexive x)
         go (is_false t) = never (s.behind l (omega (arith, ltb-false l low t)) h) (ap (row_before x) e ∙ row_order.irreflexive x)
 
-  -- ---- the first record of a row
+  -- ---- the records of a row beside one of them
 
-  pub returning_start : {i : ℕ} → Returning rs i i
-  returning_start {i} = record { few = omega arith; alike = λ l h k. let e : l ≡ i = omega arith in ap (row_at rs) e }
+  -- of two records with other rows the earlier one's comes before
+  apart : {i j : ℕ} → i < j → j < length rs → row_at rs j ≢ row_at rs i → row_before (row_at rs i) (row_at rs j) ≡ true
+  apart {i} {j} less inside differ = go (split (row_before (row_at rs i) (row_at rs j)))
+    where
+      go : Case (row_before (row_at rs i) (row_at rs j)) → row_before (row_at rs i) (row_at rs j) ≡ true
+      go (is_true t) = t
+      go (is_false t) = absurd (differ (row_order.total (row_at rs j) (row_at rs i) (records.climb i j less inside) t))
 
-  module _ {i j : ℕ} (less : i < length rs) (p : Returning rs i j) where
-    pub returning_next : 0 < j → row_at rs (j - 1) ≡ row_at rs i → Returning rs i (j - 1)
-    returning_next h e = let f = p.few in record { few = omega arith; alike = λ l m k. go l m k (split (ltb l j)) }
+  pub before_start : (minute i : ℕ) → Before minute rs i i
+  before_start minute i = record {
+    few = omega arith;
+    alike = λ l h k. let e : l ≡ i = omega arith in ap (row_at rs) e;
+    none = λ l h k. absurd (omega arith);
+  }
+
+  module _ {minute i j : ℕ} (inside : i < length rs) (s : Before minute rs i j) where
+    pub before_next : 0 < j → row_at rs (j - 1) ≡ row_at rs i → holds_at minute (get_or rs (j - 1) []) ≡ false → Before minute rs i (j - 1)
+    before_next h e f = let k = s.few in record { few = omega arith; alike = λ l m n. same l m n (split (ltb l j)); none = λ l m n. not l m n (split (ltb l j)) }
       where
-        go : (l : ℕ) → j - 1 ≤ l → l ≤ i → Case (ltb l j) → row_at rs l ≡ row_at rs i
-        go l m k (is_true t) = let q : l ≡ j - 1 = omega (arith, ltb-true l j t) in ap (row_at rs) q ∙ e
-        go l m k (is_false t) = p.alike l (ltb-false l j t) k
+        same : (l : ℕ) → j - 1 ≤ l → l ≤ i → Case (ltb l j) → row_at rs l ≡ row_at rs i
+        same l m n (is_true t) = let q : l ≡ j - 1 = omega (arith, ltb-true l j t) in ap (row_at rs) q ∙ e
+        same l m n (is_false t) = s.alike l (ltb-false l j t) n
 
-    pub starts_first : j ≤ 0 → RowStart rs i j
-    starts_first h = record { few = p.few; alike = p.alike; earlier = λ l k. absurd (omega arith) }
+        not : (l : ℕ) → j - 1 ≤ l → l < i → Case (ltb l j) → holds_at minute (get_or rs l []) ≡ false
+        not l m n (is_true t) = let q : l ≡ j - 1 = omega (arith, ltb-true l j t) in ap (λ (k : ℕ). holds_at minute (get_or rs k [])) q ∙ f
+        not l m n (is_false t) = s.none l (ltb-false l j t) n
 
-    pub starts_here : 0 < j → row_at rs (j - 1) ≢ row_at rs i → RowStart rs i j
-    starts_here h n = record { few = p.few; alike = p.alike; earlier = λ l k. back l k (split (ltb l (j - 1))) }
+    pub before_end : j ≤ 0 → SayBeside minute rs i 0 i false
+    before_end h = record { some = λ e. never refl (sym e); none = λ e l m n r. s.none l (omega arith) n }
+
+    pub before_other : 0 < j → row_at rs (j - 1) ≢ row_at rs i → SayBeside minute rs i 0 i false
+    before_other h differ = record { some = λ e. never refl (sym e); none = λ e l m n r. go l n r (split (ltb l j)) }
       where
-        next : row_before (row_at rs (j - 1)) (row_at rs i) ≡ true
-        next = let f = p.few in let l : j - 1 < i = omega arith in apart (records.climb (j - 1) i l less) (split (row_before (row_at rs (j - 1)) (row_at rs i)))
-          where
-            apart : row_before (row_at rs i) (row_at rs (j - 1)) ≡ false → Case (row_before (row_at rs (j - 1)) (row_at rs i)) → row_before (row_at rs (j - 1)) (row_at rs i) ≡ true
-            apart c (is_true t) = t
-            apart c (is_false t) = absurd (n (row_order.total (row_at rs (j - 1)) (row_at rs i) t c))
+        last : row_before (row_at rs (j - 1)) (row_at rs i) ≡ true
+        last = let k = s.few in let less : j - 1 < i = omega arith in apart less inside (λ e. differ (sym e))
 
-        back : (l : ℕ) → l < j → Case (ltb l (j - 1)) → row_before (row_at rs l) (row_at rs i) ≡ true
-        back l k (is_true t) =
-            let f = p.few in
-            least_then_less row_order (row_at rs l) (row_at rs (j - 1)) (row_at rs i) (records.climb l (j - 1) (ltb-true l (j - 1) t) (omega arith)) next
-        back l k (is_false t) = let q : j - 1 ≡ l = omega (arith, ltb-false l (j - 1) t) in subst (λ (n : ℕ). row_before (row_at rs n) (row_at rs i) ≡ true) q next
+        earlier : (l : ℕ) → l < j → Case (ltb l (j - 1)) → row_before (row_at rs l) (row_at rs i) ≡ true
+        earlier l k (is_true t) =
+            let f = s.few in
+            least_then_less row_order (row_at rs l) (row_at rs (j - 1)) (row_at rs i) (records.climb l (j - 1) (ltb-true l (j - 1) t) (omega arith)) last
+        earlier l k (is_false t) = let q : j - 1 ≡ l = omega (arith, ltb-false l (j - 1) t) in subst (λ (n : ℕ). row_before (row_at rs n) (row_at rs i) ≡ true) q last
+
+        go : (l : ℕ) → l < i → row_at rs l ≡ row_at rs i → Case (ltb l j) → holds_at minute (get_or rs l []) ≡ false
+        go l n r (is_true t) = never (earlier l (ltb-true l j t) (split (ltb l (j - 1)))) (ap (λ y. row_before y (row_at rs i)) r ∙ row_order.irreflexive (row_at rs i))
+        go l n r (is_false t) = s.none l (ltb-false l j t) n
+
+  pub behind_start : (minute i : ℕ) → Behind minute rs i (i + 1)
+  behind_start minute i = record {
+    alike = λ l h k. let e : l ≡ i = omega arith in ap (row_at rs) e;
+    none = λ l h k. absurd (omega arith);
+  }
+
+  module _ {minute i j : ℕ} (less : i < j) (s : Behind minute rs i j) where
+    pub behind_next : row_at rs j ≡ row_at rs i → holds_at minute (get_or rs j []) ≡ false → Behind minute rs i (j + 1)
+    behind_next e f = record { alike = λ l m n. same l m n (split (ltb l j)); none = λ l m n. not l m n (split (ltb l j)) }
+      where
+        same : (l : ℕ) → i ≤ l → l < j + 1 → Case (ltb l j) → row_at rs l ≡ row_at rs i
+        same l m n (is_true t) = s.alike l m (ltb-true l j t)
+        same l m n (is_false t) = let q : l ≡ j = omega (arith, ltb-false l j t) in ap (row_at rs) q ∙ e
+
+        not : (l : ℕ) → i < l → l < j + 1 → Case (ltb l j) → holds_at minute (get_or rs l []) ≡ false
+        not l m n (is_true t) = s.none l m (ltb-true l j t)
+        not l m n (is_false t) = let q : l ≡ j = omega (arith, ltb-false l j t) in ap (λ (k : ℕ). holds_at minute (get_or rs k [])) q ∙ f
+
+    pub behind_end : length rs ≤ j → SayBeside minute rs i (i + 1) (length rs) false
+    behind_end h = record { some = λ e. never refl (sym e); none = λ e l m n r. s.none l (omega arith) (omega arith) }
+
+    pub behind_other : j < length rs → row_at rs j ≢ row_at rs i → SayBeside minute rs i (i + 1) (length rs) false
+    behind_other h differ = record { some = λ e. never refl (sym e); none = λ e l m n r. go l m n r (split (ltb l j)) }
+      where
+        first : row_before (row_at rs i) (row_at rs j) ≡ true
+        first = apart less h differ
+
+        later : (l : ℕ) → j ≤ l → l < length rs → Case (ltb j l) → row_before (row_at rs i) (row_at rs l) ≡ true
+        later l k n (is_true t) = less_then_least row_order (row_at rs i) (row_at rs j) (row_at rs l) first (records.climb j l (ltb-true j l t) n)
+        later l k n (is_false t) = let q : j ≡ l = omega (arith, ltb-false j l t) in subst (λ (m : ℕ). row_before (row_at rs i) (row_at rs m) ≡ true) q first
+
+        go : (l : ℕ) → i + 1 ≤ l → l < length rs → row_at rs l ≡ row_at rs i → Case (ltb l j) → holds_at minute (get_or rs l []) ≡ false
+        go l m n r (is_true t) = s.none l (omega arith) (ltb-true l j t)
+        go l m n r (is_false t) = never (later l (ltb-false l j t) n (split (ltb j l))) (ap (λ y. row_before (row_at rs i) y) r ∙ row_order.irreflexive (row_at rs i))
+
+  pub beside_held : {minute i from end l : ℕ} → l < length rs → row_at rs l ≡ row_at rs i → holds_at minute (get_or rs l []) ≡ true → SayBeside minute rs i from end true
+  beside_held {l = l} h e t = record { some = λ q. (l, h, e, t); none = λ q. never refl q }

@@ -36,11 +36,10 @@ abbrev pub SayRecord : List (List ℕ) → Row → Option ℕ → Type 0
 SayRecord rs x None = (l : ℕ) → l < length rs → row_at rs l ≡ x → ⊥
 SayRecord rs x (Some i) = (i < length rs) × (row_at rs i ≡ x)
 
--- the records of record i's row begin at `start`: all before it have earlier rows
-pub record RowStart (rs : List (List ℕ)) (i start : ℕ) : Type 0 where
-  pub few : start ≤ i
-  pub alike : (l : ℕ) → start ≤ l → l ≤ i → row_at rs l ≡ row_at rs i
-  pub earlier : (l : ℕ) → l < start → row_before (row_at rs l) (row_at rs i) ≡ true
+-- whether one of the records from `from` up to, but without, `end` holds that have record i's row
+pub record SayBeside (minute : ℕ) (rs : List (List ℕ)) (i from end : ℕ) (r : Bool) : Type 0 where
+  pub some : r ≡ true → (l : ℕ) × (l < length rs) × (row_at rs l ≡ row_at rs i) × (holds_at minute (get_or rs l []) ≡ true)
+  pub none : r ≡ false → (l : ℕ) → from ≤ l → l < end → row_at rs l ≡ row_at rs i → holds_at minute (get_or rs l []) ≡ false
 
 -- whether the row is among those that hold
 pub record SayFound (minute : ℕ) (rs : List (List ℕ)) (x : Row) (r : Bool) : Type 0 where

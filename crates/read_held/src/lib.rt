@@ -1,12 +1,12 @@
 // Of a name's records those that hold at a minute, and their rows. The records are in order by the row, so that those of one row stand side by side.
 #![tactic(auto)]
 
-ghost use Rattle.std.specs.Prelude.{◌≤◌, ◌<◌, ◌≡◌, ◌↔◌, IsTrue, MatchOption, MatchResult, length, get_or, true, false};
+ghost use Rattle.std.specs.Prelude.{◌+◌, ◌≤◌, ◌<◌, ◌≡◌, ◌↔◌, IsTrue, MatchOption, MatchResult, length, get_or, true, false};
 ghost use Rattle.rows.specs.Layout.{set_room};
 ghost use Rattle.rows.specs.Sets.{most_rows};
 ghost use Rattle.row_words.specs.Values.{row_is};
 ghost use Rattle.certificates.specs.Certificate.{sound_record, record_row, holds_at};
-ghost use Rattle.read_held.specs.Held.{Records, rows_held, TooMany, Copied, SayRecord, RowStart, SayFound};
+ghost use Rattle.read_held.specs.Held.{Records, rows_held, TooMany, Copied, SayRecord, SayBeside, SayFound};
 
 use certificates::{RECORD_WORDS, ROW_IN_RECORD, TERM_IN_RECORD};
 use refusals::Refusal;
@@ -25,20 +25,6 @@ pub fn holds(held: &Record, minute: u32) -> bool
     ensures { result ≡ holds_at minute held.now }
 {
     held[TERM_IN_RECORD] <= minute && minute < held[TERM_IN_RECORD + 1]
-}
-
-/// The atoms of its row.
-pub fn row_of(held: &Record) -> &[u32]
-    ensures { result.now ≡ record_row held.now }
-{
-    let width = held[ROW_IN_RECORD].min(4) as usize;
-    &held[ROW_IN_RECORD + 1..ROW_IN_RECORD + 1 + width]
-}
-
-fn has_row(held: &Record, row: &[u32]) -> bool
-    ensures { IsTrue result ↔ (record_row held.now ≡ row.now) }
-{
-    row_of(held) == row
 }
 
 // Are the rows of two records the same? Their first atoms mostly tell.
@@ -139,22 +125,41 @@ fn find_record(records: &[Record], row: &Row) -> Option<usize>
     None
 }
 
-// The first record of record `i`'s row.
-fn row_start(records: &[Record], i: usize) -> usize
+// Does one of the records before record `i` hold that have its row?
+fn held_before(records: &[Record], minute: u32, i: usize) -> bool
     requires { Records records.now × (i < length records.now) }
-    ensures { RowStart records.now i result }
+    ensures { SayBeside minute records.now i 0 i result }
 {
-    let mut start = i;
-    while 0 < start {
-        if !same_row(&records[start - 1], &records[i]) {
-            return start;
+    let mut j = i;
+    while 0 < j {
+        j -= 1;
+        if !same_row(&records[j], &records[i]) {
+            return false;
         }
-        start -= 1;
+        if holds(&records[j], minute) {
+            return true;
+        }
     }
-    start
+    false
 }
 
-/// Is the row among those that hold? The record that is found mostly tells; where it does not hold, all records of the row are asked.
+// Does one of the records behind record `i` hold that have its row?
+fn held_behind(records: &[Record], minute: u32, i: usize) -> bool
+    requires { Records records.now × (i < length records.now) }
+    ensures { SayBeside minute records.now i (i + 1) (length records.now) result }
+{
+    for j in i + 1..records.len() {
+        if !same_row(&records[j], &records[i]) {
+            return false;
+        }
+        if holds(&records[j], minute) {
+            return true;
+        }
+    }
+    false
+}
+
+/// Is the row among those that hold? The record that is found mostly tells; where it does not hold, those of the row beside it are asked.
 pub fn is_held(records: &[Record], minute: u32, row: &Row) -> bool
     requires { Records records.now × (row.now.width ≤ 4) }
     ensures { SayFound minute records.now (row_is row.now) result }
@@ -165,9 +170,8 @@ pub fn is_held(records: &[Record], minute: u32, row: &Row) -> bool
     if holds(&records[found], minute) {
         return true;
     }
-    let sought = row_of(&records[found]);
-    records[row_start(records, found)..]
-        .iter()
-        .take_while(|held| has_row(held, sought))
-        .any(|held| holds(held, minute))
+    if held_before(records, minute, found) {
+        return true;
+    }
+    held_behind(records, minute, found)
 }
