@@ -1,9 +1,8 @@
 // The lines of a text, and the words in their cells.
-ghost use Rattle.std.specs.Prelude.{◌<◌, ◌≤◌, ◌≡◌, length, vec_len, IfOk, IsSome, IsNone};
+ghost use Rattle.std.specs.Prelude.{◌<◌, ◌≤◌, ◌≡◌, length, IsSome, IsNone};
 ghost use Rattle.std.specs.Iterator.{at_most};
 
 use rows::FIRST_KEY;
-use std::alloc::{AllocError, Global};
 
 /// A text from some place on.
 #[derive(Clone, Copy, Debug)]
@@ -43,81 +42,80 @@ fn ends_cell(byte: u8) -> bool {
     byte == b'|' || byte == b'\n'
 }
 
-// The words that were read, where the latest group begins among them, and which word of that group counts up.
+// The words that were read stand at the front of those that are lent: how many, where the latest group begins among them, and which word of that
+// group counts up.
 #[derive(Debug, Drop)]
-struct Reading {
-    words: Vec<u32>,
-    most: usize,
+struct Reading<'a> {
+    words: &'a mut [u32],
+    count: usize,
     group: usize,
     rising: Option<usize>,
-    ghost few: { vec_len words ≤ most },
-    ghost inside: { group ≤ vec_len words },
+    ghost few: { count ≤ length words.now },
+    ghost inside: { group ≤ count },
 }
 
-impl Reading {
-    fn new(alloc: Global, most: usize) -> Self
-        ensures { result.most ≡ most }
+impl<'a> Reading<'a> {
+    fn new(words: &'a mut [u32]) -> Self
+        ensures { length result.words.now ≡ length words.old }
     {
         Reading {
-            words: Vec::new(alloc),
-            most,
+            words,
+            count: 0,
             group: 0,
             rising: None,
         }
     }
 
     fn start_group(&mut self)
-        ensures { self.new.most ≡ self.old.most }
+        ensures room { length self.new.words.now ≡ length self.old.words.now }
+        ensures count { self.new.count ≡ self.old.count }
     {
-        self.group = self.words.len();
+        self.group = self.count;
         self.rising = None;
     }
 
     // The word that is put in next is the one of its group that counts up.
     fn raise_next(&mut self)
-        ensures { self.new.most ≡ self.old.most }
+        ensures room { length self.new.words.now ≡ length self.old.words.now }
+        ensures count { self.new.count ≡ self.old.count }
     {
-        self.rising = Some(self.words.len() - self.group);
-    }
-
-    fn into_words(self) -> Vec<u32>
-        ensures { vec_len result ≤ self.most }
-    {
-        self.words
+        self.rising = Some(self.count - self.group);
     }
 
     // Puts a word in so many times, as far as there is room.
-    fn put(&mut self, word: u32, times: u32) -> Result<(), AllocError>
-        ensures { self.new.most ≡ self.old.most }
+    fn put(&mut self, word: u32, times: u32)
+        ensures room { length self.new.words.now ≡ length self.old.words.now }
+        ensures count { self.old.count ≤ self.new.count }
     {
-        let count = self
-            .words
-            .len()
+        let end = self
+            .count
             .saturating_add(times as usize)
-            .min(self.most);
-        self.words.resize(count, word)
+            .min(self.words.len());
+        self.words[self.count..end].fill(word);
+        self.count = end;
     }
 
     // Puts the latest group in until it stands so many times, each time with the word that counts up one higher, as far as there is room.
-    fn repeat_group(&mut self, alloc: Global, times: u32) -> Result<(), AllocError>
-        ensures { self.new.most ≡ self.old.most }
+    fn repeat_group(&mut self, times: u32)
+        ensures room { length self.new.words.now ≡ length self.old.words.now }
+        ensures count { self.old.count ≤ self.new.count }
     {
-        let group = self.words[self.group..].to_vec(alloc)?;
+        let (group, end) = (self.group, self.count);
         for higher in 1..times {
-            if self.words.len() == self.most {
+            if self.count == self.words.len() {
                 break;
             }
-            for (i, word) in group.iter().enumerate() {
-                let word = if self.rising == Some(i) {
+            for i in group..end {
+                let word = self.words[i];
+                let word = if self.rising == Some(i - group) {
                     word.wrapping_add(higher)
                 } else {
-                    *word
+                    word
                 };
-                self.put(word, 1)?;
+                self.put(word, 1);
             }
         }
         self.start_group();
-        Ok(())
     }
 }
 
@@ -199,11 +197,12 @@ impl<'a> Text<'a> {
         }
     }
 
-    /// The words up to a bar or the line's end, but no more than `most`. It goes to what ended them.
-    pub fn words(&mut self, alloc: Global, most: usize) -> Result<Vec<u32>, AllocError>
-        ensures { IfOk result (λ words. vec_len words ≤ most) }
+    /// Writes the words up to a bar or the line's end over the first of these, as far as there is room, and returns how many it wrote. It goes to
+    /// what ended them.
+    pub fn words_over(&mut self, words: &mut [u32]) -> usize
+        ensures { result ≤ length words.new }
     {
-        let mut read = Reading::new(alloc, most);
+        let mut read = Reading::new(words);
         // A loop: a step goes past one byte, or past a whole word or the count of a group, which no iterator of bytes does.
         while let Some((first, behind)) = self.rest.split_first() {
             match *first {
@@ -214,30 +213,33 @@ impl<'a> Text<'a> {
                 }
                 b')' => {
                     self.rest = behind;
-                    read.repeat_group(alloc, self.number_after(b'*').unwrap_or(1))?;
+                    read.repeat_group(self.number_after(b'*').unwrap_or(1));
                 }
                 b'k' | b'0'..=b'9' => {
                     let word = self.word();
                     if self.rest.first() == Some(&b'.') {
                         read.raise_next();
                     }
-                    read.put(word, self.number_after(b'*').unwrap_or(1))?;
+                    read.put(word, self.number_after(b'*').unwrap_or(1));
                 }
                 _ => self.rest = behind,
             }
         }
-        Ok(read.into_words())
+        read.count
     }
 
-    /// Writes the words up to a bar or the line's end over the first of these, as far as there is room.
-    pub fn words_over(&mut self, alloc: Global, words: &mut [u32]) -> Result<(), AllocError> {
-        let read = self.words(alloc, words.len())?;
-        words[..read.len()].copy_from_slice(&read);
-        Ok(())
+    /// The words up to a bar or the line's end, as far as there is room for them. It goes to what ended them.
+    pub fn words<'w>(&mut self, room: &'w mut [u32]) -> &'w [u32]
+        ensures { length result.now ≤ length room.old }
+    {
+        let count = self.words_over(room);
+        &room[..count]
     }
 
     /// The first word of this cell, or 0.
-    pub fn first_word(mut self, alloc: Global) -> Result<u32, AllocError> {
-        Ok(self.words(alloc, 1)?.first().copied().unwrap_or(0))
+    pub fn first_word(mut self) -> u32 {
+        let mut words = [0];
+        self.words_over(&mut words);
+        words[0]
     }
 }
