@@ -1,6 +1,7 @@
 // The lines of a text, and the words in their cells.
-ghost use Rattle.std.specs.Prelude.{◌<◌, ◌≤◌, ◌≡◌, length, IsSome, IsNone};
+ghost use Rattle.std.specs.Prelude.{◌<◌, ◌≤◌, ◌≡◌, ◌++◌, drop, length, true, false, IsSome, IsNone};
 ghost use Rattle.std.specs.Iterator.{at_most};
+ghost use Rattle.cases.specs.Rear.{IsRear};
 
 use rows::FIRST_KEY;
 
@@ -33,7 +34,9 @@ impl<'a> Iterator for Lines<'a> {
 }
 
 // The digit that a byte is, and 10 for any other byte.
-fn digit(byte: u8) -> u32 {
+fn digit(byte: u8) -> u32
+    ensures { result ≤ 10 }
+{
     char::from(byte).to_digit(10).unwrap_or(10)
 }
 
@@ -120,16 +123,23 @@ impl<'a> Reading<'a> {
 }
 
 impl<'a> Text<'a> {
-    pub fn new(text: &'a [u8]) -> Self {
+    pub fn new(text: &'a [u8]) -> Self
+        ensures { result.rest.now ≡ text.now }
+    {
         Text { rest: text }
     }
 
-    pub fn lines(self) -> Lines<'a> {
+    pub fn lines(self) -> Lines<'a>
+        ensures { result.rest.now ≡ self.entry.rest.now }
+    {
         Lines { rest: self.rest }
     }
 
     /// Goes past these bytes, if they stand here.
-    pub fn passes(&mut self, bytes: &[u8]) -> bool {
+    pub fn passes(&mut self, bytes: &[u8]) -> bool
+        ensures yes { result ≡ true → self.old.rest.now ≡ bytes.now ++ self.new.rest.now }
+        ensures no { result ≡ false → self.new ≡ self.old }
+    {
         let Some(rest) = self.rest.strip_prefix(bytes) else {
             return false;
         };
@@ -138,14 +148,18 @@ impl<'a> Text<'a> {
     }
 
     /// Goes past one byte, if there is one: what ended a cell.
-    pub fn skip(&mut self) {
+    pub fn skip(&mut self)
+        ensures { self.new.rest.now ≡ drop 1 self.old.rest.now }
+    {
         if let Some((_, rest)) = self.rest.split_first() {
             self.rest = rest;
         }
     }
 
     /// Goes to the bar or the line's end that ends this cell, and returns what stands before it.
-    pub fn cell(&mut self) -> &'a [u8] {
+    pub fn cell(&mut self) -> &'a [u8]
+        ensures { result.now ++ self.new.rest.now ≡ self.old.rest.now }
+    {
         let text = self.rest;
         let end = text
             .iter()
@@ -157,7 +171,8 @@ impl<'a> Text<'a> {
 
     // The number whose first digit stands here, modulo 2^32. It has a first digit, whatever byte that is.
     fn number(&mut self) -> u32
-        ensures { 0 < length self.old.rest.now → length self.new.rest.now < length self.old.rest.now }
+        ensures rear { IsRear self.new.rest.now self.old.rest.now }
+        ensures shorter { 0 < length self.old.rest.now → length self.new.rest.now < length self.old.rest.now }
     {
         let Some((first, behind)) = self.rest.split_first() else {
             return 0;
@@ -176,6 +191,7 @@ impl<'a> Text<'a> {
     // The number behind this byte, if the byte stands here and is not the text's last.
     fn number_after(&mut self, byte: u8) -> Option<u32>
         ensures none { IsNone result → self.new ≡ self.old }
+        ensures rear { IsRear self.new.rest.now self.old.rest.now }
         ensures some { IsSome result → length self.new.rest.now < length self.old.rest.now }
     {
         match self.rest.split_first() {
@@ -189,7 +205,8 @@ impl<'a> Text<'a> {
 
     // The word that starts here: a number, or a key.
     fn word(&mut self) -> u32
-        ensures { 0 < length self.old.rest.now → length self.new.rest.now < length self.old.rest.now }
+        ensures rear { IsRear self.new.rest.now self.old.rest.now }
+        ensures shorter { 0 < length self.old.rest.now → length self.new.rest.now < length self.old.rest.now }
     {
         match self.number_after(b'k') {
             Some(number) => number.wrapping_add(FIRST_KEY),
@@ -199,8 +216,10 @@ impl<'a> Text<'a> {
 
     /// Writes the words up to a bar or the line's end over the first of these, as far as there is room, and returns how many it wrote. It goes to
     /// what ended them.
+    #[tactic(auto, using(crate::proofs::Rear::rear_of_rear, crate::proofs::Rear::behind_is_rear))]
     pub fn words_over(&mut self, words: &mut [u32]) -> usize
-        ensures { result ≤ length words.new }
+        ensures count { result ≤ length words.new }
+        ensures rear { IsRear self.new.rest.now self.old.rest.now }
     {
         let mut read = Reading::new(words);
         // A loop: a step goes past one byte, or past a whole word or the count of a group, which no iterator of bytes does.
@@ -230,7 +249,8 @@ impl<'a> Text<'a> {
 
     /// The words up to a bar or the line's end, as far as there is room for them. It goes to what ended them.
     pub fn words<'w>(&mut self, room: &'w mut [u32]) -> &'w [u32]
-        ensures { length result.now ≤ length room.old }
+        ensures few { length result.now ≤ length room.old }
+        ensures rear { IsRear self.new.rest.now self.old.rest.now }
     {
         let count = self.words_over(room);
         &room[..count]
