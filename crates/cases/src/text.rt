@@ -8,7 +8,7 @@ use rows::FIRST_KEY;
 /// A text from some place on.
 #[derive(Clone, Copy, Debug)]
 pub struct Text<'a> {
-    rest: &'a [u8],
+    pub(crate) rest: &'a [u8],
 }
 
 /// The lines of a text: of each the whole text from its start on. An empty line hides the one after it.
