@@ -50,6 +50,6 @@ pub extern "C" fn txb_certificates_of(
     ensures { CertificatesAt store.now key name polarity (record { size = result; start = start.new }) }
 {
     let span = span_of(store, key, name, polarity);
-    *start = span.start;
-    span.end - span.start
+    *start = span.from;
+    span.to - span.from
 }

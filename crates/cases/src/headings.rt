@@ -3,24 +3,20 @@
 //     our key KEY                  says which key is ours in the lines that follow
 //
 // Any other is a heading.
+use crate::printing::say;
 use crate::text::Text;
 use rows::FIRST_KEY;
-use std::io;
 
 // Ours until a line says another: k2.
 pub const OUR_KEY: u32 = FIRST_KEY + 2;
 
 /// Prints a line that is a heading, or sets our key for the lines that follow.
-pub fn heading(
-    rt: &(impl Print + AllocGlobal),
-    line: Text<'_>,
-    our_key: &mut u32,
-) -> io::Result<()> {
+pub fn heading(line: Text<'_>, our_key: &mut u32) {
     let mut text = line;
     if text.passes(b"our key ") {
-        *our_key = text.first_word(rt.alloc())?;
-        return Ok(());
+        *our_key = text.first_word();
+        return;
     }
-    rt.write_all(text.cell())?;
-    println!(rt;)
+    say(text.cell());
+    say(b"\n");
 }

@@ -1,13 +1,13 @@
 // What a program reads.
-use std::io;
-use std::io::Read;
+ghost use Rattle.std.specs.Prelude.{◌≤◌, length};
 
 /// The longest input that is read to its end.
-pub const LONGEST: u64 = 65536;
+pub const LONGEST: usize = 65536;
 
-/// The input, as far as it is no longer than `LONGEST`.
-pub fn read_input(rt: &(impl Input + AllocGlobal)) -> io::Result<Vec<u8>> {
-    let mut text = Vec::new(rt.alloc());
-    rt.reader().take(LONGEST).read_to_end(&mut text)?;
-    Ok(text)
+/// Reads until the room is full, the input ends or a read fails, and returns what was read.
+pub fn read_input(room: &mut [u8]) -> &[u8]
+    ensures { length result.now ≤ length room.old }
+{
+    let count = io::read_full(0, room);
+    &room[..count]
 }

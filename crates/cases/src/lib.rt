@@ -7,6 +7,7 @@
 
 pub mod headings;
 pub mod input;
+pub mod printing;
 pub mod replies;
 pub mod storing;
 pub mod text;

@@ -1,8 +1,9 @@
 // What a call replied, in words: a refusal, an area's untouched rest, the set in an answer area that was full of fives before.
+use crate::printing::print;
 use engine::Answer;
 use policy::codes::Verdict;
 use refusals::Refused;
-use std::{fmt, io};
+use std::fmt;
 
 /// Words, with a space before each.
 #[derive(Clone, Copy, Debug)]
@@ -46,9 +47,9 @@ impl fmt::Display for SetIn<'_> {
         if answer.len() < 642 {
             return Ok(());
         }
-        let form = if answer[0] == 0 { "only" } else { "all but" };
+        let form = if answer[0] == 0 { "only " } else { "all but " };
         let count = answer[1];
-        write!(f, "{form} {count}")?;
+        write!(f, "{form}{count}")?;
         if count <= 128 {
             let (rows, words) = answer[2..].split_at(5 * count as usize);
             if count <= 4 {
@@ -74,38 +75,34 @@ impl fmt::Display for RefusedCall {
     }
 }
 
-fn verdict_name(verdict: Verdict) -> &'static str {
+fn verdict_text(verdict: Verdict) -> &'static str {
     match verdict {
-        Verdict::Exact => "exact",
-        Verdict::Lower => "lower",
-        Verdict::Upper => "upper",
+        Verdict::Exact => "exact, ",
+        Verdict::Lower => "lower, ",
+        Verdict::Upper => "upper, ",
     }
 }
 
 /// Prints the reply to a query, whose answer area was full of fives before.
-pub fn print_reply(
-    rt: &impl Print,
-    reply: Result<Answer, Refused>,
-    area: &[u32],
-) -> io::Result<()> {
+pub fn print_reply(reply: Result<Answer, Refused>, area: &[u32]) {
     match reply {
         Ok(answer) => {
-            print!(rt;
-                "{}, {} draws, {}",
-                verdict_name(answer.verdict),
+            print(format_args!(
+                "{}{} draws, {}",
+                verdict_text(answer.verdict),
                 answer.draws,
                 SetIn(area)
-            )
+            ));
         }
         Err(refused) => {
-            print!(rt;
+            print(format_args!(
                 "{}{}",
                 RefusedCall(refused),
                 Rest {
                     words: area,
                     was: 5
                 }
-            )
+            ));
         }
     }
 }

@@ -7,35 +7,30 @@
 ghost use Rattle.std.specs.Prelude.{◌<◌};
 
 use crate::text::Text;
-use std::alloc::{AllocError, Global};
 use store::{Certificates, Kind, Links, file_record};
 
-// Files the words, a record at a time; words that are left over are not filed.
-fn file_all<K: Kind>(store: &mut [u32], words: &[u32])
+// Files the words that stand here, a record at a time; words that are left over are not filed. It reads them into the room, as far as it goes.
+fn file_all<K: Kind>(store: &mut [u32], mut text: Text<'_>, room: &mut [u32])
     requires { 0 < K.WORDS }
 {
-    for record in words.chunks_exact(K::WORDS) {
+    let count = text.words_over(room);
+    for record in room[..count].chunks_exact(K::WORDS) {
         file_record::<K>(store, record);
     }
 }
 
 /// Does what a line of these says; of any other it says no.
-pub fn keep(
-    alloc: Global,
-    mut text: Text<'_>,
-    store: &mut [u32],
-    links: &mut [u32],
-) -> Result<bool, AllocError> {
+pub fn keep(mut text: Text<'_>, store: &mut [u32], links: &mut [u32]) -> bool {
     if text.passes(b"file ") {
-        file_all::<Certificates>(store, &text.words(alloc, 16000)?);
+        file_all::<Certificates>(store, text, &mut [0; 16000]);
     } else if text.passes(b"store ") {
-        text.words_over(alloc, store)?;
+        text.words_over(store);
     } else if text.passes(b"link ") {
-        file_all::<Links>(links, &text.words(alloc, 1280)?);
+        file_all::<Links>(links, text, &mut [0; 1280]);
     } else if text.passes(b"links ") {
-        text.words_over(alloc, links)?;
+        text.words_over(links);
     } else {
-        return Ok(false);
+        return false;
     }
-    Ok(true)
+    true
 }

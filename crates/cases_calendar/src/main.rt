@@ -8,39 +8,39 @@
 #![tactic(auto)]
 
 use calendar::{Date, Minute};
-use cases::input::read_input;
+use cases::input::{LONGEST, read_input};
+use cases::printing::{print, say};
+use cases::replies::Spaced;
 use cases::text::Text;
 use refusals::Refusal;
-use std::alloc::{AllocError, Global};
-use std::io;
 
-fn print_refusal(rt: &impl Print, refusal: Refusal) -> io::Result<()> {
-    print!(rt; ": refused {}", u32::from(refusal))
+fn print_refusal(refusal: Refusal) {
+    print(format_args!(": refused {}", u32::from(refusal)));
 }
 
 // The date whose five numbers stand here. A number that is missing is 0.
-fn date_in(alloc: Global, mut text: Text<'_>) -> Result<Date, AllocError> {
+fn date_in(mut text: Text<'_>) -> Date {
     let mut words = [0; 5];
-    text.words_over(alloc, &mut words)?;
+    text.words_over(&mut words);
     let [year, month, day, hour, minute] = words;
-    Ok(Date {
+    Date {
         year,
         month,
         day,
         hour,
         minute,
-    })
+    }
 }
 
 // Prints what a line asks behind its bar.
-fn convert(rt: &(impl Print + AllocGlobal), mut text: Text<'_>) -> io::Result<()> {
+fn convert(mut text: Text<'_>) {
     if text.passes(b"m") {
-        return match Minute::try_from(date_in(rt.alloc(), text)?) {
-            Ok(Minute(minutes)) => print!(rt; ": {minutes}"),
-            Err(refusal) => print_refusal(rt, refusal),
+        return match Minute::try_from(date_in(text)) {
+            Ok(Minute(minutes)) => print(format_args!(": {minutes}")),
+            Err(refusal) => print_refusal(refusal),
         };
     }
-    match Date::try_from(Minute(text.first_word(rt.alloc())?)) {
+    match Date::try_from(Minute(text.first_word())) {
         Ok(
             Date {
                 year,
@@ -49,23 +49,23 @@ fn convert(rt: &(impl Print + AllocGlobal), mut text: Text<'_>) -> io::Result<()
                 hour,
                 minute,
             },
-        ) => print!(rt; ": {year} {month} {day} {hour} {minute}"),
-        Err(refusal) => print_refusal(rt, refusal),
+        ) => print(format_args!(":{}", Spaced(&[year, month, day, hour, minute]))),
+        Err(refusal) => print_refusal(refusal),
     }
 }
 
-fn line(rt: &(impl Print + AllocGlobal), mut text: Text<'_>) -> io::Result<()> {
-    rt.write_all(text.cell())?;
+fn line(mut text: Text<'_>) {
+    say(text.cell());
     if text.passes(b"|") {
-        convert(rt, text)?;
+        convert(text);
     }
-    println!(rt;)
+    say(b"\n");
 }
 
-fn main(rt: HostRuntime) -> io::Result<()> {
-    let input = read_input(&rt)?;
-    for text in Text::new(&input).lines() {
-        line(&rt, text)?;
+fn main() {
+    let mut room = [0; LONGEST];
+    let input = read_input(&mut room);
+    for text in Text::new(input).lines() {
+        line(text);
     }
-    Ok(())
 }

@@ -14,130 +14,103 @@
 
 ghost use Rattle.std.specs.Prelude.{◌<◌};
 
-use cases::input::read_input;
+use cases::input::{LONGEST, read_input};
+use cases::printing::{print, say};
 use cases::storing::keep;
 use cases::text::Text;
 use certificates::{LINK_WORDS, RECORD_WORDS};
-use std::io;
 use store::{Certificates, Filing, Kind, Links, certificates_of, file_record};
 
-fn print_filing(rt: &impl Print, filing: Filing) -> io::Result<()> {
+fn print_filing(filing: Filing) {
     match filing {
-        Filing::Filed => print!(rt; ": Filed"),
-        Filing::Held => print!(rt; ": Held"),
-        Filing::Refused(refusal) => print!(rt; ": Refused {}", u32::from(refusal)),
+        Filing::Filed => print(": Filed"),
+        Filing::Held => print(": Held"),
+        Filing::Refused(refusal) => print(format_args!(": Refused {}", u32::from(refusal))),
     }
 }
 
-// Files the words that stand here, no more than `most`, into as many words of the store as the line says, or `usual`, and prints the reply with the
-// count that the store has then.
-fn try_record<K: Kind>(
-    rt: &(impl Print + AllocGlobal),
-    mut text: Text<'_>,
-    most: usize,
-    store: &mut [u32],
-    usual: usize,
-) -> io::Result<()> {
-    let record = text.words(rt.alloc(), most)?;
+// Files the words that stand here, no more than there is room for, into as many words of the store as the line says, or `usual`, and prints the reply
+// with the count that the store has then.
+fn try_record<K: Kind>(mut text: Text<'_>, room: &mut [u32], store: &mut [u32], usual: usize) {
+    let record = text.words(room);
     let lent = if text.passes(b"|") {
-        text.first_word(rt.alloc())? as usize
+        text.first_word() as usize
     } else {
         usual
     };
     let end = lent.min(store.len());
     let store = &mut store[..end];
-    print_filing(rt, file_record::<K>(store, &record))?;
-    match store.first() {
-        Some(count) => print!(rt; ", count {count}"),
-        None => Ok(()),
+    print_filing(file_record::<K>(store, record));
+    if let Some(count) = store.first() {
+        print(format_args!(", count {count}"));
     }
 }
 
 // Prints the words, so many to a line.
-fn show(rt: &impl Print, words: &[u32], width: usize) -> io::Result<()>
+fn show(words: &[u32], width: usize)
     requires { 0 < width }
 {
     for (i, word) in words.iter().enumerate() {
         let gap = if (i + 1) % width == 0 { "\n" } else { " " };
-        print!(rt; "{word}{gap}")?;
+        print(format_args!("{word}{gap}"));
     }
-    Ok(())
 }
 
 // Prints the words of the store from the first place that stands here to the second.
-fn show_between(
-    rt: &(impl Print + AllocGlobal),
-    mut text: Text<'_>,
-    store: &[u32],
-    width: usize,
-) -> io::Result<()>
+fn show_between(mut text: Text<'_>, store: &[u32], width: usize)
     requires { 0 < width }
 {
     let mut ends = [0; 2];
-    text.words_over(rt.alloc(), &mut ends)?;
+    text.words_over(&mut ends);
     let [from, end] = ends;
     let end = (end as usize).min(store.len());
     let from = (from as usize).min(end);
-    show(rt, &store[from..end], width)
+    show(&store[from..end], width);
 }
 
 // Does what a line without bars says.
-fn act(
-    rt: &(impl Print + AllocGlobal),
-    line: Text<'_>,
-    store: &mut [u32],
-    links: &mut [u32],
-) -> io::Result<()> {
-    if keep(rt.alloc(), line, store, links)? {
-        return Ok(());
+fn act(line: Text<'_>, store: &mut [u32], links: &mut [u32]) {
+    if keep(line, store, links) {
+        return;
     }
     let mut text = line;
     if text.passes(b"words of links ") {
-        show_between(rt, text, links, LINK_WORDS)
+        show_between(text, links, LINK_WORDS);
     } else if text.passes(b"words ") {
-        show_between(rt, text, store, RECORD_WORDS)
+        show_between(text, store, RECORD_WORDS);
     } else if text.passes(b"part ") {
         let mut name = [0; 3];
-        text.words_over(rt.alloc(), &mut name)?;
+        text.words_over(&mut name);
         let [key, number, polarity] = name;
-        show(
-            rt,
-            certificates_of(store, key, number, polarity),
-            RECORD_WORDS,
-        )
+        show(certificates_of(store, key, number, polarity), RECORD_WORDS);
     } else {
-        rt.write_all(text.cell())?;
-        println!(rt;)
+        say(text.cell());
+        say(b"\n");
     }
 }
 
-fn line(
-    rt: &(impl Print + AllocGlobal),
-    line: Text<'_>,
-    store: &mut [u32],
-    links: &mut [u32],
-) -> io::Result<()> {
+fn line(line: Text<'_>, store: &mut [u32], links: &mut [u32]) {
     let mut text = line;
     let name = text.cell();
     if !text.passes(b"|") {
-        return act(rt, line, store, links);
+        return act(line, store, links);
     }
-    rt.write_all(name)?;
+    say(name);
     // A word more is read than the record has.
     if text.passes(b"link") {
-        try_record::<Links>(rt, text, LINK_WORDS + 1, links, 1281)?;
+        try_record::<Links>(text, &mut [0; LINK_WORDS + 1], links, 1281);
     } else {
-        try_record::<Certificates>(rt, text, RECORD_WORDS + 1, store, 16001)?;
+        try_record::<Certificates>(text, &mut [0; RECORD_WORDS + 1], store, 16001);
     }
-    println!(rt;)
+    say(b"\n");
 }
 
-fn main(rt: HostRuntime) -> io::Result<()> {
-    let input = read_input(&rt)?;
+fn main() {
+    let mut room = [0; LONGEST];
+    let input = read_input(&mut room);
     let mut store = [77u32; 16002];
     let mut links = [77u32; 1282];
-    for text in Text::new(&input).lines() {
-        line(&rt, text, &mut store, &mut links)?;
+    for text in Text::new(input).lines() {
+        line(text, &mut store, &mut links);
     }
-    Ok(())
 }

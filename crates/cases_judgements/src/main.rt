@@ -5,52 +5,54 @@
 #![tactic(auto)]
 
 use cases::headings::{OUR_KEY, heading};
-use cases::input::read_input;
+use cases::input::{LONGEST, read_input};
+use cases::printing::{print, say};
 use cases::replies::{RefusedCall, Spaced};
 use cases::text::Text;
 use judging::judge;
 use policy::codes::Verdict;
 use policy_table::parts::part;
 use refusals::Refused;
-use std::io;
 
-fn print_judgement(rt: &impl Print, judgement: Result<Verdict, Refused>) -> io::Result<()> {
+fn print_judgement(judgement: Result<Verdict, Refused>) {
     match judgement {
-        Ok(verdict) => print!(rt; "verdict {}", u32::from(verdict)),
-        Err(refused) => print!(rt; "{}", RefusedCall(refused)),
+        Ok(verdict) => print(format_args!("verdict {}", u32::from(verdict))),
+        Err(refused) => print(RefusedCall(refused)),
     }
 }
 
 // Prints what a line asks behind its first bar: the part whose number stands behind a third bar, or a judgement if there is none.
-fn answer(rt: &(impl Print + AllocGlobal), mut text: Text<'_>, our_key: u32) -> io::Result<()> {
-    let policy = text.words(rt.alloc(), 8193)?;
+fn answer(mut text: Text<'_>, our_key: u32) {
+    let mut policy = [0; 8193];
+    let policy = text.words(&mut policy);
     text.skip();
-    let query = text.words(rt.alloc(), 1025)?;
+    let mut query = [0; 1025];
+    let query = text.words(&mut query);
     if text.passes(b"|") {
-        let number = text.first_word(rt.alloc())?;
-        print!(rt; "words{}", Spaced(part(&policy, &query, number)))
+        let number = text.first_word();
+        print(format_args!("words{}", Spaced(part(policy, query, number))));
     } else {
-        print_judgement(rt, judge(&policy, &query, our_key))
+        print_judgement(judge(policy, query, our_key));
     }
 }
 
-fn line(rt: &(impl Print + AllocGlobal), line: Text<'_>, our_key: &mut u32) -> io::Result<()> {
+fn line(line: Text<'_>, our_key: &mut u32) {
     let mut text = line;
     let name = text.cell();
     if !text.passes(b"|") {
-        return heading(rt, line, our_key);
+        return heading(line, our_key);
     }
-    rt.write_all(name)?;
-    print!(rt; ": ")?;
-    answer(rt, text, *our_key)?;
-    println!(rt;)
+    say(name);
+    say(b": ");
+    answer(text, *our_key);
+    say(b"\n");
 }
 
-fn main(rt: HostRuntime) -> io::Result<()> {
-    let input = read_input(&rt)?;
+fn main() {
+    let mut room = [0; LONGEST];
+    let input = read_input(&mut room);
     let mut our_key = OUR_KEY;
-    for text in Text::new(&input).lines() {
-        line(&rt, text, &mut our_key)?;
+    for text in Text::new(input).lines() {
+        line(text, &mut our_key);
     }
-    Ok(())
 }

@@ -10,12 +10,12 @@
 #![tactic(auto)]
 
 use cases::headings::{OUR_KEY, heading};
-use cases::input::read_input;
+use cases::input::{LONGEST, read_input};
+use cases::printing::say;
 use cases::replies::print_reply;
 use cases::storing::keep;
 use cases::text::Text;
 use engine::query;
-use std::io;
 
 // What lines set for those that follow.
 #[derive(Clone, Copy, Debug)]
@@ -25,19 +25,15 @@ struct Setting {
 }
 
 // Asks what stands behind a line's first bar, with areas and a link store of the lengths that the line gives, and prints the reply.
-fn ask(
-    rt: &(impl Print + AllocGlobal),
-    mut text: Text<'_>,
-    store: &[u32],
-    links: &[u32],
-    setting: &Setting,
-) -> io::Result<()> {
-    let policy = text.words(rt.alloc(), 8193)?;
+fn ask(mut text: Text<'_>, store: &[u32], links: &[u32], setting: &Setting) {
+    let mut policy = [0; 8193];
+    let policy = text.words(&mut policy);
     text.skip();
-    let words = text.words(rt.alloc(), 1025)?;
+    let mut words = [0; 1025];
+    let words = text.words(&mut words);
     let mut lengths = [642, 10272, 16384, 1281];
     if text.passes(b"|") {
-        text.words_over(rt.alloc(), &mut lengths)?;
+        text.words_over(&mut lengths);
     }
     let [
         answer_length,
@@ -52,8 +48,8 @@ fn ask(
     let definitions_end = definitions_length.min(definitions.len());
     let scratch_end = scratch_length.min(scratch.len());
     let reply = query(
-        &policy,
-        &words,
+        policy,
+        words,
         setting.our_key,
         setting.minute,
         store,
@@ -62,48 +58,37 @@ fn ask(
         &mut definitions[..definitions_end],
         &mut scratch[..scratch_end],
     );
-    print_reply(rt, reply, &answer[..answer_end])
+    print_reply(reply, &answer[..answer_end]);
 }
 
 // Does what a line without bars says.
-fn act(
-    rt: &(impl Print + AllocGlobal),
-    line: Text<'_>,
-    store: &mut [u32],
-    links: &mut [u32],
-    setting: &mut Setting,
-) -> io::Result<()> {
+fn act(line: Text<'_>, store: &mut [u32], links: &mut [u32], setting: &mut Setting) {
     let mut text = line;
     if text.passes(b"minute ") {
-        setting.minute = text.first_word(rt.alloc())?;
-        return Ok(());
+        setting.minute = text.first_word();
+        return;
     }
-    if keep(rt.alloc(), line, store, links)? {
-        return Ok(());
+    if keep(line, store, links) {
+        return;
     }
-    heading(rt, line, &mut setting.our_key)
+    heading(line, &mut setting.our_key);
 }
 
-fn line(
-    rt: &(impl Print + AllocGlobal),
-    line: Text<'_>,
-    store: &mut [u32],
-    links: &mut [u32],
-    setting: &mut Setting,
-) -> io::Result<()> {
+fn line(line: Text<'_>, store: &mut [u32], links: &mut [u32], setting: &mut Setting) {
     let mut text = line;
     let name = text.cell();
     if !text.passes(b"|") {
-        return act(rt, line, store, links, setting);
+        return act(line, store, links, setting);
     }
-    rt.write_all(name)?;
-    print!(rt; ": ")?;
-    ask(rt, text, store, links, setting)?;
-    println!(rt;)
+    say(name);
+    say(b": ");
+    ask(text, store, links, setting);
+    say(b"\n");
 }
 
-fn main(rt: HostRuntime) -> io::Result<()> {
-    let input = read_input(&rt)?;
+fn main() {
+    let mut room = [0; LONGEST];
+    let input = read_input(&mut room);
     let mut store = [99u32; 16001];
     let mut links = [98u32; 1282];
     links[0] = 0;
@@ -111,8 +96,7 @@ fn main(rt: HostRuntime) -> io::Result<()> {
         our_key: OUR_KEY,
         minute: 0,
     };
-    for text in Text::new(&input).lines() {
-        line(&rt, text, &mut store, &mut links, &mut setting)?;
+    for text in Text::new(input).lines() {
+        line(text, &mut store, &mut links, &mut setting);
     }
-    Ok(())
 }

@@ -9,79 +9,77 @@
 #![tactic(auto)]
 
 use cases::headings::{OUR_KEY, heading};
-use cases::input::read_input;
+use cases::input::{LONGEST, read_input};
+use cases::printing::{print, say};
 use cases::replies::{RefusedCall, Rest, Spaced};
 use cases::text::Text;
 use policy_rewriting::rewrite;
-use std::io;
 
 // Longer outputs are not printed.
 const FEW: usize = 60;
 
 // Prints the output at the front of an area that was full of 99s, and whether it is the words behind a bar, if one is here.
-fn print_output(
-    rt: &(impl Print + AllocGlobal),
-    mut text: Text<'_>,
-    area: &[u32],
-    count: usize,
-) -> io::Result<()> {
-    print!(rt; "{count} words")?;
+fn print_output(mut text: Text<'_>, area: &[u32], count: usize) {
+    print(format_args!("{count} words"));
     if area.len() < count {
-        return Ok(());
+        return;
     }
     let (output, words) = area.split_at(count);
     if count <= FEW {
-        print!(rt; ":{}", Spaced(output))?;
+        print(format_args!(":{}", Spaced(output)));
     }
     if text.passes(b"|") {
-        let expected = text.words(rt.alloc(), 8193)?;
-        if output == expected.as_slice() {
-            print!(rt; ", those of the line")?;
+        let mut expected = [0; 8193];
+        if output == text.words(&mut expected) {
+            print(", those of the line");
         } else {
-            print!(rt; ", NOT THOSE OF THE LINE")?;
+            print(", NOT THOSE OF THE LINE");
         }
     }
-    print!(rt; "{}", Rest { words, was: 99 })
+    print(Rest { words, was: 99 });
 }
 
 // Rewrites the policy behind a line's first bar into as many words of an area as the line says, and prints what came of it.
-fn rewrite_in(rt: &(impl Print + AllocGlobal), mut text: Text<'_>, our_key: u32) -> io::Result<()> {
-    let policy = text.words(rt.alloc(), 8193)?;
+fn rewrite_in(mut text: Text<'_>, our_key: u32) {
+    let mut policy = [0; 8193];
+    let policy = text.words(&mut policy);
     text.skip();
-    let lent = text.first_word(rt.alloc())? as usize;
+    let lent = text.first_word() as usize;
     let _ = text.cell();
     let mut area = [99u32; 8300];
     let end = lent.min(area.len());
-    match rewrite(&policy, our_key, &mut area[..end]) {
-        Ok(count) => print_output(rt, text, &area, count),
-        Err(refused) => print!(rt;
-            "{}{}",
-            RefusedCall(refused),
-            Rest {
-                words: &area,
-                was: 99
-            }
-        ),
+    match rewrite(policy, our_key, &mut area[..end]) {
+        Ok(count) => print_output(text, &area, count),
+        Err(refused) => {
+            print(format_args!(
+                "{}{}",
+                RefusedCall(refused),
+                Rest {
+                    words: &area,
+                    was: 99
+                }
+            ));
+        }
     }
 }
 
-fn line(rt: &(impl Print + AllocGlobal), line: Text<'_>, our_key: &mut u32) -> io::Result<()> {
+fn line(line: Text<'_>, our_key: &mut u32) {
     let mut text = line;
     let name = text.cell();
     if !text.passes(b"|") {
-        return heading(rt, line, our_key);
+        return heading(line, our_key);
     }
-    rt.write_all(name)?;
-    print!(rt; ": ")?;
-    rewrite_in(rt, text, *our_key)?;
-    println!(rt;)
+    say(name);
+    say(b": ");
+    rewrite_in(text, *our_key);
+    say(b"\n");
 }
 
-fn main(rt: HostRuntime) -> io::Result<()> {
-    let input = read_input(&rt)?;
+fn main() {
+    let mut room = [0; LONGEST];
+    let input = read_input(&mut room);
     let mut our_key = OUR_KEY;
-    for text in Text::new(&input).lines() {
-        line(&rt, text, &mut our_key)?;
+    for text in Text::new(input).lines() {
+        line(text, &mut our_key);
     }
-    Ok(())
 }

@@ -1,5 +1,5 @@
 -- The checks of leaves: what each definition reads is what the code reads, one after the other.
-use Rattle.std.proofs.Common.{ℕ, zero, suc, ◌≡◌, ◌<◌, Bool, true, false, List, [], ◌∷◌, Result, Ok, Err, Option, Some, None, cond, length, map, get_or, ltb, leb, eqb, refl, sym, ◌∙◌, ap, arith}
+use Rattle.std.proofs.Common.{ℕ, zero, suc, ◌≡◌, ◌≢◌, ◌<◌, Bool, true, false, List, [], ◌∷◌, Result, Ok, Err, Option, Some, None, cond, get_or, ltb, leb, eqb, refl, sym, ◌∙◌, ap, arith}
 use mathlib.Core.Logic.{◌⊎◌, inl, inr}
 use lib.ListN.{length-map}
 use borrow.Author.Tests.{ltb-true, lt-leb, ne_eqb}
@@ -13,7 +13,6 @@ use Rattle.rows.specs.declared.Polarity as Held
 use Rattle.rows.specs.declared.Polarity.TheVariants.{Plus, Minus}
 use Rattle.rows.specs.contracts.Polarity.{the_type}
 use denote.Enum.Bare.{sameb}
-use Rattle.std.specs.Option.{ok_or}
 use Rattle.policy.specs.declared.codes.Code.{Code}
 use Rattle.policy.specs.declared.codes.Code.TheVariants as code
 use Rattle.policy.specs.Codes.{code_number}
@@ -24,11 +23,11 @@ use Rattle.policy.specs.Decode.{Read, got, refused, Reader, after, need, give, r
 use Rattle.policy.specs.Polarity.{has_polarity, open_expr, draws_closed}
 use Rattle.policy.proofs.Basics.{impossible}
 use Rattle.check_terms.specs.Answers.{kept, keeping, nothing}
-use Rattle.check_polarity.specs.Earlier.{Before, scope_at, known_is, earlier_is, number_in}
+use Rattle.check_polarity.specs.Earlier.{Before, scope_at, known_is, unnamed, earlier_is, number_in}
 use Rattle.check_polarity.specs.Facts.{facts_for, term_facts, difference_of, one_polarity}
 use Rattle.check_polarity.specs.declared.Facts.{Facts}
 use Rattle.check_polarity.specs.declared.Earlier.{Earlier}
-use Rattle.check_polarity.specs.declared.Definition.{Definition}
+use Rattle.check_polarity.proofs.EarlierAnswers.{known_count, known_get}
 use Rattle.check_leaves.specs.Checks.{literal_facts, definition_facts, issued, is_own, facts_from, name_facts_for, leaf_facts}
 
 -- whatever was read, its facts are these
@@ -53,21 +52,15 @@ unfolding facts_for has_polarity leaf_has open_expr leaf_open draws_closed
 one_facts b d Plus o e f = rw (e, f)
 one_facts b d Minus o e f = rw (e, f)
 
-known_at : (ds : List Definition) (d : ℕ) (x : Definition) → d < length ds → get_or (map known_is ds) d unknown ≡ known_is (get_or ds d x)
-known_at [] d x h = absurd (omega arith)
-known_at (y ∷ ds) zero x h = refl
-known_at (y ∷ ds) (suc d) x h = known_at ds d x (omega arith)
+pub definition_is : (x : Earlier) (d : ℕ) → d < x.count →
+    one_polarity (get_or x.definitions d unnamed).polarity (get_or x.definitions d unnamed).«open» ≡ facts_for (earlier_is x) (leaf (definition d))
+unfolding known_is
+definition_is x d h =
+    let at : get_or (earlier_is x).known d unknown ≡ known_is (get_or x.definitions d unnamed) = known_get x d h in
+    one_facts (earlier_is x) d (get_or x.definitions d unnamed).polarity (get_or x.definitions d unnamed).«open» (ap (λ y. y.declared) at) (ap (λ y. y.is_open) at)
 
-pub definition_is : (x : Earlier) (d : ℕ) (k : Definition) → d < length x.definitions.items →
-    one_polarity (get_or x.definitions.items d k).polarity (get_or x.definitions.items d k).«open» ≡ facts_for (earlier_is x) (leaf (definition d))
-unfolding earlier_is known_is
-definition_is x d k h =
-    let at : get_or (map known_is x.definitions.items) d unknown ≡ known_is (get_or x.definitions.items d k) = known_at x.definitions.items d k h in
-    one_facts (earlier_is x) d (get_or x.definitions.items d k).polarity (get_or x.definitions.items d k).«open» (ap (λ y. y.declared) at) (ap (λ y. y.is_open) at)
-
-pub reach_is : (x : Earlier) → reach (scope_at (earlier_is x)) ≡ length x.definitions.items
-unfolding earlier_is
-reach_is x = length-map (map known_is x.definitions.items) declaration ∙ length-map x.definitions.items known_is
+pub reach_is : (x : Earlier) → reach (scope_at (earlier_is x)) ≡ x.count
+reach_is x = length-map (earlier_is x).known declaration ∙ known_count x
 
 -- ---- a name's facts
 
@@ -87,26 +80,26 @@ module _ (b : Before) (t : Term) (name : ℕ) (p : Polarity) where
   other_origin (atom a) e = rw (e, origin_of)
   other_origin (var i) e = refl
 
-  module _ (own : is_own b.our_key t ≡ true) {r : Option ℕ} {x : Result ℕ Refusal} (e : r ≡ number_in b name p) (i : x ≡ ok_or r NotInScope) where
+  module _ (own : is_own b.our_key t ≡ true) {r : Option ℕ} (e : r ≡ number_in b name p) where
     d : ℕ
     d = definition_of (scope_at b).available name p
 
-    looked : (c : Bool) → ltb d (reach (scope_at b)) ≡ c → x ≡ ok_or (cond c (Some d) None) NotInScope
+    looked : (c : Bool) → ltb d (reach (scope_at b)) ≡ c → r ≡ cond c (Some d) None
     unfolding number_in d
-    looked c h = i ∙ ap (λ r. ok_or r NotInScope) (e ∙ ap (λ c. cond c (Some d) None) h)
+    looked c h = e ∙ ap (λ c. cond c (Some d) None) h
 
     found_is : (c : Bool) → ltb d (reach (scope_at b)) ≡ c → name_facts_for b t name p ≡ elim c as (λ c. Result Facts Refusal) [ true ↦ Ok (facts_for b (leaf (listed t name p (by_definition d)))) | false ↦ Err NotInScope ]
     unfolding name_facts_for facts_from is_available d
     found_is c h = ap (facts_from b t name p) (own_origin t own) ∙ ap (λ c. elim c as (λ c. Result Facts Refusal) [ true ↦ Ok (facts_for b (leaf (listed t name p (by_definition d)))) | false ↦ Err NotInScope ]) h
 
-    pub undefined : {y : Refusal} → x ≡ Err y → Err y ≡ name_facts_for b t name p
-    undefined {y} f = go (ltb d (reach (scope_at b))) refl
+    pub undefined : r ≡ None → Err NotInScope ≡ name_facts_for b t name p
+    undefined f = go (ltb d (reach (scope_at b))) refl
       where
-        go : (c : Bool) → ltb d (reach (scope_at b)) ≡ c → Err y ≡ name_facts_for b t name p
+        go : (c : Bool) → ltb d (reach (scope_at b)) ≡ c → Err NotInScope ≡ name_facts_for b t name p
         go true h = let z = looked true h in impossible cc
-        go false h = let z = looked false h in let w = found_is false h in cc
+        go false h = sym (found_is false h)
 
-    pub defined : {n : ℕ} → x ≡ Ok n → (n < reach (scope_at b)) × (Ok (facts_for b (leaf (definition n))) ≡ name_facts_for b t name p)
+    pub defined : {n : ℕ} → r ≡ Some n → (n < reach (scope_at b)) × (Ok (facts_for b (leaf (definition n))) ≡ name_facts_for b t name p)
     unfolding facts_for has_polarity leaf_has name_has open_expr leaf_open name_open draws_closed
     defined {n} f = go (ltb d (reach (scope_at b))) refl
       where
@@ -226,6 +219,20 @@ module _ (b : Before) (n : ℕ) (us : List ℕ) (k : ℕ) where
   pub definition_reads : leaf_facts b n 3 us k ≡ definition_facts b us k
   unfolding leaf_facts definition_facts keeping leaf_as leaf_of
   definition_reads = kept_give (λ x. facts_for b (leaf x)) definition (word_where not_in_scope (λ d. ltb d (reach (scope_at b))) us k)
+
+  -- a code that is no leaf's
+  pub leaf_none : (code : ℕ) → (code ≢ 1) → (code ≢ 2) → (code ≢ 3) → (code ≢ 4) → (code ≢ 8) → refused bad_word ≡ leaf_facts b n code us k
+  unfolding leaf_facts keeping kept leaf_as leaf_of
+  leaf_none zero f c d m v = refl
+  leaf_none (suc zero) f c d m v = absurd (f refl)
+  leaf_none (suc (suc zero)) f c d m v = absurd (c refl)
+  leaf_none (suc (suc (suc zero))) f c d m v = absurd (d refl)
+  leaf_none (suc (suc (suc (suc zero)))) f c d m v = absurd (m refl)
+  leaf_none (suc (suc (suc (suc (suc zero))))) f c d m v = refl
+  leaf_none (suc (suc (suc (suc (suc (suc zero)))))) f c d m v = refl
+  leaf_none (suc (suc (suc (suc (suc (suc (suc zero))))))) f c d m v = refl
+  leaf_none (suc (suc (suc (suc (suc (suc (suc (suc zero)))))))) f c d m v = absurd (v refl)
+  leaf_none (suc (suc (suc (suc (suc (suc (suc (suc (suc w))))))))) f c d m v = refl
 
   pub no_leaf_reads : {c : Code} → (c ≡ code.Union) ⊎ ((c ≡ code.Difference) ⊎ (c ≡ code.Comprehension)) → refused bad_word ≡ leaf_facts b n (code_number c) us k
   unfolding leaf_facts keeping kept leaf_as leaf_of

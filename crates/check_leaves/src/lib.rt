@@ -2,7 +2,6 @@
 #![tactic(auto)]
 
 ghost use Rattle.std.specs.Prelude.{◌<◌, ◌≡◌};
-ghost use Rattle.arrayvec.specs.ArrayVec.{array_vec_len};
 ghost use Rattle.rows.specs.Polarities.{polarity_is};
 ghost use Rattle.policy.specs.Codes.{code_number};
 ghost use Rattle.policy.specs.Leaf.{definition};
@@ -35,7 +34,7 @@ fn check_literal(
 
 // The facts of an earlier definition.
 fn of_definition(earlier: &Earlier, d: usize) -> Facts
-    requires { d < array_vec_len earlier.now.definitions }
+    requires { d < earlier.now.count }
     ensures { result ≡ facts_for (earlier_is earlier.now) (leaf (definition d)) }
 {
     let known = earlier.definitions[d];
@@ -46,7 +45,7 @@ fn of_definition(earlier: &Earlier, d: usize) -> Facts
 fn check_definition(decoder: &mut Decoder<'_>, earlier: &Earlier) -> Result<Facts, Refusal>
     ensures { answered same result decoder.new ≡ definition_facts (earlier_is earlier.now) decoder.old.words.now decoder.old.draws }
 {
-    let d = decoder.number_below(earlier.definitions.len() as u32)?;
+    let d = decoder.number_below(earlier.count)?;
     Ok(of_definition(earlier, d as usize))
 }
 
@@ -80,8 +79,10 @@ fn name_facts(
     if !is_own(issuer, earlier.our_key) {
         return Ok(Facts::of_polarity(polarity, polarity == Polarity::Minus));
     }
-    let d = earlier.position(name, polarity).ok_or(Refusal::NotInScope)?;
-    Ok(of_definition(earlier, d))
+    match earlier.position(name, polarity) {
+        Some(d) => Ok(of_definition(earlier, d)),
+        None => Err(Refusal::NotInScope),
+    }
 }
 
 // A name: issuer, name, polarity.

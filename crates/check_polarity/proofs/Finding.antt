@@ -1,5 +1,5 @@
 -- The definition of a name and a polarity, looked for among those before.
-use Rattle.std.proofs.Common.{ℕ, ◌≡◌, ◌+◌, suc, Bool, true, false, cond, List, ◌∷◌, length, map, refl, sym, ◌∙◌, arith, position}
+use Rattle.std.proofs.Common.{ℕ, ◌≡◌, ◌+◌, suc, Bool, true, false, cond, List, ◌∷◌, length, map, take, refl, sym, ◌∙◌, ap, ◌≤◌, arith, position}
 use Rattle.std.specs.List.{position_or_len}
 use Rattle.std.proofs.lemmas.List.Recursion.{is_position_or_len}
 use lib.ListN.{length-map}
@@ -9,6 +9,7 @@ use Rattle.policy.specs.Leaf.{declaration}
 use Rattle.check_polarity.specs.Earlier.{scope_at, known_is, earlier_is, number_in}
 use Rattle.check_polarity.specs.declared.Definition.{Definition}
 use Rattle.check_polarity.specs.declared.Earlier.{Earlier}
+use Rattle.check_polarity.proofs.EarlierAnswers.{known_front}
 
 module _ (n : ℕ) (p : Polarity) where
   abbrev Is : Definition → Bool
@@ -25,8 +26,10 @@ module _ (n : ℕ) (p : Polarity) where
   unfolding definition_of
   place_is ds = is_position_or_len place Is refl next_place ds
 
-  pub number_is : (x : Earlier) → position Is x.definitions.items ≡ number_in (earlier_is x) n p
+  pub number_is : (x : Earlier) → x.count ≤ length x.definitions → position Is (take x.count x.definitions) ≡ number_in (earlier_is x) n p
   unfolding number_in earlier_is
-  number_is x =
-      let long : reach (scope_at (earlier_is x)) ≡ length x.definitions.items = length-map (map known_is x.definitions.items) declaration ∙ length-map x.definitions.items known_is in
-      sym (rw (place_is x.definitions.items, long) refl)
+  number_is x h =
+      let ds = take x.count x.definitions in
+      let long : reach (scope_at (earlier_is x)) ≡ length ds = ap (λ ks. length (map declaration ks)) (known_front x h) ∙ (length-map (map known_is ds) declaration ∙ length-map ds known_is) in
+      let is : definition_of (scope_at (earlier_is x)).available n p ≡ position_or_len Is ds = ap (λ ks. definition_of (map declaration ks) n p) (known_front x h) ∙ place_is ds in
+      sym (rw (is, long) refl)

@@ -1,1 +1,2 @@
+pub mod EarlierAnswers
 pub mod Finding

@@ -1,7 +1,8 @@
 -- What is known where an expression stands, as the code holds it: our key, and the definitions before.
-use Rattle.std.specs.Prelude.{ℕ, Bool, Option, Some, None, cond, ltb, List, [], ◌∷◌, ◌++◌, map}
+use Rattle.std.specs.Prelude.{ℕ, zero, suc, Bool, false, Option, Some, None, cond, ltb, List, [], ◌∷◌, ◌++◌, get_or}
 use Rattle.rows.specs.Name.{Polarity, polarity_of}
 use Rattle.rows.specs.Polarities.{polarity_is}
+use Rattle.rows.specs.declared.Polarity.TheVariants.{Plus}
 use Rattle.policy.specs.OwnKey.{Scope, reach, definition_of}
 use Rattle.policy.specs.Polarity.{Known, scope_of}
 use Rattle.check_polarity.specs.declared.Definition.{Definition}
@@ -26,9 +27,18 @@ and_then b k = record { our_key = b.our_key; known = b.known ++ (k ∷ []) }
 unfoldable pub known_is : Definition → Known
 known_is d = record { name = d.name; declared = polarity_is d.polarity; is_open = d.«open» }
 
-unfoldable pub earlier_is : Earlier → Before
+abbrev pub unnamed : Definition
+unnamed = record { name = 0; polarity = Plus; «open» = false }
+
+-- of the first so many
+unfoldable pub known_up_to : List Definition → ℕ → List Known
 unfolding known_is
-earlier_is x = record { our_key = x.our_key; known = map known_is x.definitions.items }
+known_up_to ds zero = []
+known_up_to ds (suc n) = known_up_to ds n ++ (known_is (get_or ds n unnamed) ∷ [])
+
+unfoldable pub earlier_is : Earlier → Before
+unfolding known_up_to
+earlier_is x = record { our_key = x.our_key; known = known_up_to x.definitions x.count }
 
 -- a definition of this name that declares the polarity of this word
 unfoldable pub known_as : ℕ → ℕ → Bool → Known

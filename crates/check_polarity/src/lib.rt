@@ -2,15 +2,11 @@
 // an expression stands: our key and the definitions before.
 #![tactic(auto)]
 
-ghost use Rattle.std.specs.Prelude.{◌+◌, ◌≤◌, ◌≡◌, ◌&&◌, ◌||◌};
-ghost use Rattle.arrayvec.specs.ArrayVec.{array_vec_len};
+ghost use Rattle.std.specs.Prelude.{◌+◌, ◌≤◌, ◌≡◌, ◌&&◌, ◌||◌, length, take};
 ghost use Rattle.rows.specs.Polarities.{polarity_is};
 ghost use Rattle.policy.specs.OwnKey.{declares};
 ghost use Rattle.policy.specs.Leaf.{declaration};
-ghost use Rattle.check_polarity.specs.Facts.{term_facts, union_of, difference_of, draw_of, absent_of, admit_of, declared_of, turned_facts, one_polarity};
-ghost use Rattle.check_polarity.specs.Earlier.{none_before, and_then, known_is, earlier_is, number_in};
 
-use arrayvec::ArrayVec;
 use refusals::Refusal;
 use rows::Polarity;
 use std::ops::Not;
@@ -29,6 +25,8 @@ pub struct Facts {
 
 // What counts with the opposite polarity: what is taken away, and the set that a row is absent from.
 impl Not for Facts {
+    ghost use Rattle.check_polarity.specs.Facts.{turned_facts};
+
     type Output = Facts;
 
     ghost not_gives = { λ f g. g ≡ turned_facts f };
@@ -43,6 +41,8 @@ impl Not for Facts {
 }
 
 impl Facts {
+    ghost use Rattle.check_polarity.specs.Facts.{term_facts, union_of, difference_of, draw_of, absent_of, admit_of, declared_of, one_polarity};
+
     // Of rows of terms, in a literal or a head: no other operand counts, so terms take no polarity away.
     pub fn of_terms(complement: bool) -> Facts
         ensures { result ≡ term_facts complement }
@@ -147,6 +147,8 @@ pub struct Definition {
 }
 
 impl Definition {
+    ghost use Rattle.check_polarity.specs.Earlier.{known_is};
+
     #[tactic(auto, unfolding(policy::specs::OwnKey::declares, crate::specs::Earlier::known_is))]
     fn is_named(&self, name: u32, polarity: Polarity) -> bool
         ensures { result ≡ declares (declaration (known_is self.now)) name (polarity_is polarity) }
@@ -165,40 +167,53 @@ impl Default for Definition {
     }
 }
 
-/// Our key, and what is known of the definitions before.
-#[derive(Drop)]
+/// Our key, and what is known of the definitions before: the first `count` of the list.
+#[derive(Clone, Copy)]
 pub struct Earlier {
     pub our_key: u32,
-    pub definitions: ArrayVec<Definition, MOST_DEFINITIONS>,
+    pub count: u32,
+    pub definitions: [Definition; MOST_DEFINITIONS],
+    ghost few: { count ≤ 16 },
 }
 
 impl Earlier {
+    ghost use Rattle.check_polarity.specs.Earlier.{none_before, and_then, known_is, earlier_is, number_in};
+
     // Before any definition.
-    #[tactic(auto, unfolding(crate::specs::Earlier::earlier_is))]
+    #[tactic(auto, unfolding(crate::specs::Earlier::earlier_is, crate::specs::Earlier::known_up_to))]
     pub fn none(our_key: u32) -> Earlier
-        ensures { earlier_is result ≡ none_before our_key }
+        ensures count { result.count ≡ 0 }
+        ensures none { earlier_is result ≡ none_before our_key }
     {
         Earlier {
             our_key,
-            definitions: ArrayVec::new(),
+            count: 0,
+            definitions: [Definition::default(); MOST_DEFINITIONS],
         }
     }
 
-    // One definition more.
-    #[tactic(auto, unfolding(crate::specs::Earlier::earlier_is))]
-    pub fn push(&mut self, definition: Definition)
-        requires { array_vec_len self.old.definitions ≤ 15 }
-        ensures { earlier_is self.new ≡ and_then (earlier_is self.old) (known_is definition) }
+    // Those that are known.
+    pub fn known(&self) -> &[Definition]
+        ensures definitions { result.now ≡ take self.now.count self.now.definitions }
+        ensures count { length result.now ≡ self.now.count }
     {
-        self.definitions.push(definition);
+        &self.definitions[..self.count as usize]
+    }
+
+    // One definition more.
+    pub fn push(&mut self, definition: Definition)
+        requires { self.old.count ≤ 15 }
+        ensures count { self.new.count ≡ self.old.count + 1 }
+        ensures known { earlier_is self.new ≡ and_then (earlier_is self.old) (known_is definition) }
+    {
+        self.definitions[self.count as usize] = definition;
+        self.count += 1;
     }
 
     // The number of the definition of that name and polarity.
     pub fn position(&self, name: u32, polarity: Polarity) -> Option<usize>
         ensures { result ≡ number_in (earlier_is self.now) name (polarity_is polarity) }
     {
-        self.definitions
-            .iter()
-            .position(|d| d.is_named(name, polarity))
+        self.known().iter().position(|d| d.is_named(name, polarity))
     }
 }

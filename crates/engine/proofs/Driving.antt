@@ -228,10 +228,11 @@ module _ {count : ℕ} {f : From} {draws : ℕ} (before : ReadSoFar count f draw
           };
     })
 
-    pub next_refused : {x : Refusal} {scratch : List ℕ} → SayWhole f words draws (Err x) scratch → ReadDefinitions (with_sets f f.defs count) (Err (record { refusal = x; part = part.Definition f.known }))
+    pub next_refused : {x : Refusal} {scratch : List ℕ} → f.known ≤ 15 → SayWhole f words draws (Err x) scratch → ReadDefinitions (with_sets f f.defs count) (Err (record { refusal = x; part = part.Definition f.known }))
     unfolding SoundIf left_to_read outcome
-    next_refused {x} said = record {
+    next_refused {x} small said = record {
       sound = tt;
+      part = omega arith;
       means = λ query es q v h.
           let n = next_means said query es q v h in
           n.2 ∙ read_refused f n.0 n.1 q v draws n.3 ∙ ap (Query.refused (number x)) (sets_length f.known f.defs);
@@ -244,6 +245,7 @@ module _ {count : ℕ} {f : From} {draws : ℕ} (before : ReadSoFar count f draw
       let e : f.known ≡ count = omega arith in
       subst (λ (n : ℕ). ReadDefinitions (with_sets f f.defs n) (Ok draws)) e (record {
         sound = before.sound;
+        part = tt;
         means = λ query es q v p.
             let b = before.means query es q v p in
             b.goes ∙ ap (λ (xs : List Expr). read_from f.format (names f) xs q v (sets f) draws) (none_left_lem h b.left);
@@ -255,6 +257,7 @@ module _ {f : From} {query : List ℕ} {verdict : ℕ} {area : List ℕ} where
   pub definition_refused : {x : Failed.Refused} → ReadDefinitions f (Err x) → ReadAll f.our_key f.format (names f) f.policy query verdict area (Err x) area
   unfolding left_to_read reply_for reply_is answer_area
   definition_refused {x} said = record {
+    part = said.part;
     means = λ es q v h w.
         let o : read_from f.format (names f) es q v [] 0 ≡ Query.refused (number x.refusal) (part_number x.part) = said.means query es q v h in
         (ap reply_for (sym o), ap (λ (x : Outcome). answer_area x area) (sym o));
@@ -284,6 +287,7 @@ module _ {f : From} {before : ℕ} (said : ReadDefinitions f (Ok before)) (count
         ReadAll f.our_key f.format (names f) f.policy query verdict area (Err (record { refusal = x; part = part.Query })) area
     unfolding outcome reply_for reply_is answer_area
     query_refused {x} {area = area} answer = record {
+      part = tt;
       means = λ es q v h w.
           let o : read_from f.format (names f) es q v [] 0 ≡ Query.refused (number x) query_part = goes query es q v h ∙ reading_refused f q v before (reads answer h) in
           (ap reply_for (sym o), ap (λ (x : Outcome). answer_area x area) (sym o));
@@ -293,6 +297,7 @@ module _ {f : From} {before : ℕ} (said : ReadDefinitions f (Ok before)) (count
         ReadAll f.our_key f.format (names f) f.policy query (verdict_number verdict) area (Ok (record { verdict = verdict; draws = draws })) now
     unfolding outcome reply_for reply_is answer_area
     query_answered {draws} {area = area} answer is = record {
+      part = tt;
       means = λ es q v h w.
           let o : read_from f.format (names f) es q v [] 0 ≡ answered v draws (set_in scratch) = goes query es q v h ∙ query_done f q v before (reads answer h) in
           (ap (λ (x : ℕ). Ok (x, draws)) (sym w) ∙ ap reply_for (sym o), is ∙ ap (λ (x : Outcome). answer_area x area) (sym o));

@@ -3,13 +3,13 @@ use Prim.Native.Nat.{ℕ, ◌≤◌}
 use mathlib.Core.Path.{◌≡◌, refl, sym, ◌∙◌, ap}
 use mathlib.Core.Bool.{true, false}
 use mathlib.Core.List.{List, []}
-use native.Mathlib.Omega.{arith}
 use lib.Dec.{leb}
 use lib.ListN.{length}
 use borrow.Author.Tests.{leb-true}
 use Rattle.std.specs.Prelude.{Result, Ok, Err}
 use Rattle.refusals.specs.RefusalTable.{bad_store, bad_link, short_area, no_part}
 use Rattle.refusals.specs.Numbers.{number, part_number, of_neither}
+use Rattle.refusals.specs.Parts.{IsPart}
 use Rattle.refusals.specs.declared.Refusal.TheVariants.{BadStore, BadLink, ShortArea}
 use Rattle.refusals.specs.declared.Refused.{Refused}
 use Rattle.rows.specs.Layout.{set_room}
@@ -19,7 +19,7 @@ use Rattle.certificates.specs.Link.{sound_links}
 use Rattle.certificates.specs.Stores.{Stores}
 use Rattle.policy.specs.Format.{format_of}
 use Rattle.policy.specs.Polarity.{Verdict, verdict_word}
-use Rattle.policy.specs.Judgement.{JudgementReply, verdict, refused, judge}
+use Rattle.policy.specs.Judgement.{verdict, judge}
 use Rattle.policy.specs.Codes.{verdict_number}
 use Rattle.policy.specs.declared.codes.Verdict as HeldVerdict
 use Rattle.policy.specs.declared.codes.Verdict.TheVariants as held
@@ -34,13 +34,13 @@ use Rattle.engine.specs.declared.Answer.{Answer}
 use Rattle.demands.proofs.Outcome.{names_at, stores_sound, call_judged, call_refused, call_reads}
 
 -- a call that was refused
-refuses_call : (s : Stores) (c : Call) (r : Refused) → query_call s c ≡ Query.refused (number r.refusal) (part_number r.part) → Replied s c (Err r) c.answer s
+refuses_call : (s : Stores) (c : Call) (r : Refused) → IsPart r.part → query_call s c ≡ Query.refused (number r.refusal) (part_number r.part) → Replied s c (Err r) c.answer s
 unfolding reply_for reply_is answer_area
-refuses_call s c r e = record { reply = ap reply_for (sym e); area = ap (λ (o : Outcome). answer_area o c.answer) (sym e); unchanged = refl }
+refuses_call s c r p e = record { reply = ap reply_for (sym e); part = p; area = ap (λ (o : Outcome). answer_area o c.answer) (sym e); unchanged = refl }
 
-pub refuses_judged : (s : Stores) (c : Call) (r : Refused) → judged_is (Err r) ≡ judge c.our_key c.policy c.query → Replied s c (Err r) c.answer s
+pub refuses_judged : (s : Stores) (c : Call) (r : Refused) → IsPart r.part → judged_is (Err r) ≡ judge c.our_key c.policy c.query → Replied s c (Err r) c.answer s
 unfolding judged_is
-refuses_judged s c r e = refuses_call s c r (call_judged s c (number r.refusal) (part_number r.part) (sym e))
+refuses_judged s c r p e = refuses_call s c r p (call_judged s c (number r.refusal) (part_number r.part) (sym e))
 
 -- what a judgement in hand says
 pub is_judged : (ours : ℕ) (p q : List ℕ) (v : HeldVerdict.Verdict) → judged_is (Ok v) ≡ judge ours p q → judge ours p q ≡ verdict (verdict_is v)
@@ -56,17 +56,17 @@ same_word held.Upper = refl
 module _ (s : Stores) (c : Call) (v : Verdict) (passes : judge c.our_key c.policy c.query ≡ verdict v) where
   pub refuses_store : sound_store s.store ≡ false → Replied s c (Err (of_neither BadStore)) c.answer s
   unfolding soundness
-  refuses_store a = refuses_call s c (of_neither BadStore) ((call_refused s c bad_store no_part).1 (unsound ((judge_checked c.our_key c.policy c.query v).0 passes).2 a))
+  refuses_store a = refuses_call s c (of_neither BadStore) tt ((call_refused s c bad_store no_part).1 (unsound ((judge_checked c.our_key c.policy c.query v).0 passes).2 a))
 
   module _ (sound : sound_store s.store ≡ true) where
     pub refuses_links : sound_links s.links ≡ false → Replied s c (Err (of_neither BadLink)) c.answer s
     unfolding soundness
-    refuses_links l = refuses_call s c (of_neither BadLink) ((call_refused s c bad_link no_part).1 (unsound_links ((judge_checked c.our_key c.policy c.query v).0 passes).2 sound l))
+    refuses_links l = refuses_call s c (of_neither BadLink) tt ((call_refused s c bad_link no_part).1 (unsound_links ((judge_checked c.our_key c.policy c.query v).0 passes).2 sound l))
 
     module _ (links : sound_links s.links ≡ true) where
       pub refuses_areas : roomy c ≡ false → Replied s c (Err (of_neither ShortArea)) c.answer s
       refuses_areas r =
-          refuses_call s c (of_neither ShortArea) ((call_refused s c short_area no_part).1 (short ((judge_checked c.our_key c.policy c.query v).0 passes).2 (stores_sound s sound links) r))
+          refuses_call s c (of_neither ShortArea) tt ((call_refused s c short_area no_part).1 (short ((judge_checked c.our_key c.policy c.query v).0 passes).2 (stores_sound s sound links) r))
 
       module _ (room : roomy c ≡ true) where
         enough : (set_room ≤ length c.answer) × (definition_room ≤ length c.definitions) × (scratch_room ≤ length c.scratch)
@@ -90,4 +90,4 @@ module _ (s : Stores) (c : Call) (v : Verdict) (passes : judge c.our_key c.polic
             let t = (judge_checked c.our_key c.policy c.query v).0 passes in
             let o : query_call s c ≡ read_from (format_of c.policy) (names_at s c) t.0 t.1 v [] 0 = call_reads s (names_at s c) (stores_sound s sound links) c refl ∙ rw (t.2, room, outcome_from) in
             let m = said.means t.0 t.1 v t.2 w in
-            record { reply = m.0 ∙ ap reply_for (sym o); area = m.1 ∙ ap (λ (x : Outcome). answer_area x c.answer) (sym o); unchanged = refl }
+            record { reply = m.0 ∙ ap reply_for (sym o); part = said.part; area = m.1 ∙ ap (λ (x : Outcome). answer_area x c.answer) (sym o); unchanged = refl }

@@ -1,6 +1,7 @@
 -- What the query call replies, and what it promises: the reply, the answer area, and the stores.
-use Rattle.std.specs.Prelude.{ℕ, ◌≡◌, List, Result, Ok, Err}
+use Rattle.std.specs.Prelude.{ℕ, ◌≡◌, List, Result, Ok, Err, IfErr}
 use Rattle.refusals.specs.Numbers.{number, part_number}
+use Rattle.refusals.specs.Parts.{IsPart}
 use Rattle.refusals.specs.declared.Refused.{Refused}
 use Rattle.certificates.specs.Stores.{Stores}
 use Rattle.policy.specs.Polarity.{verdict_word}
@@ -21,5 +22,6 @@ reply_is (Err r) = Err (number r.refusal, part_number r.part)
 -- the call on these stores replied r, left these words in the answer area, and these in the stores, in which a query changes nothing
 pub record Replied (s : Stores) (c : Call) (r : Result Answer Refused) (answer : List ℕ) (left : Stores) : Type 0 where
   pub reply : reply_is r ≡ reply_for (query_call s c)
+  pub part : IfErr r (λ x. IsPart x.part)
   pub area : answer ≡ answer_area (query_call s c) c.answer
   pub unchanged : left ≡ s

@@ -1,5 +1,5 @@
 -- What the query call's inner functions ask and say. No promise of a public call names any of this.
-use Rattle.std.specs.Prelude.{ℕ, ◌≤◌, ◌≡◌, true, List, [], length, get_or, Result, Ok, Err}
+use Rattle.std.specs.Prelude.{ℕ, ◌≤◌, ◌≡◌, true, List, [], length, get_or, Result, Ok, Err, IfErr}
 use Rattle.certificates.specs.Store.{sound_store}
 use Rattle.certificates.specs.Link.{sound_links}
 use Rattle.certificates.specs.Stores.{Stores, held_in}
@@ -14,6 +14,7 @@ use Rattle.engine.specs.Reply.{reply_for, reply_is}
 use Rattle.engine.specs.declared.Answer.{Answer}
 use Rattle.engine.specs.declared.answering.Asked.{Asked}
 use Rattle.refusals.specs.Numbers.{number, part_number}
+use Rattle.refusals.specs.Parts.{IsPart}
 use Rattle.refusals.specs.declared.Refused.{Refused}
 
 abbrev pub stores_of : Asked → Stores
@@ -57,8 +58,10 @@ SoundIf f (Err r) = Unit {0}
 -- all definitions are read, or a refusal was met in one of them, whichever query they are read for
 pub record ReadDefinitions (f : From) (r : Result ℕ Refused) : Type 0 where
   pub sound : SoundIf f r
+  pub part : IfErr r (λ x. IsPart x.part)
   pub means : (query : List ℕ) (es : List Expr) (q : Expr) (v : Verdict) → check f.our_key f.policy query ≡ checked es q v → read_from f.format (names f) es q v [] 0 ≡ left_to_read f q v r
 
 pub record ReadAll (ours format : ℕ) (held : Evidence) (policy query : List ℕ) (verdict : ℕ) (area : List ℕ) (r : Result Answer Refused) (now : List ℕ) : Type 0 where
+  pub part : IfErr r (λ x. IsPart x.part)
   pub means : (es : List Expr) (q : Expr) (v : Verdict) → check ours policy query ≡ checked es q v → verdict_word v ≡ verdict →
       (reply_is r ≡ reply_for (read_from format held es q v [] 0)) × (now ≡ answer_area (read_from format held es q v [] 0) area)

@@ -1,6 +1,6 @@
 -- The definitions in file order and the query, way out by way out.
 use Rattle.std.proofs.Common.{ℕ, suc, ◌≡◌, ◌<◌, ◌≤◌, ◌+◌, ◌-◌, Bool, true, false, List, [], ◌∷◌, ◌++◌, Result, Ok, Err, length, refl, sym, ◌∙◌, ap, subst, arith}
-use lib.ListN.{length-map, length-append}
+use lib.ListN.{length-append}
 use borrow.Author.Tests.{le-leb, lt-leb}
 use Rattle.refusals.specs.RefusalTable.{query_part, no_part, not_a_key}
 use Rattle.refusals.specs.Numbers.{number, part_number}
@@ -31,10 +31,6 @@ use Rattle.check_polarity.specs.declared.Earlier.{Earlier}
 use Rattle.judging.specs.Whole.{Whole, whole_is, whole_for, definition_parsed, definition_at, query_at}
 use Rattle.judging.specs.Whole as whole
 use Rattle.judging.specs.Reply.{JudgedAs, verdict_is, judged_is}
-
-pub known_count : (x : Earlier) → length (earlier_is x).known ≡ length x.definitions.items
-unfolding earlier_is
-known_count x = length-map x.definitions.items known_is
 
 -- our key is tested first
 module _ (ours : ℕ) (p : List ℕ) where

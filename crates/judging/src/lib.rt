@@ -1,7 +1,8 @@
 // A policy and a query judged under a key of ours: refusal 20, then 1 to 7, each part through 3 to 7 before the next.
 #![tactic(auto)]
 
-ghost use Rattle.std.specs.Prelude.{◌<◌, ◌≡◌, Ok};
+ghost use Rattle.std.specs.Prelude.{◌<◌, ◌≡◌, Ok, IfErr};
+ghost use Rattle.refusals.specs.Parts.{IsPart};
 ghost use Rattle.rows.specs.Polarities.{polarity_is};
 ghost use Rattle.policy.specs.Table.{entry_at, read_table};
 ghost use Rattle.policy.specs.Parse.{parse};
@@ -84,7 +85,8 @@ fn judge_entry(table: &Table<'_>, i: usize, earlier: &Earlier) -> Result<Facts, 
 // The definitions in file order, each through 3 to 7 before the next.
 fn judge_definitions(table: &Table<'_>, our_key: u32) -> Result<Earlier, Refused>
     requires { table_read table.now.policy.now (Ok table.now) ≡ read_table table.now.policy.now }
-    ensures { JudgedAs our_key (check_table our_key table.now.policy.now) result }
+    ensures judged { JudgedAs our_key (check_table our_key table.now.policy.now) result }
+    ensures part { IfErr result (λ r. IsPart r.part) }
 {
     let mut earlier = Earlier::none(our_key);
     for i in 0..table.count {
@@ -110,18 +112,22 @@ fn judge_definitions(table: &Table<'_>, our_key: u32) -> Result<Earlier, Refused
 
 /// What is known of a policy's definitions: 20 for our key, 1 and 2 for the table, then 3 to 7 for each definition.
 pub fn judge_policy(policy: &[u32], our_key: u32) -> Result<Earlier, Refused>
-    ensures { JudgedAs our_key (check_policy our_key policy.now) result }
+    ensures judged { JudgedAs our_key (check_policy our_key policy.now) result }
+    ensures part { IfErr result (λ r. IsPart r.part) }
 {
     if our_key < FIRST_KEY {
         return Err(Refused::from(Refusal::NotAKey));
     }
-    let table = Table::read(policy)?;
-    judge_definitions(&table, our_key)
+    match Table::read(policy) {
+        Ok(table) => judge_definitions(&table, our_key),
+        Err(refusal) => Err(Refused::from(refusal)),
+    }
 }
 
 /// The verdict of a query under a policy and a key of ours, or the refusal: the policy's, then the query's.
 pub fn judge(policy: &[u32], query: &[u32], our_key: u32) -> Result<Verdict, Refused>
-    ensures { judged_is result ≡ judge our_key policy.now query.now }
+    ensures judged { judged_is result ≡ judge our_key policy.now query.now }
+    ensures part { IfErr result (λ r. IsPart r.part) }
 {
     let earlier = judge_policy(policy, our_key)?;
     match judge_query(query, &earlier) {

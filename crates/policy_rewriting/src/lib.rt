@@ -4,8 +4,9 @@
 mod laying;
 mod vetting;
 
-ghost use Rattle.std.specs.Prelude.{◌+◌, ◌-◌, ◌≤◌, ◌≡◌, [], length};
+ghost use Rattle.std.specs.Prelude.{◌+◌, ◌-◌, ◌≤◌, ◌≡◌, [], length, IfErr};
 ghost use Rattle.refusals.specs.Numbers.{told};
+ghost use Rattle.refusals.specs.Parts.{IsPart};
 ghost use Rattle.rows.specs.Polarities.{polarity_is};
 ghost use Rattle.policy.specs.Table.{entry_at};
 ghost use Rattle.policy.specs.External.{moved, entry_four, rewrite_into, area_after};
@@ -122,8 +123,11 @@ fn rewrite_passed(policy: &[u32], area: &mut [u32]) -> Result<usize, Refusal>
 /// The external policy rewritten into the area, and the output's length; or the refusal, which leaves the area as it was.
 /// Our key goes to the checks alone: our own names are guarded as all others are.
 pub fn rewrite(policy: &[u32], our_key: u32, area: &mut [u32]) -> Result<usize, Refused>
-    ensures { (told result ≡ rewritten_for (rewrite_into our_key policy.now area.old)) × (area.new ≡ area_after (rewrite_into our_key policy.now area.old) area.old) }
+    ensures told { (told result ≡ rewritten_for (rewrite_into our_key policy.now area.old)) × (area.new ≡ area_after (rewrite_into our_key policy.now area.old) area.old) }
+    ensures part { IfErr result (λ r. IsPart r.part) }
 {
-    let _earlier = judge_policy(policy, our_key)?;
-    Ok(rewrite_passed(policy, area)?)
+    match judge_policy(policy, our_key) {
+        Ok(_) => Ok(rewrite_passed(policy, area)?),
+        Err(refused) => Err(refused),
+    }
 }

@@ -32,12 +32,15 @@ impl Entry {
         }
     }
 
-    #[tactic(auto, unfolding(policy::specs::OwnKey::declares))]
-    fn declares(&self, name: u32, polarity: Polarity) -> bool
-        ensures { result ≡ declares (declared_as (entry_is self.now)) name (polarity_is polarity) }
-    {
-        self.name == name && polarity_of(self.polarity) == polarity
-    }
+}
+
+// Has the entry whose first word stands at `at` this name and polarity? Most entries are passed at their name, so no more of them is read.
+#[tactic(auto, unfolding(policy::specs::OwnKey::declares, policy::specs::Table::entry_at))]
+fn declares(policy: &[u32], at: usize, name: u32, polarity: Polarity) -> bool
+    requires { at + 4 ≤ length policy.now }
+    ensures { result ≡ declares (declared_as (entry_at policy.now at)) name (polarity_is polarity) }
+{
+    policy[at] == name && polarity_of(policy[at + 1]) == polarity
 }
 
 // Where entry `i` begins: name, polarity, offset, length.
@@ -66,7 +69,7 @@ pub fn find_definition(policy: &[u32], known: usize, name: u32, polarity: Polari
         MatchOption result (d ≡ known) (λ i. (i < known) × (d ≡ i)) }
 {
     for i in 0..known {
-        if Entry::at(policy, 2 + 4 * i).declares(name, polarity) {
+        if declares(policy, 2 + 4 * i, name, polarity) {
             return Some(i);
         }
     }

@@ -27,7 +27,7 @@ use Rattle.read_held.proofs.Holding.{rows_none, rows_hold, rows_skip, rows_last,
 -- the record whose row is the last of these, if there are any
 unfoldable pub Last : List Row → Option (Bor (List ℕ)) → Type 0
 Last rows None = rows ≡ []
-Last rows (Some w) = (record_row w.now ∈ rows) × ((x : Row) → x ∈ rows → row_before (record_row w.now) x ≡ false)
+Last rows (Some w) = (record_row w.now ∈ rows) × ((x : Row) → x ∈ rows → row_before (record_row w.now) x ≡ false) × (sound_record w.now ≡ true)
 
 -- so many rows are counted
 pub record Counting (listed : ℕ) (last : Option (Bor (List ℕ))) (rows : List Row) : Type 0 where
@@ -96,6 +96,7 @@ module _ (minute : ℕ) (rs : List (List ℕ)) where
       last_grows last l n w e = (
         (∈-last (rows_of i) (row_at rs i) (record_row w.now)).1 (inr (ap (λ v. record_row v) e)),
         λ x m. ap (λ v. row_before (record_row v) x) e ∙ go x ((∈-last (rows_of i) (row_at rs i) x).0 m),
+        ap sound_record e ∙ records.sound i less,
       )
         where
           go : (x : Row) → (x ∈ rows_of i) ⊎ (x ≡ row_at rs i) → row_before (row_at rs i) x ≡ false
@@ -137,6 +138,11 @@ module _ (rs : List (List ℕ)) (i : ℕ) where
   pub another : (last : Option (Bor (List ℕ))) {b : Bool} → Told last b → b ≡ false → MatchOption last (Unit {0}) (λ w. record_row w.now ≢ row_at rs i)
   another None t e = tt
   another (Some w) t e = λ q. never (t.1 q) e
+
+  pub last_sound : (rows : List Row) (last : Option (Bor (List ℕ))) → Last rows last → MatchOption last (Unit {0}) (λ w. sound_record w.now ≡ true)
+  unfolding Last
+  last_sound rows None l = tt
+  last_sound rows (Some w) l = l.2
 
   pub the_last : (rows : List Row) (last : Option (Bor (List ℕ))) {b : Bool} → Last rows last → Told last b → b ≡ true → row_at rs i ∈ rows
   unfolding Last

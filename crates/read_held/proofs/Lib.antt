@@ -1,4 +1,4 @@
 pub mod Holding
 pub mod Copying
 pub mod Searching
-pub mod Comparing
+pub mod Halving

@@ -1,122 +1,41 @@
--- Whether a row is among those that hold: the records of a row stand side by side, behind those of all earlier rows.
-use Rattle.std.proofs.Common.{ℕ, zero, suc, ◌≡◌, ◌+◌, ◌-◌, ◌<◌, ◌≤◌, ◌↔◌, IsTrue, Bool, true, false, List, [], ◌∷◌, length, get_or, take, drop, refl, sym, ◌∙◌, ap, subst, arith}
+-- Whether a row is among those that hold: some record of it does, or none.
+use Rattle.std.proofs.Common.{ℕ, ◌≡◌, ◌+◌, ◌<◌, Bool, true, false, List, [], length, get_or, refl, sym, ◌∙◌, ap, subst, arith}
 use lib.Dec.{ltb}
-use lib.Seq.{get_or-drop, get_or-take}
 use borrow.Author.Tests.{ltb-true, ltb-false}
-use Rattle.std.specs.List.{list_any, prefix_len}
-use Rattle.std.specs.List.Sorted.{IsPartitionedBy, IsPartitionPoint}
-use Rattle.std.proofs.lemmas.List.{get_or_default, length-drop}
-use Rattle.std.proofs.lemmas.List.Folds.{list_any_at, length-prefix_len}
-use Rattle.std.proofs.lemmas.List.Sums.{prefix_len_passes, prefix_len_stops, prefix_len-le-length}
-use Rattle.rows.specs.Ordered.{◌∈◌, tied}
+use Rattle.rows.specs.Ordered.{◌∈◌}
 use Rattle.rows.specs.Row.{Row, row_before}
-use Rattle.rows.proofs.Case.{Case, is_true, is_false, split, never, T_true, true_T}
-use Rattle.rows.proofs.Order.{row_order, least_then_less}
-use Rattle.rows.proofs.Ordered.{same_iff}
+use Rattle.rows.proofs.Case.{Case, is_true, is_false, split, never}
+use Rattle.rows.proofs.Order.{row_order}
 use Rattle.rows.proofs.Place.{lists_not, lists-∈}
-use Rattle.certificates.specs.Certificate.{record_row, holds_at}
-use Rattle.read_held.specs.Held.{Records, row_at, rows_held, SayFound}
+use Rattle.certificates.specs.Certificate.{holds_at}
+use Rattle.read_held.specs.Held.{row_at, rows_held, SayBeside, SayFound}
 use Rattle.read_held.proofs.Holding.{rows_has, rows_from}
 
--- a row is told by the order: neither comes before the other
-pub tied_lem : {b : Bool} (x y : Row) → IsTrue b ↔ (x ≡ y) → b ≡ tied row_before x y
-tied_lem {b} x y h = go (split b) (split (tied row_before x y))
-  where
-    go : Case b → Case (tied row_before x y) → b ≡ tied row_before x y
-    go (is_true e) c = e ∙ sym (true_T _ ((same_iff row_before row_order x y).1 (h.0 e)))
-    go (is_false e) (is_false f) = e ∙ sym f
-    go (is_false e) (is_true f) = never (h.1 ((same_iff row_before row_order x y).0 (T_true f))) e
+module _ (minute : ℕ) (rs : List (List ℕ)) (x : Row) where
+  pub none_holds : ((l : ℕ) → l < length rs → row_at rs l ≡ x → holds_at minute (get_or rs l []) ≡ false) → SayFound minute rs x false
+  none_holds none = record {
+    means = lists_not row_before row_order [] (rows_held minute rs) x (λ m. let f = rows_from minute rs x m in never f.3 (none f.0 f.1 (sym f.2)));
+  }
 
--- one passes
-hit : {X : Type 0} (test : X → Bool) (d : X) (xs : List X) → list_any test xs ≡ true → (k : ℕ) × (k < length xs) × (test (get_or xs k d) ≡ true)
-hit test d [] e = never refl (sym e)
-hit test d (x ∷ xs) e = go (λ h. hit test d xs h) (split (test x))
-  where
-    go : (list_any test xs ≡ true → (k : ℕ) × (k < length xs) × (test (get_or xs k d) ≡ true)) → Case (test x) → (k : ℕ) × (k < length (x ∷ xs)) × (test (get_or (x ∷ xs) k d) ≡ true)
-    go ih (is_true t) = (zero, omega arith, t)
-    go ih (is_false t) = let f = ih (rw t at e) in let h = f.1 in (suc f.0, omega arith, f.2)
+  pub one_holds : (l : ℕ) → l < length rs → row_at rs l ≡ x → holds_at minute (get_or rs l []) ≡ true → SayFound minute rs x true
+  one_holds l h e t = record {
+    means = lists-∈ row_before row_order [] (rows_held minute rs) x (subst (λ (y : Row). y ∈ rows_held minute rs) e (rows_has minute rs l h t));
+  }
 
-module _ {rs : List (List ℕ)} (records : Records rs) (x : Row) where
-  abbrev pub earlier : List ℕ → Bool
-  earlier w = row_before (record_row w) x
+  module _ (i : ℕ) (here : row_at rs i ≡ x) where
+    pub one_beside : {from end : ℕ} → SayBeside minute rs i from end true → SayFound minute rs x true
+    one_beside s = let f = s.some refl in one_holds f.0 f.1 (f.2 ∙ here) f.3
 
-  abbrev pub its : List ℕ → Bool
-  its w = tied row_before (record_row w) x
-
-  pub rows_parted : IsPartitionedBy earlier rs
-  rows_parted i j d h l e = ap earlier (get_or_default rs i d [] (omega arith)) ∙ go (split (ltb i j))
-    where
-      there : row_before (row_at rs j) x ≡ true
-      there = ap earlier (get_or_default rs j [] d l) ∙ e
-
-      go : Case (ltb i j) → row_before (row_at rs i) x ≡ true
-      go (is_true t) = least_then_less row_order (row_at rs i) (row_at rs j) x (records.climb i j (ltb-true i j t) l) there
-      go (is_false t) = let q : j ≡ i = omega (arith, ltb-false i j t) in subst (λ (k : ℕ). row_before (row_at rs k) x ≡ true) q there
-
-  module _ (minute : ℕ) (start : ℕ) (bound : start ≤ length rs) (point : IsPartitionPoint (λ w. earlier w ≡ true) (λ w. earlier w ≡ false) rs start) where
-    abbrev rest : List (List ℕ)
-    rest = drop start rs
-
-    abbrev run : List (List ℕ)
-    run = take (prefix_len its rest) rest
-
-    rest_long : start + length rest ≡ length rs
-    rest_long = omega (arith, length-drop start rs)
-
-    in_rest : (k : ℕ) → get_or rest k [] ≡ get_or rs (start + k) []
-    in_rest k = get_or-drop start rs k []
-
-    run_in : (k : ℕ) → k < prefix_len its rest → get_or run k [] ≡ get_or rs (start + k) []
-    run_in k h = get_or-take (prefix_len its rest) rest k [] h ∙ in_rest k
-
-    its_row : (k : ℕ) → k < prefix_len its rest → row_at rs (start + k) ≡ x
-    its_row k h = ap (λ w. record_row w) (sym (in_rest k)) ∙ (same_iff row_before row_order _ x).0 (T_true (prefix_len_passes its rest k [] h))
-
-    -- a record of the row stands in the run
-    within : (l : ℕ) → l < length rs → x ≡ row_at rs l → (k : ℕ) × (k < prefix_len its rest) × (start + k ≡ l)
-    unfolding tied
-    within l h e = go (split (ltb l start)) (split (ltb (l - start) (prefix_len its rest)))
+    -- it does not hold, and none before or behind it with its row does
+    pub none_beside : holds_at minute (get_or rs i []) ≡ false → SayBeside minute rs i 0 i false → SayBeside minute rs i (i + 1) (length rs) false → SayFound minute rs x false
+    none_beside not before behind = none_holds (λ l h e. go l h (e ∙ sym here) (split (ltb l i)) (split (ltb i l)))
       where
-        go : Case (ltb l start) → Case (ltb (l - start) (prefix_len its rest)) → (k : ℕ) × (k < prefix_len its rest) × (start + k ≡ l)
-        go (is_true t) c = never (point.0 l [] (omega arith) (ltb-true l start t)) (ap (λ y. row_before y x) (sym e) ∙ row_order.irreflexive x)
-        go (is_false t) (is_true u) = let a = ltb-false l start t in (l - start, ltb-true _ _ u, omega arith)
-        go (is_false t) (is_false u) =
-            let n : ℕ = prefix_len its rest in
-            let a = ltb-false l start t in
-            let b = ltb-false _ _ u in
-            let r = rest_long in
-            let short : n < length rest = omega arith in
-            let other : tied row_before (row_at rs (start + n)) x ≡ false = ap its (sym (in_rest n)) ∙ prefix_len_stops its rest [] short in
-            let not_before : row_before (row_at rs (start + n)) x ≡ false = point.1 (start + n) [] (omega arith) (omega arith) in
-            let not_behind : row_before x (row_at rs (start + n)) ≡ false = ap (λ y. row_before y (row_at rs (start + n))) e ∙ behind (start + n) (omega arith) in
-            never (rw (not_before, not_behind) refl) other
-          where
-            behind : (m : ℕ) → m ≤ l → row_before (row_at rs l) (row_at rs m) ≡ false
-            behind m k = last (split (ltb m l))
-              where
-                last : Case (ltb m l) → row_before (row_at rs l) (row_at rs m) ≡ false
-                last (is_true t) = records.climb m l (ltb-true m l t) h
-                last (is_false t) = let q : m ≡ l = omega (arith, ltb-false m l t) in ap (λ (j : ℕ). row_before (row_at rs l) (row_at rs j)) q ∙ row_order.irreflexive (row_at rs l)
+        go : (l : ℕ) → l < length rs → row_at rs l ≡ row_at rs i → Case (ltb l i) → Case (ltb i l) → holds_at minute (get_or rs l []) ≡ false
+        go l h e (is_true t) c = before.none refl l (omega arith) (ltb-true l i t) e
+        go l h e (is_false t) (is_true u) = behind.none refl l (omega (arith, ltb-true i l u)) h e
+        go l h e (is_false t) (is_false u) =
+            let q : l ≡ i = omega (arith, ltb-false l i t, ltb-false i l u) in ap (λ (k : ℕ). holds_at minute (get_or rs k [])) q ∙ not
 
-    pub run_tells : SayFound minute rs x (list_any (holds_at minute) run)
-    run_tells = go (split (list_any (holds_at minute) run))
-      where
-        go : Case (list_any (holds_at minute) run) → SayFound minute rs x (list_any (holds_at minute) run)
-        go (is_true t) =
-            let f = hit (holds_at minute) [] run t in
-            let few : f.0 < prefix_len its rest = omega (arith, f.1, length-prefix_len its rest) in
-            let r = rest_long in
-            let most = prefix_len-le-length its rest in
-            let l : start + f.0 < length rs = omega arith in
-            rw t (record {
-              means = lists-∈ row_before row_order [] (rows_held minute rs) x
-                  (subst (λ (y : Row). y ∈ rows_held minute rs) (its_row f.0 few) (rows_has minute rs (start + f.0) l (ap (holds_at minute) (sym (run_in f.0 few)) ∙ f.2)));
-            })
-        go (is_false t) = rw t (record {
-          means = lists_not row_before row_order [] (rows_held minute rs) x (λ m.
-              let f = rows_from minute rs x m in
-              let w = within f.0 f.1 f.2 in
-              let long : w.0 < length run = omega (arith, w.1, length-prefix_len its rest) in
-              let here : holds_at minute (get_or run w.0 []) ≡ true = ap (holds_at minute) (run_in w.0 w.1 ∙ ap (λ (j : ℕ). get_or rs j []) w.2) ∙ f.3 in
-              never (list_any_at (holds_at minute) run w.0 [] long here) t);
-        })
+    pub beside_tells : holds_at minute (get_or rs i []) ≡ false → SayBeside minute rs i 0 i false → (r : Bool) → SayBeside minute rs i (i + 1) (length rs) r → SayFound minute rs x r
+    beside_tells not before true s = one_beside s
+    beside_tells not before false s = none_beside not before s

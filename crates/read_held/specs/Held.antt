@@ -1,5 +1,5 @@
 -- A name's records, and the rows of those that hold at a minute: what the code asks and finds.
-use Rattle.std.specs.Prelude.{ℕ, ◌<◌, ◌≤◌, ◌≡◌, Bool, true, false, List, [], map, length, get_or}
+use Rattle.std.specs.Prelude.{ℕ, ◌<◌, ◌≤◌, ◌≡◌, Bool, true, false, List, [], map, length, get_or, Option, None, Some}
 use Rattle.refusals.specs.declared.Refusal.{Refusal}
 use Rattle.refusals.specs.declared.Refusal.TheVariants.{TooManyRows}
 use Rattle.rows.specs.Ordered.{keep, lists, join}
@@ -30,6 +30,16 @@ TooMany rows e = (e ≡ TooManyRows) × (most_rows < length rows)
 pub record Copied (minute : ℕ) (rs : List (List ℕ)) (before area : List ℕ) : Type 0 where
   pub words : area ≡ written (formed (get_or before 0 0) (rows_held minute rs)) before
   pub few : length (rows_held minute rs) ≤ most_rows
+
+-- a record of the row, if there is one
+abbrev pub SayRecord : List (List ℕ) → Row → Option ℕ → Type 0
+SayRecord rs x None = (l : ℕ) → l < length rs → row_at rs l ≡ x → ⊥
+SayRecord rs x (Some i) = (i < length rs) × (row_at rs i ≡ x)
+
+-- whether one of the records from `from` up to, but without, `end` holds that have record i's row
+pub record SayBeside (minute : ℕ) (rs : List (List ℕ)) (i from end : ℕ) (r : Bool) : Type 0 where
+  pub some : r ≡ true → (l : ℕ) × (l < length rs) × (row_at rs l ≡ row_at rs i) × (holds_at minute (get_or rs l []) ≡ true)
+  pub none : r ≡ false → (l : ℕ) → from ≤ l → l < end → row_at rs l ≡ row_at rs i → holds_at minute (get_or rs l []) ≡ false
 
 -- whether the row is among those that hold
 pub record SayFound (minute : ℕ) (rs : List (List ℕ)) (x : Row) (r : Bool) : Type 0 where

@@ -1,16 +1,20 @@
 // Of a name's records those that hold at a minute, and their rows. The records are in order by the row, so that those of one row stand side by side.
 #![tactic(auto)]
 
-ghost use Rattle.std.specs.Prelude.{◌≤◌, ◌<◌, ◌≡◌, ◌↔◌, IsTrue, MatchOption, MatchResult, length, get_or, false};
-ghost use Rattle.rows.specs.Row.{row_before};
+ghost use Rattle.std.specs.Prelude.{◌+◌, ◌≤◌, ◌<◌, ◌≡◌, ◌↔◌, IsTrue, MatchOption, MatchResult, length, get_or, true, false};
 ghost use Rattle.rows.specs.Layout.{set_room};
 ghost use Rattle.rows.specs.Sets.{most_rows};
-ghost use Rattle.certificates.specs.Certificate.{record_row, holds_at};
-ghost use Rattle.read_held.specs.Held.{Records, rows_held, TooMany, Copied, SayFound};
+ghost use Rattle.row_words.specs.Values.{row_is};
+ghost use Rattle.certificates.specs.Certificate.{sound_record, record_row, holds_at};
+ghost use Rattle.read_held.specs.Held.{Records, rows_held, TooMany, Copied, SayRecord, SayBeside, SayFound};
 
 use certificates::{RECORD_WORDS, ROW_IN_RECORD, TERM_IN_RECORD};
 use refusals::Refusal;
+use row_words::row::Row;
 use rows::MOST_ROWS;
+use std::cmp::Ordering;
+
+const FIRST_ATOM: usize = ROW_IN_RECORD + 1;
 
 /// The words of one certificate, as a store holds them.
 pub type Record = [u32; RECORD_WORDS];
@@ -23,39 +27,32 @@ pub fn holds(held: &Record, minute: u32) -> bool
     held[TERM_IN_RECORD] <= minute && minute < held[TERM_IN_RECORD + 1]
 }
 
-/// The atoms of its row.
-pub fn row_of(held: &Record) -> &[u32]
-    ensures { result.now ≡ record_row held.now }
+// Are the rows of two records the same? Their first atoms mostly tell.
+// A loop: the slices' own `==` is a call, for which whoever asks this at each record has to put by what it holds.
+fn same_row(one: &Record, other: &Record) -> bool
+    requires { (sound_record one.now ≡ true) × (sound_record other.now ≡ true) }
+    ensures { IsTrue result ↔ (record_row one.now ≡ record_row other.now) }
 {
-    let width = held[ROW_IN_RECORD].min(4) as usize;
-    &held[ROW_IN_RECORD + 1..ROW_IN_RECORD + 1 + width]
-}
-
-// Does its row come before this one: atom by atom, and where one ends and the other goes on, the shorter first?
-fn comes_before(held: &Record, row: &[u32]) -> bool
-    ensures { result ≡ row_before (record_row held.now) row.now }
-{
-    // A loop: with the slices' own `<` a look-up takes a third longer on rows this short.
-    let mine = row_of(held);
-    for j in 0..mine.len().min(row.len()) {
-        if mine[j] != row[j] {
-            return mine[j] < row[j];
+    if one[FIRST_ATOM] != other[FIRST_ATOM] {
+        return false;
+    }
+    for j in 0..5 {
+        if one[ROW_IN_RECORD + j] != other[ROW_IN_RECORD + j] {
+            return false;
         }
     }
-    mine.len() < row.len()
-}
-
-fn has_row(held: &Record, row: &[u32]) -> bool
-    ensures { IsTrue result ↔ (record_row held.now ≡ row.now) }
-{
-    row_of(held) == row
+    true
 }
 
 // Is its row the one that was listed last?
 fn is_listed(held: &Record, last: Option<&Record>) -> bool
+    requires { (sound_record held.now ≡ true) × MatchOption last (Unit {0}) (λ other. sound_record other.now ≡ true) }
     ensures { MatchOption last.entry (result ≡ false) (λ other. IsTrue result ↔ (record_row other.now ≡ record_row held.now)) }
 {
-    last.is_some_and(|last| row_of(last) == row_of(held))
+    match last {
+        Some(last) => same_row(last, held),
+        None => false,
+    }
 }
 
 /// Whether more rows hold than a set lists.
@@ -109,14 +106,72 @@ pub fn copy_rows(records: &[Record], minute: u32, area: &mut [u32]) -> Result<()
     Ok(())
 }
 
-/// Is the row among those that hold?
-pub fn is_held(records: &[Record], minute: u32, row: &[u32]) -> bool
-    requires { Records records.now }
-    ensures { SayFound minute records.now row.now result }
+// The place of some record of the row, by halving.
+// A loop: it ends at the first such record that it meets, whichever that is.
+fn find_record(records: &[Record], row: &Row) -> Option<usize>
+    requires { Records records.now × (row.now.width ≤ 4) }
+    ensures { SayRecord records.now (row_is row.now) result }
 {
-    let start = records.partition_point(|held| comes_before(held, row));
-    records[start..]
-        .iter()
-        .take_while(|held| has_row(held, row))
-        .any(|held| holds(held, minute))
+    let mut low: usize = 0;
+    let mut high = records.len();
+    while low < high {
+        let middle = low + (high - low) / 2;
+        match row.compare(&records[middle], ROW_IN_RECORD) {
+            Ordering::Less => high = middle,
+            Ordering::Equal => return Some(middle),
+            Ordering::Greater => low = middle + 1,
+        }
+    }
+    None
+}
+
+// Does one of the records before record `i` hold that have its row?
+fn held_before(records: &[Record], minute: u32, i: usize) -> bool
+    requires { Records records.now × (i < length records.now) }
+    ensures { SayBeside minute records.now i 0 i result }
+{
+    let mut j = i;
+    while 0 < j {
+        j -= 1;
+        if !same_row(&records[j], &records[i]) {
+            return false;
+        }
+        if holds(&records[j], minute) {
+            return true;
+        }
+    }
+    false
+}
+
+// Does one of the records behind record `i` hold that have its row?
+fn held_behind(records: &[Record], minute: u32, i: usize) -> bool
+    requires { Records records.now × (i < length records.now) }
+    ensures { SayBeside minute records.now i (i + 1) (length records.now) result }
+{
+    for j in i + 1..records.len() {
+        if !same_row(&records[j], &records[i]) {
+            return false;
+        }
+        if holds(&records[j], minute) {
+            return true;
+        }
+    }
+    false
+}
+
+/// Is the row among those that hold? The record that is found mostly tells; where it does not hold, those of the row beside it are asked.
+pub fn is_held(records: &[Record], minute: u32, row: &Row) -> bool
+    requires { Records records.now × (row.now.width ≤ 4) }
+    ensures { SayFound minute records.now (row_is row.now) result }
+{
+    let Some(found) = find_record(records, row) else {
+        return false;
+    };
+    if holds(&records[found], minute) {
+        return true;
+    }
+    if held_before(records, minute, found) {
+        return true;
+    }
+    held_behind(records, minute, found)
 }

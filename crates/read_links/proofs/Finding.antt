@@ -6,8 +6,7 @@ use mathlib.Core.Bool.{true}
 use mathlib.Core.List.{List}
 use native.Mathlib.Omega.{arith}
 use lib.Dec.{ltb}
-use lib.ListN.{length, get_or, replicate, length-map}
-use Rattle.std.proofs.lemmas.List.{get_or-replicate}
+use lib.ListN.{length, get_or, length-map}
 use borrow.Author.Tests.{ltb-true, ltb-false}
 use Rattle.rows.specs.Ordered.{◌∈◌}
 use Rattle.rows.specs.Name.{polarity_of}
@@ -140,18 +139,17 @@ module _ {links : List ℕ} (sound : sound_links links ≡ true) {p : Held.Polar
 -- ---- name after name
 
 module _ {links : List ℕ} (sound : sound_links links ≡ true) (name : Name) where
-  pub reaching_start : Reaching links name (replicate 257 name) 1 0
+  pub reaching_start : (names : List Name) → get_or names 0 nobody ≡ name → Reaching links name names 1 0
   unfolding names_in Once ◌∈◌
-  reaching_start =
-      let first : get_or (replicate 257 name) 0 nobody ≡ name = get_or-replicate 257 0 name nobody (omega arith) in
+  reaching_start names first =
       record {
         search = record {
           sought = record {
             start = inl refl;
-            only = λ y m. elim m [ inl e ↦ subst (Reaches (links_of links) (polarity_is name.polarity) (name_in (replicate 257 name) 0)) (sym e) itself | inr i ↦ absurd i ];
+            only = λ y m. elim m [ inl e ↦ subst (Reaches (links_of links) (polarity_is name.polarity) (name_in names 0)) (sym e) itself | inr i ↦ absurd i ];
             once = (λ m. m, tt);
           };
-          polar = λ i h. let z : i ≡ 0 = omega arith in ap (λ (k : ℕ). (get_or (replicate 257 name) k nobody).polarity) z ∙ ap (λ (n : Name). n.polarity) first;
+          polar = λ i h. let z : i ≡ 0 = omega arith in ap (λ (k : ℕ). (get_or names k nobody).polarity) z ∙ ap (λ (n : Name). n.polarity) first;
         };
         start = ap named_by first;
         few = omega arith;

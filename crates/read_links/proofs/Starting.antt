@@ -4,12 +4,10 @@ use mathlib.Core.Path.{◌≡◌, refl, sym, ◌∙◌, ap, subst}
 use mathlib.Core.Bool.{Bool, true, false}
 use mathlib.Core.List.{List, [], ◌∷◌}
 use native.Mathlib.Omega.{arith}
-use lib.Dec.{ltb}
+use lib.Dec.{ltb, eqb}
 use lib.ListN.{length, get_or, take, drop}
-use Rattle.std.proofs.Common.{IsTrue, ◌↔◌}
-use Rattle.std.proofs.lemmas.List.{take-take}
 use lib.Seq.{get_or-take, get_or-drop}
-use borrow.Author.Tests.{ltb-true, ltb-false, leb-true}
+use borrow.Author.Tests.{ltb-true, ltb-false, leb-true, eqb-true, eq-eqb}
 use Rattle.rows.specs.Ordered.{◌∈◌, leading, words_before}
 use Rattle.rows.specs.Name.{polarity_of}
 use Rattle.rows.specs.Records.{count_of, record_at, begins_before}
@@ -145,13 +143,32 @@ module _ (links : List ℕ) (sound : sound_links links ≡ true) where
               front_from less (words_order.total (take 3 (record_at link_words links i)) words (not_earlier h less) (not_later_lem (ltb-true i j t) f))
           go {i} {j} h k f (is_false t) = let e : j ≡ i = omega (arith, ltb-false i j t) in subst (λ (n : ℕ). From links key name polarity n) e f
 
-    -- link i starts at the name just if it begins with these words
-    pub from_tells : (i : ℕ) → i < count_of links → {b : Bool} → IsTrue b ↔ (take 3 (drop (1 + link_words * i) links) ≡ words) → SayFrom links key name polarity i b
-    unfolding record_at
-    from_tells i h says = record { means = (λ t. front_from h (front ∙ says.0 t), λ f. says.1 (sym front ∙ from_front f)) }
-      where
-        front : take 3 (record_at link_words links i) ≡ take 3 (drop (1 + link_words * i) links)
-        front = take-take 3 link_words (drop (1 + link_words * i) links) (omega arith)
+    -- whether link i starts at the name, word by word
+    module _ (i : ℕ) where
+      its_key : get_or (record_at link_words links i) 0 0 ≡ get_or links (1 + link_words * i) 0
+      its_key = link_word i 0 (1 + link_words * i) (omega arith) (omega arith)
+
+      its_name : get_or (record_at link_words links i) 1 0 ≡ get_or links (1 + link_words * i + 1) 0
+      its_name = link_word i 1 (1 + link_words * i + 1) (omega arith) (omega arith)
+
+      its_polarity : get_or (record_at link_words links i) 2 0 ≡ get_or links (1 + link_words * i + 2) 0
+      its_polarity = link_word i 2 (1 + link_words * i + 2) (omega arith) (omega arith)
+
+      pub other_key_lem : (get_or links (1 + link_words * i) 0 ≡ key → ⊥) → SayFrom links key name polarity i false
+      unfolding link_of
+      other_key_lem n = record { means = (λ t. never t refl, λ f. absurd (n (sym its_key ∙ ap (λ (x : Named). x.key) f.here))) }
+
+      pub other_name_lem : (get_or links (1 + link_words * i + 1) 0 ≡ name → ⊥) → SayFrom links key name polarity i false
+      unfolding link_of
+      other_name_lem n = record { means = (λ t. never t refl, λ f. absurd (n (sym its_name ∙ ap (λ (x : Named). x.name) f.here))) }
+
+      pub by_polarity : i < count_of links → get_or links (1 + link_words * i) 0 ≡ key → get_or links (1 + link_words * i + 1) 0 ≡ name →
+          SayFrom links key name polarity i (eqb (get_or links (1 + link_words * i + 2) 0) polarity)
+      unfolding link_of
+      by_polarity h a b = record { means = (λ t. there (eqb-true _ _ t), λ f. eq-eqb _ _ (sym its_polarity ∙ same_word _ polarity (leb-true _ 1 (link_sound i h).polarity) fits f.polar)) }
+        where
+          there : get_or links (1 + link_words * i + 2) 0 ≡ polarity → From links key name polarity i
+          there c = record { held = h; polar = ap polarity_of (its_polarity ∙ c); here = rw (its_key, its_name, a, b) }
 
     -- none does that is past the last
     pub none_there : {i : ℕ} {b : Bool} → count_of links ≤ i → b ≡ false → SayFrom links key name polarity i b

@@ -6,12 +6,14 @@ ghost use Rattle.read_links.specs.Reached.{RoomFor, Search, Added, SayFollowed, 
 
 use crate::{Name, first_from, is_from};
 use certificates::LINK_WORDS;
+use rows::Polarity;
 
 // Room for the name that the search starts from, and for the second of each link.
 const MOST_FOUND: usize = 257;
 
 /// The names found, each once.
-#[derive(Drop)]
+// Lent to the search: by value three thousand bytes would be copied at each, by a `memcpy` that the archive for C would need beside it.
+#[derive(Clone, Copy)]
 pub struct Found {
     names: [Name; MOST_FOUND],
     count: usize,
@@ -19,6 +21,22 @@ pub struct Found {
 }
 
 impl Found {
+    /// None found yet.
+    pub fn none() -> Found
+        ensures { result.count ≡ 0 }
+    {
+        // All zeros, which is quicker to fill in than any other name.
+        let nobody = Name {
+            key: 0,
+            number: 0,
+            polarity: Polarity::Plus,
+        };
+        Found {
+            names: [nobody; MOST_FOUND],
+            count: 0,
+        }
+    }
+
     /// The names, the one that the search started from first.
     pub fn names(&self) -> &[Name]
         ensures names { result.now ≡ take self.now.count self.now.names }
@@ -66,20 +84,17 @@ impl Found {
     }
 }
 
-/// Finds the names that links of its polarity reach from a name. Each is followed once.
-pub fn reach(links: &[u32], name: Name) -> Found
+/// Finds the names that links of its polarity reach from a name, whatever was found before. Each is followed once.
+pub fn reach(links: &[u32], name: Name, found: &mut Found)
     requires { sound_links links.now ≡ true }
-    ensures { SayReached links.now name result.names result.count }
+    ensures { SayReached links.now name found.new.names found.new.count }
 {
-    let mut found = Found {
-        names: [name; MOST_FOUND],
-        count: 1,
-    };
+    found.names[0] = name;
+    found.count = 1;
     let mut next: usize = 0;
     // The list grows while it is walked, so that no iterator goes over it.
     while next < found.count {
         found.follow(links, next);
         next += 1;
     }
-    found
 }

@@ -44,8 +44,15 @@ fn is_from(links: &[u32], i: usize, name: Name) -> bool
     requires { (sound_links links.now ≡ true) × (i < count_of links.now) }
     ensures { SayFrom links.now name.key name.number (polarity_number name.polarity) i result }
 {
+    // By steps: the slices' own `==` is a call where the keys are the same.
     let at = 1 + LINK_WORDS * i;
-    links[at..at + 3] == name.words()[..]
+    if links[at] != name.key {
+        return false;
+    }
+    if links[at + 1] != name.number {
+        return false;
+    }
+    links[at + 2] == u32::from(name.polarity)
 }
 
 /// Do links of the polarity lead on from the name? Where there are none at all, nothing is searched.

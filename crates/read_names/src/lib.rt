@@ -63,14 +63,14 @@ impl<'a> Held<'a> {
         if name.key < FIRST_KEY {
             return Ok(belongs(name.polarity, false));
         }
-        let listed = self.look_up(name, &row.atoms[..row.width as usize], area)?;
+        let listed = self.look_up(name, &row, area)?;
         Ok(belongs(name.polarity, listed))
     }
 
     // Looks for a row among those of a key's name.
-    fn look_up(&self, name: Name, row: &[u32], area: &mut [u32]) -> Result<bool, Refusal>
-        requires { set_room ≤ length area.old }
-        ensures { MatchResult result (λ listed. Belongs (only (rows_for self.now name)) row.now listed) (λ refusal. Large (only (rows_for self.now name)) refusal) }
+    fn look_up(&self, name: Name, row: &Row, area: &mut [u32]) -> Result<bool, Refusal>
+        requires { (row.now.width ≤ 4) × (set_room ≤ length area.old) }
+        ensures { MatchResult result (λ listed. Belongs (only (rows_for self.now name)) (row_is row.now) listed) (λ refusal. Large (only (rows_for self.now name)) refusal) }
     {
         if is_linked(self.links, name) {
             return self.look_reached(name, row, area);

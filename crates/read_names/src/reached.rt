@@ -4,6 +4,7 @@ ghost use Rattle.rows.specs.Ordered.{◌∈◌};
 ghost use Rattle.rows.specs.Sets.{only};
 ghost use Rattle.rows.specs.Layout.{set_room, formed};
 ghost use Rattle.rows.specs.Polarities.{polarity_number};
+ghost use Rattle.row_words.specs.Values.{row_is};
 ghost use Rattle.certificates.specs.Certificate.{record_row, sound_record};
 ghost use Rattle.read_values.specs.Answers.{Filled, Empty};
 ghost use Rattle.read_links.specs.Reached.{names_in, SayReached};
@@ -64,9 +65,9 @@ impl Held<'_> {
     }
 
     // Looks for a row among the records of all these names.
-    fn look_in(&self, name: Name, found: &Found, row: &[u32]) -> Looking
-        requires { SayReached self.now.links.now name found.now.names found.now.count }
-        ensures { SayLooking self.now.minute self.now.store.now (polarity_number name.polarity) (names_in found.now.count found.now.names) row.now result }
+    fn look_in(&self, name: Name, found: &Found, row: &Row) -> Looking
+        requires { SayReached self.now.links.now name found.now.names found.now.count × (row.now.width ≤ 4) }
+        ensures { SayLooking self.now.minute self.now.store.now (polarity_number name.polarity) (names_in found.now.count found.now.names) (row_is row.now) result }
     {
         let mut total: usize = 0;
         let mut held = false;
@@ -89,16 +90,18 @@ impl Held<'_> {
         ensures { MatchResult result (λ done. Listed (formed (polarity_number name.polarity) (rows_for self.now name)) area.new)
             (λ refusal. Large (formed (polarity_number name.polarity) (rows_for self.now name)) refusal) }
     {
-        let found = reach(self.links, name);
+        let mut found = Found::none();
+        reach(self.links, name, &mut found);
         self.join_names(name, &found, area)
     }
 
     // Looks for a row among those of every name that links reach from this one. They are joined only where there are more records than rows in a set.
-    pub fn look_reached(&self, name: Name, row: &[u32], area: &mut [u32]) -> Result<bool, Refusal>
-        requires { set_room ≤ length area.old }
-        ensures { MatchResult result (λ listed. Belongs (only (rows_for self.now name)) row.now listed) (λ refusal. Large (only (rows_for self.now name)) refusal) }
+    pub fn look_reached(&self, name: Name, row: &Row, area: &mut [u32]) -> Result<bool, Refusal>
+        requires { (row.now.width ≤ 4) × (set_room ≤ length area.old) }
+        ensures { MatchResult result (λ listed. Belongs (only (rows_for self.now name)) (row_is row.now) listed) (λ refusal. Large (only (rows_for self.now name)) refusal) }
     {
-        let found = reach(self.links, name);
+        let mut found = Found::none();
+        reach(self.links, name, &mut found);
         let looking = self.look_in(name, &found, row);
         if MOST_ROWS < looking.records {
             clear(area, Form::Finite);

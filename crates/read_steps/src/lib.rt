@@ -14,7 +14,7 @@ ghost use Rattle.read_steps.specs.Steps.{SayCombined, SayIs, SayLast, SayHead, S
 use policy::Slot;
 use policy::codes::Format;
 use policy_places::slot_at;
-use read_values::{Bindings, Lent, tick};
+use read_values::{Bindings, Lent, tick, value_of};
 use refusals::Refusal;
 use set_algebra::{Operation, TWO_ROOMS};
 use sets::{has, insert};
@@ -116,23 +116,26 @@ pub fn match_row(
     requires { Bound bindings.old.values bindings.old.count × SomePattern bindings.old.count lent.now.words.now at × (row + 5 ≤ length area.now) × (get_or area.now row 0 ≤ 4) }
     ensures { SayMatch lent.now.format lent.now.words.now at bindings.old.values bindings.old.count (row_in (five_at area.now row)) result bindings.new.values bindings.new.count }
 {
-    let width = lent.words[at];
+    let words = lent.words;
+    let width = words[at];
     if !fits(lent.format, width, area[row]) {
         return false;
     }
-    let count = bindings.count;
+    let mut scope = bindings.count;
     for j in 0..width as usize {
         let atom = area[row + 1 + j];
-        match slot_at(lent.words, at + 1 + 2 * j) {
-            Slot::New => bindings.bind(atom),
+        match slot_at(words, at + 1 + 2 * j) {
+            Slot::New => {
+                scope = bindings.bind(scope, atom);
+            }
             Slot::Old(term) => {
-                if bindings.value_of(term) != atom {
-                    bindings.count = count;
+                if value_of(&bindings.values, scope, term) != atom {
                     return false;
                 }
             }
         }
     }
+    bindings.count = scope;
     true
 }
 
@@ -148,10 +151,12 @@ pub fn draw_next(
     requires { Bound bindings.old.values bindings.old.count × SomePattern bindings.old.count lent.now.words.now at × Filled set.now }
     ensures { SayDrawn lent.now.format lent.now.words.now at bindings.old.values bindings.old.count (rows_in set.now) i draws result bindings.new.values bindings.new.count }
 {
+    // A copy: what is lent is then read once, and not again at each row.
+    let lent = *lent;
     let mut used = draws;
     for j in i..set[1] as usize {
         used = tick(used)?;
-        if match_row(lent, at, bindings, set, 2 + 5 * j) {
+        if match_row(&lent, at, bindings, set, 2 + 5 * j) {
             return Ok(Drawn::Matches {
                 next: j + 1,
                 draws: used,

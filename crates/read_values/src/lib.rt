@@ -77,14 +77,16 @@ impl Bindings {
         }
     }
 
-    // One variable more is in scope.
-    pub fn bind(&mut self, atom: u32)
-        requires { Bound self.old.values self.old.count × (self.old.count < 16) }
-        ensures values { self.new.values ≡ set self.old.values self.old.count atom }
-        ensures count { self.new.count ≡ self.old.count + 1 }
+    // The variable after the first `scope` comes to the atom: says how many are bound then. The count is written where all are bound, and not at each: a
+    // pattern is matched against rows by the thousand.
+    pub fn bind(&mut self, scope: usize, atom: u32) -> usize
+        requires { scope < 16 }
+        ensures values { self.new.values ≡ set self.old.values scope atom }
+        ensures same { self.new.count ≡ self.old.count }
+        ensures bound { result ≡ scope + 1 }
     {
-        self.values[self.count] = atom;
-        self.count += 1;
+        self.values[scope] = atom;
+        scope + 1
     }
 }
 

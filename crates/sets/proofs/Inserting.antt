@@ -4,18 +4,16 @@ use mathlib.Core.Path.{◌≡◌, refl, sym, ◌∙◌, ap, subst}
 use mathlib.Core.Bool.{Bool, true, false}
 use mathlib.Core.List.{List, [], ◌∷◌, ◌++◌}
 use lib.ListN.{length, get_or, take, drop}
-use lib.Dec.{ltb}
 use borrow.Author.Tests.{lt-ltb, le-ltb}
 use Rattle.rows.specs.Ordered.{◌∈◌, lists}
 use Rattle.rows.specs.Row.{Row, row_before}
-use Rattle.rows.specs.Sets.{RowSet, listing, most_rows}
+use Rattle.rows.specs.Sets.{listing, most_rows}
 use Rattle.rows.specs.Layout.{rows_in, formed, set_in, sound_set, written}
 use Rattle.sets.specs.Values.{insert_gives, insert_leaves}
 use Rattle.row_words.specs.Search.{Finds}
 use Rattle.std.proofs.Common.{Result, Ok, Err}
-use Rattle.refusals.specs.declared.Refusal.{Refusal}
 use Rattle.refusals.specs.declared.Refusal.TheVariants.{TooManyRows}
-use Rattle.rows.proofs.Case.{Case, is_true, is_false, split, T_true}
+use Rattle.rows.proofs.Case.{T_true}
 use Rattle.rows.proofs.Order.{row_order}
 use Rattle.rows.proofs.Ordered.{lists_iff}
 use Rattle.rows.proofs.Place.{insert_known}

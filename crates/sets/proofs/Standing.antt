@@ -1,6 +1,6 @@
 -- For callers: what `clear`, `copy` and `insert` leave at the front of an area is a sound set, and reads as the set meant.
 use Prim.Native.Nat.{ℕ, ◌≤◌, ◌<◌}
-use mathlib.Core.Path.{◌≡◌, refl, sym, ◌∙◌, ap}
+use mathlib.Core.Path.{◌≡◌, sym, ◌∙◌, ap}
 use mathlib.Core.Bool.{true}
 use mathlib.Core.List.{List, []}
 use native.Mathlib.Omega.{arith}
@@ -13,7 +13,7 @@ use Rattle.rows.specs.Row.{Row, row_before}
 use Rattle.rows.specs.Sets.{RowSet, listing, most_rows}
 use Rattle.rows.specs.Layout.{form_word, set_words, written, rows_in, formed, set_in, sound_set}
 use Rattle.sets.specs.Values.{insert_gives}
-use Rattle.std.proofs.Common.{Result, Ok, Err, Bool}
+use Rattle.std.proofs.Common.{Ok, Err, Bool}
 use Rattle.refusals.specs.declared.Refusal.{Refusal}
 use Rattle.rows.proofs.Case.{Case, is_true, is_false, split, never, T_true, true_T}
 use Rattle.rows.proofs.Order.{row_order}

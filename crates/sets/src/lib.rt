@@ -13,7 +13,7 @@ ghost use Rattle.row_words.specs.Search.{Finds};
 
 pub use listing::{clear, insert};
 use row_words::row::Row;
-use row_words::{row, search};
+use row_words::{row, search, write};
 use rows::MOST_ROWS;
 use std::cmp::Ordering;
 
@@ -102,5 +102,5 @@ pub fn copy(from: &[u32], to: &mut [u32])
     ensures { to.new ≡ written (set_in from.now) to.old }
 {
     let end = 2 + 5 * from[1] as usize;
-    to[..end].copy_from_slice(&from[..end]);
+    write(to, 0, &from[..end]);
 }

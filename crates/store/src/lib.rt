@@ -16,7 +16,6 @@ pub use kind::{Certificates, Kind, Links};
 pub use link_records::sound_links;
 use records::{count_before, insert};
 use refusals::Refusal;
-use std::ops::Range;
 pub use store_records::sound_store;
 
 /// What filing a record answers.
@@ -67,23 +66,30 @@ pub fn file_link(links: &mut [u32], link: &[u32]) -> Filing
     file_record::<Links>(links, link)
 }
 
-// Where the certificates of one name lie in a store that is known to be sound, found without a look at the others.
-fn span_in(store: &[u32], key: u32, name: u32, polarity: u32) -> Range<usize>
+/// A stretch of the store's words: from the word `from` up to the word `to`.
+#[derive(Clone, Copy, Debug, PartialEq, Eq)]
+pub struct Span {
+    pub from: usize,
+    pub to: usize,
+}
+
+/// Where the certificates of one name lie in a store that is known to be sound, found without a look at the others.
+pub fn span_in(store: &[u32], key: u32, name: u32, polarity: u32) -> Span
     requires { sound_store store.now ≡ true }
-    ensures { Spans store.now key name polarity result.start result.end }
+    ensures { Spans store.now key name polarity result.from result.to }
 {
     let words = [key, name, polarity];
     let from = 1 + RECORD_WORDS * count_before(store, RECORD_WORDS, &words, false);
     let to = 1 + RECORD_WORDS * count_before(store, RECORD_WORDS, &words, true);
-    from..to
+    Span { from, to }
 }
 
 /// Where the certificates of one name lie in any store: an unsound one has none.
-pub fn span_of(store: &[u32], key: u32, name: u32, polarity: u32) -> Range<usize>
-    ensures { Spans store.now key name polarity result.start result.end }
+pub fn span_of(store: &[u32], key: u32, name: u32, polarity: u32) -> Span
+    ensures { Spans store.now key name polarity result.from result.to }
 {
     if !sound_store(store) {
-        return 0..0;
+        return Span { from: 0, to: 0 };
     }
     span_in(store, key, name, polarity)
 }
@@ -93,12 +99,14 @@ pub fn certificates_in<'a>(store: &'a [u32], key: u32, name: u32, polarity: u32)
     requires { sound_store store.now ≡ true }
     ensures { result.now ≡ name_part store.now key name polarity }
 {
-    &store[span_in(store, key, name, polarity)]
+    let span = span_in(store, key, name, polarity);
+    &store[span.from..span.to]
 }
 
 /// The certificates of one name, as the part of the store where they lie: empty if there are none or the store is unsound.
 pub fn certificates_of<'a>(store: &'a [u32], key: u32, name: u32, polarity: u32) -> &'a [u32]
     ensures { result.now ≡ name_part store.now key name polarity }
 {
-    &store[span_of(store, key, name, polarity)]
+    let span = span_of(store, key, name, polarity);
+    &store[span.from..span.to]
 }

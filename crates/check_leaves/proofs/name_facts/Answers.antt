@@ -1,4 +1,4 @@
-use Rattle.std.proofs.Common.{rules, arith, sym, ◌∙◌, ap, Ok}
+use Rattle.std.proofs.Common.{arith, sym, ◌∙◌, ap, Ok}
 use Rattle.rows.specs.Polarities.{polarity_is}
 use Rattle.policy.specs.Held.{term_is}
 use Rattle.check_polarity.specs.Earlier.{earlier_is}
@@ -11,22 +11,22 @@ returns-then-not-is_own c =
     certified (earlier_is c.args.earlier.now) (term_is c.args.issuer) c.args.name c.args.polarity _ _
     (sym c.is_own.ensures ∙ c.if-not-is_own.true) c.eq.ensures c.of_polarity.ensures
 
-pub returns-in_err-d : goal.returns-in_err-d
-unfolding earlier_is
-returns-in_err-d c =
-    let e = undefined (earlier_is c.args.earlier.now) (term_is c.args.issuer) c.args.name (polarity_is c.args.polarity)
-    (sym c.is_own.ensures ∙ c.if-not-is_own.false) c.position.ensures c.ok_or.ensures.value c.in_err-d.was in search rules
-
 pub of_definition-requires : goal.of_definition-requires
 unfolding earlier_is
 of_definition-requires c =
     let e = defined (earlier_is c.args.earlier.now) (term_is c.args.issuer) c.args.name (polarity_is c.args.polarity)
-    (sym c.is_own.ensures ∙ c.if-not-is_own.false) c.position.ensures c.ok_or.ensures.value c.in_ok-d.was in
+    (sym c.is_own.ensures ∙ c.if-not-is_own.false) c.position.ensures c.in-Some.is in
     omega (arith, e.0, reach_is c.args.earlier.now)
 
-pub returns : goal.returns
+pub returns-in-Some : goal.returns-in-Some
 unfolding earlier_is
-returns c =
+returns-in-Some c =
     let e = defined (earlier_is c.args.earlier.now) (term_is c.args.issuer) c.args.name (polarity_is c.args.polarity)
-    (sym c.is_own.ensures ∙ c.if-not-is_own.false) c.position.ensures c.ok_or.ensures.value c.in_ok-d.was in
+    (sym c.is_own.ensures ∙ c.if-not-is_own.false) c.position.ensures c.in-Some.is in
     ap Ok c.of_definition.ensures ∙ e.1
+
+pub returns-in-None : goal.returns-in-None
+unfolding earlier_is
+returns-in-None c =
+    undefined (earlier_is c.args.earlier.now) (term_is c.args.issuer) c.args.name (polarity_is c.args.polarity)
+    (sym c.is_own.ensures ∙ c.if-not-is_own.false) c.position.ensures c.in-None.is

@@ -1,21 +1,16 @@
-use Rattle.std.proofs.Common.{ap, refl, Err}
-use Rattle.std.proofs.lemmas.Result.{err_from_is_err_and}
-use Rattle.refusals.specs.Numbers.{number, part_number}
-use Rattle.refusals.specs.declared.Refused.{Refused}
+use Rattle.std.proofs.Common.{refl}
 use Rattle.judging.specs.Reply.{JudgedAs}
 use Rattle.judging.proofs.JudgeAnswers.{no_key, under_key, table_refused}
 use Rattle.judging.proofs.judge_policy.Goals as goal
 
-pub returns-then-our_key-lt-FIRST_KEY : goal.returns-then-our_key-lt-FIRST_KEY
+pub returns-then-our_key-lt-FIRST_KEY-clause-judged : goal.returns-then-our_key-lt-FIRST_KEY-clause-judged
 unfolding JudgedAs
-returns-then-our_key-lt-FIRST_KEY c = no_key c.args.our_key c.args.policy.now (Err c.from.result) c.if-our_key-lt-FIRST_KEY.true
-    (ap (λ (x : Refused). number x.refusal) c.from.ensures, ap (λ (x : Refused). part_number x.part) c.from.ensures)
+returns-then-our_key-lt-FIRST_KEY-clause-judged c = rw c.from.ensures (no_key c.args.our_key c.args.policy.now _ c.if-our_key-lt-FIRST_KEY.true (refl, refl))
 
-pub returns-in_err-table : goal.returns-in_err-table
+pub returns-in-Ok-clause-judged : goal.returns-in-Ok-clause-judged
+returns-in-Ok-clause-judged c = under_key c.args.our_key c.args.policy.now _ c.if-our_key-lt-FIRST_KEY.false (rw c.in-Ok.ensures.policy at c.judge_definitions.ensures.judged)
+
+pub returns-in-Err-clause-judged : goal.returns-in-Err-clause-judged
 unfolding JudgedAs
-returns-in_err-table c =
-    let p = err_from_is_err_and c.from_residual.result c.from_residual.ensures.1 in
-    rw (p.1, p.2) (under_key c.args.our_key c.args.policy.now _ c.if-our_key-lt-FIRST_KEY.false (table_refused c.args.our_key c.args.policy.now _ c.read.ensures.table c.in_err-table.was (refl, refl)))
-
-pub returns : goal.returns
-returns c = under_key c.args.our_key c.args.policy.now _ c.if-our_key-lt-FIRST_KEY.false (rw c.in_ok-table.ensures.policy at c.judge_definitions.ensures)
+returns-in-Err-clause-judged c =
+    rw c.from-in-Err.ensures (under_key c.args.our_key c.args.policy.now _ c.if-our_key-lt-FIRST_KEY.false (table_refused c.args.our_key c.args.policy.now _ c.read.ensures.table c.in-Err.is (refl, refl)))

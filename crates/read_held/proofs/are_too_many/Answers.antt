@@ -1,7 +1,7 @@
 -- A record that does not hold, or whose row is the last one counted, adds nothing; another adds its row behind the others.
 use Rattle.std.proofs.Common.{refl, sym, ◌∙◌, arith}
 use Rattle.rows.proofs.Case.{never}
-use Rattle.read_held.proofs.Copying.{rows_same, rows_known, rows_left, another, the_last, counting_start, counting_same, counting_full, counting_next}
+use Rattle.read_held.proofs.Copying.{rows_same, rows_known, rows_left, another, last_sound, the_last, counting_start, counting_same, counting_full, counting_next}
 use Rattle.read_held.proofs.are_too_many.Goals as goal
 use Rattle.read_held.proofs.are_too_many.Goals.{then-not-holds-via-then-not-holds, then-not-holds-via-else-not-holds+then-is_listed}
 
@@ -14,6 +14,9 @@ returns-then-listed-records-le-MOST_ROWS c =
     let many = c.loop-i.invariant.many in
     let left = rows_left c.args.minute c.args.records.now c.loop-i.i in
     (λ t. never t refl, λ h. absurd (omega (arith, h)))
+
+pub is_listed-requires : goal.is_listed-requires
+is_listed-requires c = (c.requires.sound c.loop-i.i c.loop-i-test.true, last_sound c.args.records.now c.loop-i.i _ c.loop-i.last c.loop-i.invariant.behind)
 
 pub loop-i-preserved-then-not-holds : goal.loop-i-preserved-then-not-holds
 loop-i-preserved-then-not-holds c =

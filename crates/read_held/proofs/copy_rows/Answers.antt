@@ -3,12 +3,15 @@ use Rattle.std.proofs.Common.{◌≡◌, ◌-◌, ◌+◌, ◌*◌, ℕ, List, l
 use borrow.Rule.Slice.PartMut.{put_mid}
 use Rattle.rows.specs.Layout.{put, five_at}
 use Rattle.certificates.proofs.Sound.{five_long}
-use Rattle.read_held.proofs.Copying.{rows_same, rows_known, another, the_last, put_part, copying_start, copying_same, copying_full, copying_next, copying_end}
+use Rattle.read_held.proofs.Copying.{rows_same, rows_known, another, last_sound, the_last, put_part, copying_start, copying_same, copying_full, copying_next, copying_end}
 use Rattle.read_held.proofs.copy_rows.Goals as goal
 use Rattle.read_held.proofs.copy_rows.Goals.{then-not-holds-via-then-not-holds, then-not-holds-via-else-not-holds+then-is_listed}
 
 pub loop-held-init : goal.loop-held-init
 loop-held-init c = copying_start _ c.requires.0 _
+
+pub is_listed-requires : goal.is_listed-requires
+is_listed-requires c = (c.requires.0.sound c.loop-held.held-index c.loop-held-test.true, last_sound c.args.records.now c.loop-held.held-index _ c.loop-held.last c.loop-held.invariant.behind)
 
 pub loop-held-preserved-then-not-holds : goal.loop-held-preserved-then-not-holds
 loop-held-preserved-then-not-holds c =

@@ -1,23 +1,26 @@
--- The search begins at the row's first record, and the walk ends behind its last.
-use Rattle.std.proofs.Common.{rules, tests, List, ℕ, subst, sym, ◌∙◌, drop, arith}
-use lib.Seq.{take_all}
-use Rattle.std.proofs.lemmas.List.{length-drop}
-use Rattle.std.proofs.lemmas.List.Sorted.{IsPartitionPoint-from_clause}
-use Rattle.std.proofs.lemmas.Iterator.{YieldsList-from_slice}
-use Rattle.std.proofs.lemmas.Iterator.Consumers.{YieldsList-at}
-use Rattle.std.proofs.lemmas.Iterator.Search.{any_from_yields_List, YieldsList-from_take_while}
-use Rattle.certificates.specs.Certificate.{holds_at}
-use Rattle.read_held.specs.Held.{SayFound}
-use Rattle.read_held.proofs.Searching.{tied_lem, earlier, its, rows_parted, run_tells}
+-- The record that is found tells where it holds; where it does not, those of the row beside it do.
+use Rattle.std.proofs.Common.{rules, ◌<◌, ◌∙◌, length, sym}
+use Rattle.row_words.specs.Values.{row_is}
+use Rattle.read_held.proofs.Searching.{none_holds, one_holds, one_beside, beside_tells}
 use Rattle.read_held.proofs.is_held.Goals as goal
+
+pub returns-in_default : goal.returns-in_default
+returns-in_default c = none_holds c.args.minute c.args.records.now (row_is c.args.row.now) (λ l h e. absurd (c.in_default.ensures l h e))
+
+pub offset_bounds-records-found : goal.offset_bounds-records-found
+offset_bounds-records-found c = let h : c.in-Some.found < length c.args.records.now = c.in-Some.ensures.0 in search rules
+
+pub bounds-records-found : goal.bounds-records-found
+bounds-records-found c = c.in-Some.ensures.0
+
+pub returns-then-holds : goal.returns-then-holds
+returns-then-holds c =
+    one_holds c.args.minute c.args.records.now (row_is c.args.row.now) c.in-Some.found c.in-Some.ensures.0 c.in-Some.ensures.1 (sym c.holds.ensures ∙ c.if-holds.true)
+
+pub returns-then-held_before : goal.returns-then-held_before
+returns-then-held_before c =
+    one_beside c.args.minute c.args.records.now (row_is c.args.row.now) c.in-Some.found c.in-Some.ensures.1 (rw c.if-held_before.true at c.held_before.ensures)
 
 pub returns : goal.returns
 returns c =
-    let rs : List (List ℕ) = c.args.records.now in
-    let x : List ℕ = c.args.row.now in
-    let start : ℕ = c.partition_point-start.result in
-    let point = IsPartitionPoint-from_clause (earlier c.requires x) rs start c.partition_point-start.ensures.partitioned (rows_parted c.requires x) (λ a r f k. search rules) in
-    let told = any_from_yields_List (holds_at c.args.minute) _ _ c.any.result c.any.ensures.ran
-    (YieldsList-from_take_while _ (its c.requires x) (YieldsList-at c.take_while.ensures.source (YieldsList-from_slice (drop start rs) (c.iter.ensures.rest ∙ take_all _ (drop start rs) (omega (arith, length-drop start rs))))) c.take_while.ensures.closure c.take_while.ensures.done (λ y b q k. (search rules, tied_lem _ x (search rules))))
-    (λ y b q k. search (rules, tests)) in
-    subst (SayFound c.args.minute rs x) (sym told) (run_tells c.requires x c.args.minute start c.partition_point-start.ensures.bound point)
+    beside_tells c.args.minute c.args.records.now (row_is c.args.row.now) c.in-Some.found c.in-Some.ensures.1 (sym c.holds.ensures ∙ c.if-holds.false) c.if-held_before.ensures _ c.held_behind.ensures

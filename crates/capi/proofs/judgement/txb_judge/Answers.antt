@@ -3,7 +3,7 @@ use Rattle.capi.proofs.Handing.{hands_verdict, hands_refused_judgement}
 use Rattle.capi.proofs.judgement.txb_judge.Goals as goal
 
 pub returns-in-Ok : goal.returns-in-Ok
-returns-in-Ok c = hands_verdict _ _ _ c.in-Ok.ensures c.from.ensures
+returns-in-Ok c = hands_verdict _ _ _ c.in-Ok.ensures.judged c.from.ensures
 
 pub returns-in-Err : goal.returns-in-Err
-returns-in-Err c = hands_refused_judgement _ _ _ _ c.in-Err.ensures c.from-in-Err-2.ensures c.from-in-Err.ensures
+returns-in-Err c = hands_refused_judgement _ _ _ _ c.in-Err.ensures.judged c.from-in-Err-2.ensures c.from-in-Err.ensures

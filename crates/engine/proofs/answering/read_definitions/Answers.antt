@@ -15,7 +15,7 @@ pub overflow_cast-part : goal.overflow_cast-part
 overflow_cast-part c = record { fits = omega (arith, number_small c.requires c.loop-d-test.true) }
 
 pub returns-in-Err : goal.returns-in-Err
-returns-in-Err c = next_refused c.loop-d.invariant c.loop-d-test.true c.definition_words.ensures c.in-Err.ensures
+returns-in-Err c = next_refused c.loop-d.invariant c.loop-d-test.true c.definition_words.ensures (number_small c.requires c.loop-d-test.true) c.in-Err.ensures
 
 pub place_set-requires : goal.place_set-requires
 place_set-requires c = ((done_filled c.in-Ok.ensures).sound, place_inside c.requires c.loop-d-test.true c.loop-d.auto.definitions)

@@ -1,10 +1,6 @@
 -- A number issues nothing; a key's rows are asked for the row.
-use Rattle.std.proofs.Common.{refl, subst}
 use Rattle.std.proofs.lemmas.Result.{err_from_is_err_and}
-use Rattle.rows.specs.Sets.{only}
-use Rattle.read_names.specs.Reached.{Belongs}
-use Rattle.read_names.specs.Names.{rows_for}
-use Rattle.read_names.proofs.Named.{number_belongs, key_belongs, key_not_looked_up, atoms_lem}
+use Rattle.read_names.proofs.Named.{number_belongs, key_belongs, key_not_looked_up}
 use Rattle.read_names.proofs.held.Held.has.Goals as goal
 
 pub returns-then-name-lt-FIRST_KEY : goal.returns-then-name-lt-FIRST_KEY
@@ -17,5 +13,4 @@ returns-in_err-listed c =
 
 pub returns : goal.returns
 returns c =
-    let said = subst (λ x. Belongs (only (rows_for c.args.self.now c.args.name)) x c.in_ok-listed.listed) (atoms_lem c.args.row refl) c.in_ok-listed.ensures in
-    key_belongs c.args.self.now c.args.name c.if-name-lt-FIRST_KEY.false said c.belongs-2.ensures
+    key_belongs c.args.self.now c.args.name c.if-name-lt-FIRST_KEY.false c.in_ok-listed.ensures c.belongs-2.ensures

@@ -9,7 +9,7 @@ returns c =
     let h = c.args.self.now in
     let n = c.args.name in
     let v = polarity_number n.polarity in
-    let found = just_reached c.reach-found.ensures in
+    let found = just_reached c.reach.ensures in
     told_so c.join_names.result c.join_names.ensures
     (λ a j. say_listed h.minute h.store.now h.links.now n.key n.number v h.sound (polarity_few n.polarity) found c.requires j)
     (λ e j. say_large h.minute h.store.now h.links.now n.key n.number v h.sound (polarity_few n.polarity) found c.requires j)
