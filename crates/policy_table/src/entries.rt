@@ -31,7 +31,6 @@ impl Entry {
             size: policy[at + 3] as usize,
         }
     }
-
 }
 
 // Has the entry whose first word stands at `at` this name and polarity? Most entries are passed at their name, so no more of them is read.

@@ -73,8 +73,10 @@ fn read_two(
 {
     let used = read_expr(lent, at, bindings, draws, area)?;
     let second = skip_expr(lent.words, at);
-    let total = read_expr(lent, second, bindings, used, &mut area[SET_ROOM..])?;
-    combine_parts(operation, total, area)
+    match read_expr(lent, second, bindings, used, &mut area[SET_ROOM..]) {
+        Err(refusal) => Err(refusal),
+        Ok(total) => combine_parts(operation, total, area),
+    }
 }
 
 // The guards left, then the head.

@@ -72,22 +72,20 @@ read_two-returns-in_err-used-clause-says t c =
     let p = err_from_is_err_and c.from_residual.result c.from_residual.ensures.1 in
     rw (p.1, p.2) (say_left_refused c.in_err-used.ensures.says)
 
-pub read_two-returns-in_err-total-clause-says : goal.read_two-returns-in_err-total-clause-says
-read_two-returns-in_err-total-clause-says t c =
-    let p = err_from_is_err_and c.from_residual-in_err-total.result c.from_residual-in_err-total.ensures.1 in
-    rw (p.1, p.2) (say_right_refused c.in_ok-used.ensures.says c.in_ok-used.ensures.same c.skip_expr-second.ensures c.in_err-total.ensures.says)
+pub read_two-returns-in-Err-clause-says : goal.read_two-returns-in-Err-clause-says
+read_two-returns-in-Err-clause-says t c = say_right_refused c.in_ok-used.ensures.says c.in_ok-used.ensures.same c.skip_expr-second.ensures c.in-Err.ensures.says
 
 pub read_two-combine_parts-requires : goal.read_two-combine_parts-requires
 read_two-combine_parts-requires t c =
     let size = c.read_expr.auto.area in
     let room = c.requires.right in
-    both_filled c.in_ok-used.ensures.says c.in_ok-used.ensures.same c.skip_expr-second.ensures c.in_ok-total.ensures.says (omega arith) c.read_expr-2.auto.area
+    both_filled c.in_ok-used.ensures.says c.in_ok-used.ensures.same c.skip_expr-second.ensures c.in-Ok.ensures.says (omega arith) c.read_expr-2.auto.area
 
-pub read_two-returns-clause-says : goal.read_two-returns-clause-says
-read_two-returns-clause-says t c =
+pub read_two-returns-in-Ok-clause-says : goal.read_two-returns-in-Ok-clause-says
+read_two-returns-in-Ok-clause-says t c =
     let size = c.read_expr.auto.area in
     let room = c.requires.right in
-    say_combined c.in_ok-used.ensures.says c.in_ok-used.ensures.same c.skip_expr-second.ensures c.in_ok-total.ensures.says (omega arith) c.read_expr-2.auto.area c.combine_parts.ensures
+    say_combined c.in_ok-used.ensures.says c.in_ok-used.ensures.same c.skip_expr-second.ensures c.in-Ok.ensures.says (omega arith) c.read_expr-2.auto.area c.combine_parts.ensures
 
 -- ---- whether a row belongs
 
