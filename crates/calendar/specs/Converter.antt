@@ -15,7 +15,7 @@ pub record Date : Type 0 where
 abbrev pub date_of : ℕ → ℕ → ℕ → ℕ → ℕ → Date
 date_of y mo d h mi = record { year = y; month = mo; day = d; hour = h; minute = mi }
 
--- the years that the converter knows
+-- the converter knows the years 2000 to 2099
 abbrev pub first_year : ℕ
 first_year = 2000
 
@@ -60,7 +60,7 @@ pub data Reply (A : Type 0) : Type 0 where
   converted : A → Reply A
   refused : ℕ → Reply A
 
--- a date that is not on the calendar, or lies outside those years, is refused, and a minute is refused when its date is
+-- a date that is not on the calendar, or lies outside those years, is refused with 16, which the converter alone gives; a minute is refused when its date is
 unfoldable pub minutes_reply : Date → Reply ℕ
 unfolding exists minutes_of
 minutes_reply d = elim (exists d) [ true ↦ converted (minutes_of d) | false ↦ refused bad_date ]
