@@ -28,7 +28,12 @@ pub struct Rest<'a> {
 impl fmt::Display for Rest<'_> {
     fn fmt<W: fmt::Write>(&self, f: &mut fmt::Formatter<W>) -> fmt::Result {
         let was = self.was;
-        if self.words.iter().all(|word| *word == was) {
+        // All are looked at, also behind one that differs: so the compiler compares four at a time.
+        let stays = self
+            .words
+            .iter()
+            .fold(true, |stays, word| stays & (*word == was));
+        if stays {
             write!(f, ", the rest stays")
         } else {
             write!(f, ", THE REST IS TOUCHED")
