@@ -29,11 +29,12 @@ unfoldable pub Last : List Row → Option (Bor (List ℕ)) → Type 0
 Last rows None = rows ≡ []
 Last rows (Some w) = (record_row w.now ∈ rows) × ((x : Row) → x ∈ rows → row_before (record_row w.now) x ≡ false) × (sound_record w.now ≡ true)
 
--- so many rows are counted
-pub record Counting (listed : ℕ) (last : Option (Bor (List ℕ))) (rows : List Row) : Type 0 where
+-- of the first i records so many rows are counted, and of the others so many may add none
+pub record Counting (rs : List (List ℕ)) (i listed spare : ℕ) (last : Option (Bor (List ℕ))) (rows : List Row) : Type 0 where
   pub behind : Last rows last
   pub many : listed ≡ length rows
   pub few : listed ≤ 128
+  pub left : i + 129 + spare ≡ length rs + listed
 
 -- these rows are copied
 pub record Copying (entry area : List ℕ) (listed : ℕ) (last : Option (Bor (List ℕ))) (rows : List Row) : Type 0 where
@@ -267,15 +268,25 @@ module _ (minute : ℕ) {rs : List (List ℕ)} (records : Records rs) (entry : L
 -- ---- the count alone
 
 module _ (minute : ℕ) {rs : List (List ℕ)} (records : Records rs) where
-  pub counting_start : Counting 0 None (rows_of minute rs 0)
+  pub counting_start : (spare : ℕ) → 129 + spare ≡ length rs → Counting rs 0 0 spare None (rows_of minute rs 0)
   unfolding Last
-  counting_start =
+  counting_start spare e =
       let none : rows_of minute rs 0 ≡ [] = rows_none minute in
-      record { behind = none; many = ap length (sym none); few = omega arith }
+      record { behind = none; many = ap length (sym none); few = omega arith; left = omega (arith, e) }
 
-  module _ (listed : ℕ) (last : Option (Bor (List ℕ))) (i : ℕ) (c : Counting listed last (rows_of minute rs i)) where
-    pub counting_same : rows_of minute rs (i + 1) ≡ rows_of minute rs i → Counting listed last (rows_of minute rs (i + 1))
-    counting_same e = subst (Counting listed last) (sym e) c
+  module _ (listed spare : ℕ) (last : Option (Bor (List ℕ))) (i : ℕ) (c : Counting rs i listed spare last (rows_of minute rs i)) where
+    -- a record that adds no row
+    module _ (less : i < length rs) (same : rows_of minute rs (i + 1) ≡ rows_of minute rs i) where
+      pub counting_few : spare ≡ 0 → length (rows_held minute rs) ≤ 128
+      counting_few e = omega (arith, rows_left minute rs (i + 1), ap length same, c.many, c.left)
+
+      pub counting_same : spare ≢ 0 → Counting rs (i + 1) listed (spare - 1) last (rows_of minute rs (i + 1))
+      counting_same n = record {
+        behind = subst (λ (xs : List Row). Last xs last) (sym same) c.behind;
+        many = c.many ∙ ap length (sym same);
+        few = c.few;
+        left = omega (arith, c.left);
+      }
 
     module _ (less : i < length rs) (held : holds_at minute (get_or rs i []) ≡ true) (new : MatchOption last (Unit {0}) (λ w. record_row w.now ≢ row_at rs i)) where
       counted : rows_of minute rs (i + 1) ≡ rows_of minute rs i ++ (row_at rs i ∷ [])
@@ -287,9 +298,10 @@ module _ (minute : ℕ) {rs : List (List ℕ)} (records : Records rs) where
       pub counting_full : listed ≡ 128 → 128 < length (rows_held minute rs)
       counting_full e = too_many minute rs (i + 1) (omega (arith, one_longer))
 
-      pub counting_next : listed < 128 → (w : Bor (List ℕ)) → w.now ≡ get_or rs i [] → Counting (listed + 1) (Some w) (rows_of minute rs (i + 1))
+      pub counting_next : listed < 128 → (w : Bor (List ℕ)) → w.now ≡ get_or rs i [] → Counting rs (i + 1) (listed + 1) spare (Some w) (rows_of minute rs (i + 1))
       counting_next few w e = record {
         behind = subst (λ (xs : List Row). Last xs (Some w)) (sym counted) (last_grows minute rs less records last c.behind new w e);
         many = sym one_longer;
         few = omega arith;
+        left = omega (arith, c.left);
       }
