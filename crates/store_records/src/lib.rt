@@ -82,7 +82,8 @@ fn run_end(store: &[u32], count: usize, start: usize) -> usize
     let owner = pair(first, 0);
     let polarity = first[2];
     let mut i = start + 1;
-    // A `while` with a test each: as a `for`, or with the tests in one, it makes the test of a store half as long again.
+    // A `while` with a test each: as a `for`, or with the tests in one, the test of a store took half as long again where that was tried. Where the linker puts the
+    // code makes as much of a difference.
     while i < count {
         let this = record_at(store, RECORD_WORDS, i);
         if pair(this, 0) != owner {
