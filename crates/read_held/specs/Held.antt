@@ -6,6 +6,8 @@ use Rattle.rows.specs.Ordered.{keep, lists, join}
 use Rattle.rows.specs.Row.{Row, row_before}
 use Rattle.rows.specs.Sets.{most_rows}
 use Rattle.rows.specs.Layout.{formed, written}
+use Rattle.row_words.specs.Values.{row_is}
+use Rattle.row_words.specs.declared.row.Row as HeldRow
 use Rattle.certificates.specs.Certificate.{record_row, sound_record, holds_at}
 
 -- the row of record i
@@ -30,6 +32,11 @@ TooMany rows e = (e ≡ TooManyRows) × (most_rows < length rows)
 pub record Copied (minute : ℕ) (rs : List (List ℕ)) (before area : List ℕ) : Type 0 where
   pub words : area ≡ written (formed (get_or before 0 0) (rows_held minute rs)) before
   pub few : length (rows_held minute rs) ≤ most_rows
+
+-- the row in hand is the one of these atoms, if they are no more than a row has
+abbrev pub IsRowOf : List ℕ → Option HeldRow.Row → Type 0
+IsRowOf atoms None = 4 < length atoms
+IsRowOf atoms (Some row) = (row.width ≤ 4) × (row_is row ≡ atoms)
 
 -- a record of the row, if there is one
 abbrev pub SayRecord : List (List ℕ) → Row → Option ℕ → Type 0

@@ -6,11 +6,12 @@ ghost use Rattle.rows.specs.Layout.{set_room};
 ghost use Rattle.rows.specs.Sets.{most_rows};
 ghost use Rattle.row_words.specs.Values.{row_is};
 ghost use Rattle.certificates.specs.Certificate.{sound_record, record_row, holds_at};
-ghost use Rattle.read_held.specs.Held.{Records, rows_held, TooMany, Copied, SayRecord, SayBeside, SayFound};
+ghost use Rattle.read_held.specs.Held.{Records, rows_held, TooMany, Copied, IsRowOf, SayRecord, SayBeside, SayFound};
 
 use certificates::{RECORD_WORDS, ROW_IN_RECORD, TERM_IN_RECORD};
 use refusals::Refusal;
 use row_words::row::Row;
+use row_words::write;
 use rows::MOST_ROWS;
 use std::cmp::Ordering;
 
@@ -25,6 +26,29 @@ pub fn holds(held: &Record, minute: u32) -> bool
     ensures { result ≡ holds_at minute held.now }
 {
     held[TERM_IN_RECORD] <= minute && minute < held[TERM_IN_RECORD + 1]
+}
+
+/// The atoms of its row.
+pub fn row_of(held: &Record) -> &[u32]
+    ensures { result.now ≡ record_row held.now }
+{
+    let width = held[ROW_IN_RECORD].min(4) as usize;
+    &held[ROW_IN_RECORD + 1..ROW_IN_RECORD + 1 + width]
+}
+
+/// The row of these atoms, as a row in hand: none where they are more than the four that a row has.
+pub fn row_from(atoms: &[u32]) -> Option<Row>
+    ensures { IsRowOf atoms.now result }
+{
+    if 4 < atoms.len() {
+        return None;
+    }
+    let mut four = [0; 4];
+    write(&mut four, 0, atoms);
+    Some(Row {
+        width: atoms.len() as u32,
+        atoms: four,
+    })
 }
 
 // Are the rows of two records the same? Their first atoms mostly tell.
@@ -164,7 +188,7 @@ fn held_behind(records: &[Record], minute: u32, i: usize) -> bool
 }
 
 /// Is the row among those that hold? The record that is found mostly tells; where it does not hold, those of the row beside it are asked.
-pub fn is_held(records: &[Record], minute: u32, row: &Row) -> bool
+pub fn is_row_held(records: &[Record], minute: u32, row: &Row) -> bool
     requires { Records records.now × (row.now.width ≤ 4) }
     ensures { SayFound minute records.now (row_is row.now) result }
 {
@@ -178,4 +202,15 @@ pub fn is_held(records: &[Record], minute: u32, row: &Row) -> bool
         return true;
     }
     held_behind(records, minute, found)
+}
+
+/// Is the row of these atoms among those that hold, however many they are?
+pub fn is_held(records: &[Record], minute: u32, row: &[u32]) -> bool
+    requires { Records records.now }
+    ensures { SayFound minute records.now row.now result }
+{
+    match row_from(row) {
+        Some(row) => is_row_held(records, minute, &row),
+        None => false,
+    }
 }

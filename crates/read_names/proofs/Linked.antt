@@ -15,6 +15,8 @@ use Rattle.row_words.specs.declared.row.Row as HeldRow
 use Rattle.rows.proofs.Case.{never, T_true, same_test, true_T, ◌then◌, iff_refl, iff_sym}
 use Rattle.rows.proofs.Order.{row_order}
 use Rattle.rows.proofs.Ordered.{Ascending, ascending_true, true_ascending, ascending_unique, insert-∈, insert_ascending, join-∈, join_ascending, lists_iff}
+use Rattle.rows.proofs.Lists.{all_in}
+use Rattle.rows.proofs.Place.{lists_not}
 use Rattle.rows.proofs.Joining.{∈-last, join_shorter, within_shorter}
 use Rattle.rows.proofs.LayoutLaws.{Width, sound_width, rows_count, true_sound}
 use Rattle.sets.proofs.SetWords.{sound_ascending}
@@ -48,7 +50,7 @@ use Rattle.certificates.specs.Certificate.{record_row, sound_record}
 use Rattle.rows.specs.Layout.{pieces}
 use Rattle.read_held.proofs.Holding.{rows_none, rows_few, rows_ascend}
 use Rattle.read_held.proofs.Copying.{record_wide, rows_of, rows_put, rows_same, all_rows, rows_within, rows_wide}
-use Rattle.read_names.proofs.Own.{own_rows_lem, records_few}
+use Rattle.read_names.proofs.Own.{own_rows_lem, part_records, records_few}
 
 -- just these names are reached
 pub record Reached (links : List ℕ) (v : ℕ) (x : Named) (found : List Name) (count : ℕ) : Type 0 where
@@ -77,6 +79,20 @@ module _ (minute : ℕ) (store links : List ℕ) (key name v : ℕ) where
       where
         own : (y : Named) → joined [] (certificates_at minute store) y.key y.name (polarity_of v) ≡ own_rows minute store v y
         own y = own_rows_lem store sound y.key y.name v refl small minute
+
+    -- no name has a row of more than four atoms
+    pub name_wide : (x : Row) → x ∈ name_rows minute store links key name v → Width x
+    name_wide x m =
+        let t = (reached-∈ (links_of links) (certificates_at minute store) key name (polarity_of v) x).0 m in
+        let own : x ∈ own_rows minute store v t.0 = subst (λ (l : List Row). x ∈ l) (own_rows_lem store sound t.0.key t.0.name v refl small minute) t.2 in
+        all_in Width (own_rows minute store v t.0) (rows_wide (part_records store sound t.0.key t.0.name v refl) minute) x own
+
+    pub longer_apart : {x y : Row} {b : Bool} → 4 < length x → Belongs (only (name_rows minute store links key name v)) y b → Belongs (only (name_rows minute store links key name v)) x false
+    unfolding has
+    longer_apart {x} h said = record {
+      few = said.few;
+      means = lists_not row_before row_order [] (name_rows minute store links key name v) x (λ m. let wide = name_wide x m in absurd (omega (arith, wide.few)));
+    }
 
 -- ---- rows joined to those of a set
 

@@ -3,6 +3,8 @@
 
 mod held;
 mod reached;
+#[cfg(test)]
+mod tests;
 
 ghost use Rattle.std.specs.Prelude.{◌≤◌, ◌≡◌, MatchResult, length, take};
 ghost use Rattle.rows.specs.Sets.{only};
@@ -18,7 +20,7 @@ ghost use Rattle.read_names.specs.Names.{name_set, rows_for, named_by, StandsFor
 pub use crate::held::Held;
 use certificates::RECORD_WORDS;
 use policy_places::term_at;
-use read_held::{Record, are_too_many, copy_rows, is_held};
+use read_held::{Record, are_too_many, copy_rows, is_row_held};
 pub use read_links::Name;
 use read_links::is_linked;
 use read_values::value_of;
@@ -73,13 +75,13 @@ impl<'a> Held<'a> {
         ensures { MatchResult result (λ listed. Belongs (only (rows_for self.now name)) (row_is row.now) listed) (λ refusal. Large (only (rows_for self.now name)) refusal) }
     {
         if is_linked(self.links, name) {
-            return self.look_reached(name, row, area);
+            return self.look_row_reached(name, row, area);
         }
         let records = self.records_of(name);
         if are_too_many(records, self.minute) {
             return Err(Refusal::TooManyRows);
         }
-        Ok(is_held(records, self.minute, row))
+        Ok(is_row_held(records, self.minute, row))
     }
 }
 

@@ -14,7 +14,7 @@ ghost use Rattle.read_names.specs.Names.{rows_for};
 
 use crate::{Held, Name};
 use certificates::ROW_IN_RECORD;
-use read_held::{Record, holds, is_held};
+use read_held::{Record, holds, is_row_held, row_from};
 use read_links::{Found, reach};
 use refusals::Refusal;
 use row_words::row::Row;
@@ -74,7 +74,7 @@ impl Held<'_> {
         for reached in found.names() {
             let records = self.records_of(*reached);
             total += records.len();
-            if is_held(records, self.minute, row) {
+            if is_row_held(records, self.minute, row) {
                 held = true;
             }
         }
@@ -96,7 +96,7 @@ impl Held<'_> {
     }
 
     // Looks for a row among those of every name that links reach from this one. They are joined only where there are more records than rows in a set.
-    pub fn look_reached(&self, name: Name, row: &Row, area: &mut [u32]) -> Result<bool, Refusal>
+    pub fn look_row_reached(&self, name: Name, row: &Row, area: &mut [u32]) -> Result<bool, Refusal>
         requires { (row.now.width ≤ 4) × (set_room ≤ length area.old) }
         ensures { MatchResult result (λ listed. Belongs (only (rows_for self.now name)) (row_is row.now) listed) (λ refusal. Large (only (rows_for self.now name)) refusal) }
     {
@@ -108,5 +108,24 @@ impl Held<'_> {
             self.join_names(name, &found, area)?;
         }
         Ok(looking.held)
+    }
+
+    // Looks for the row of these atoms, however many they are. Where they are more than a row has, no name has such a row, but the name's rows may still be too
+    // many.
+    pub fn look_reached(&self, name: Name, row: &[u32], area: &mut [u32]) -> Result<bool, Refusal>
+        requires { set_room ≤ length area.old }
+        ensures { MatchResult result (λ listed. Belongs (only (rows_for self.now name)) row.now listed) (λ refusal. Large (only (rows_for self.now name)) refusal) }
+    {
+        match row_from(row) {
+            Some(row) => self.look_row_reached(name, &row, area),
+            None => {
+                let any = Row {
+                    width: 0,
+                    atoms: [0; 4],
+                };
+                self.look_row_reached(name, &any, area)?;
+                Ok(false)
+            }
+        }
     }
 }

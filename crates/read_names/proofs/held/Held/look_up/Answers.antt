@@ -20,4 +20,4 @@ returns c =
     let n = c.args.name in
     let not : 128 < length (rows_held h.minute c.records_of-records.result.now) → ⊥ = λ l. never (c.are_too_many.ensures.1 l) c.if-are_too_many.false in
     let few : length (rows_held h.minute c.records_of-records.result.now) ≤ 128 = omega (arith, not) in
-    own_looked_up h.minute h.store.now h.links.now n.key n.number (polarity_number n.polarity) h.sound (polarity_few n.polarity) c.is_linked.ensures c.if-is_linked.false c.records_of-records.ensures.records few c.is_held.ensures
+    own_looked_up h.minute h.store.now h.links.now n.key n.number (polarity_number n.polarity) h.sound (polarity_few n.polarity) c.is_linked.ensures c.if-is_linked.false c.records_of-records.ensures.records few c.is_row_held.ensures
