@@ -6,6 +6,7 @@
 use crate::printing::say;
 use crate::text::Text;
 use rows::FIRST_KEY;
+use std::io;
 
 // Ours until a line says another: k2.
 pub const OUR_KEY: u32 = FIRST_KEY + 2;
@@ -19,4 +20,15 @@ pub fn heading(line: Text<'_>, our_key: &mut u32) {
     }
     say(text.cell());
     say(b"\n");
+}
+
+/// Prints to any handle a line that is a heading, or sets our key for the lines that follow. Fails where the handle does.
+pub fn heading_to(rt: &impl Print, line: Text<'_>, our_key: &mut u32) -> io::Result<()> {
+    let mut text = line;
+    if text.passes(b"our key ") {
+        *our_key = text.first_word();
+        return Ok(());
+    }
+    rt.write_all(text.cell())?;
+    println!(rt;)
 }

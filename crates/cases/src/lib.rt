@@ -10,4 +10,6 @@ pub mod input;
 pub mod printing;
 pub mod replies;
 pub mod storing;
+#[cfg(test)]
+mod tests;
 pub mod text;

@@ -3,7 +3,7 @@ use crate::printing::print;
 use engine::Answer;
 use policy::codes::Verdict;
 use refusals::Refused;
-use std::fmt;
+use std::{fmt, io};
 
 /// Words, with a space before each.
 #[derive(Clone, Copy, Debug)]
@@ -89,7 +89,7 @@ fn verdict_text(verdict: Verdict) -> &'static str {
 }
 
 /// Prints the reply to a query, whose answer area was full of fives before.
-pub fn print_reply(reply: Result<Answer, Refused>, area: &[u32]) {
+pub fn say_reply(reply: Result<Answer, Refused>, area: &[u32]) {
     match reply {
         Ok(answer) => {
             print(format_args!(
@@ -108,6 +108,29 @@ pub fn print_reply(reply: Result<Answer, Refused>, area: &[u32]) {
                     was: 5
                 }
             ));
+        }
+    }
+}
+
+/// Prints to any handle the reply to a query, whose answer area was full of fives before. Fails where the handle does.
+pub fn print_reply(
+    rt: &impl Print,
+    reply: Result<Answer, Refused>,
+    area: &[u32],
+) -> io::Result<()> {
+    match reply {
+        Ok(Answer { verdict, draws }) => {
+            let set = SetIn(area);
+            let verdict = verdict_text(verdict);
+            print!(rt; "{verdict}{draws} draws, {set}")
+        }
+        Err(refused) => {
+            let rest = Rest {
+                words: area,
+                was: 5,
+            };
+            let refused = RefusedCall(refused);
+            print!(rt; "{refused}{rest}")
         }
     }
 }

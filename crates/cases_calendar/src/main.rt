@@ -8,7 +8,7 @@
 #![tactic(auto)]
 
 use calendar::{Date, Minute};
-use cases::input::{LONGEST, read_input};
+use cases::input::{LONGEST, read_into};
 use cases::printing::{print, say};
 use cases::replies::Spaced;
 use cases::text::Text;
@@ -64,7 +64,7 @@ fn line(mut text: Text<'_>) {
 
 fn main() {
     let mut room = [0; LONGEST];
-    let input = read_input(&mut room);
+    let input = read_into(&mut room);
     for text in Text::new(input).lines() {
         line(text);
     }

@@ -14,7 +14,7 @@
 
 ghost use Rattle.std.specs.Prelude.{◌<◌};
 
-use cases::input::{LONGEST, read_input};
+use cases::input::{LONGEST, read_into};
 use cases::printing::{print, say};
 use cases::storing::keep;
 use cases::text::Text;
@@ -107,7 +107,7 @@ fn line(line: Text<'_>, store: &mut [u32], links: &mut [u32]) {
 
 fn main() {
     let mut room = [0; LONGEST];
-    let input = read_input(&mut room);
+    let input = read_into(&mut room);
     let mut store = [77u32; 16002];
     let mut links = [77u32; 1282];
     for text in Text::new(input).lines() {

@@ -5,7 +5,7 @@
 #![tactic(auto)]
 
 use cases::headings::{OUR_KEY, heading};
-use cases::input::{LONGEST, read_input};
+use cases::input::{LONGEST, read_into};
 use cases::printing::{print, say};
 use cases::replies::{RefusedCall, Spaced};
 use cases::text::Text;
@@ -50,7 +50,7 @@ fn line(line: Text<'_>, our_key: &mut u32) {
 
 fn main() {
     let mut room = [0; LONGEST];
-    let input = read_input(&mut room);
+    let input = read_into(&mut room);
     let mut our_key = OUR_KEY;
     for text in Text::new(input).lines() {
         line(text, &mut our_key);

@@ -10,9 +10,9 @@
 #![tactic(auto)]
 
 use cases::headings::{OUR_KEY, heading};
-use cases::input::{LONGEST, read_input};
+use cases::input::{LONGEST, read_into};
 use cases::printing::say;
-use cases::replies::print_reply;
+use cases::replies::say_reply;
 use cases::storing::keep;
 use cases::text::Text;
 use engine::query;
@@ -58,7 +58,7 @@ fn ask(mut text: Text<'_>, store: &[u32], links: &[u32], setting: &Setting) {
         &mut definitions[..definitions_end],
         &mut scratch[..scratch_end],
     );
-    print_reply(reply, &answer[..answer_end]);
+    say_reply(reply, &answer[..answer_end]);
 }
 
 // Does what a line without bars says.
@@ -88,7 +88,7 @@ fn line(line: Text<'_>, store: &mut [u32], links: &mut [u32], setting: &mut Sett
 
 fn main() {
     let mut room = [0; LONGEST];
-    let input = read_input(&mut room);
+    let input = read_into(&mut room);
     let mut store = [99u32; 16001];
     let mut links = [98u32; 1282];
     links[0] = 0;
