@@ -1,5 +1,5 @@
 -- What filing, judging, rewriting and asking hand out is what their definitions say, one law for each way that a call returns.
-use Rattle.std.proofs.Common.{ℕ, ◌≡◌, ◌∙◌, refl, sym, ap, List, Result, Ok, Err}
+use Rattle.std.proofs.Common.{ℕ, ◌≡◌, ◌∙◌, refl, sym, ap, List, Ok, Err}
 use Rattle.refusals.specs.RefusalTable.{no_part}
 use Rattle.refusals.specs.Numbers.{number, part_number, told}
 use Rattle.refusals.specs.declared.Refused.{Refused}
@@ -9,11 +9,11 @@ use Rattle.policy.specs.Codes.{verdict_number}
 use Rattle.policy.specs.Polarity.{verdict_word}
 use Rattle.policy.specs.declared.codes.Verdict as HeldVerdict
 use Rattle.policy.proofs.Basics.{impossible}
-use Rattle.judging.specs.Reply.{verdict_is, judged_is}
+use Rattle.judging.specs.Reply.{judged_is}
 use Rattle.policy.specs.External.{Rewriting, rewritten, rewrite_into, area_after}
 use Rattle.policy.specs.External as External
 use Rattle.policy_rewriting.specs.Output.{rewritten_for}
-use Rattle.demands.specs.Query.{Outcome, answered, refused, Call, query_call, draws_of}
+use Rattle.demands.specs.Query.{Outcome, answered, refused, Call, query_call, answer_area, draws_of}
 use Rattle.engine.specs.Reply.{reply_for, reply_is, Replied}
 use Rattle.engine.specs.declared.Answer.{Answer}
 use Rattle.engine.proofs.Replying.{same_word}
@@ -74,6 +74,11 @@ module _ (s : Stores) (c : Call) (answer : List ℕ) (left : Stores) where
       Asked s c (record { number = no_refusal; part = no_part; verdict = n; draws = a.draws }) answer left
   hands_answer a n said e = record { reply = rw e (answered_outcome (query_call s c) a said.reply); area = said.area; unchanged = said.unchanged }
 
+  -- whatever part the refusal is about
+  pub hands_refusal : (r : Refused) (n part : ℕ) → reply_is (Err r) ≡ reply_for (query_call s c) → answer ≡ answer_area (query_call s c) c.answer → left ≡ s → n ≡ number r.refusal → part ≡ part_number r.part →
+      Asked s c (record { number = n; part = part; verdict = no_verdict; draws = 0 }) answer left
+  hands_refusal r n part reply area unchanged e i = record { reply = rw (e, i) (refused_outcome (query_call s c) r reply); area = area; unchanged = unchanged }
+
   pub hands_refused_query : (r : Refused) (n part : ℕ) → Replied s c (Err r) answer left → n ≡ number r.refusal → part ≡ part_number r.part →
       Asked s c (record { number = n; part = part; verdict = no_verdict; draws = 0 }) answer left
-  hands_refused_query r n part said e i = record { reply = rw (e, i) (refused_outcome (query_call s c) r said.reply); area = said.area; unchanged = said.unchanged }
+  hands_refused_query r n part said e i = hands_refusal r n part said.reply said.area said.unchanged e i

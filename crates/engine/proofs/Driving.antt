@@ -12,7 +12,7 @@ use Rattle.policy.specs.OwnKey.{Declared}
 use Rattle.policy.specs.Leaf.{declaration}
 use Rattle.policy.specs.Syntax.{Expr}
 use Rattle.policy.specs.Parse.{parse, parsed}
-use Rattle.policy.specs.Polarity.{Known, Verdict}
+use Rattle.policy.specs.Polarity.{Known, Verdict, verdict_word}
 use Rattle.policy.specs.Table.{Entry, entry_at, entry_words, table}
 use Rattle.policy.specs.Definitions.{known_of}
 use Rattle.policy.specs.Checking.{checked, check}
@@ -21,6 +21,7 @@ use Rattle.policy_table.specs.Entries.{entry_place, Inside, entries_from, declar
 use Rattle.policy_table.proofs.Declared.{known_more}
 use Rattle.policy_table.proofs.PartAnswers.{table_parts, Listed, listed_of}
 use Rattle.meaning.specs.Reading.{done, refused}
+use Rattle.meaning.specs.Evidence.{Evidence}
 use Rattle.read_values.specs.Answers.{Filled}
 use Rattle.read_values.specs.Outcomes.{outcome, IfOk}
 use Rattle.read_values.specs.From.{From, with_sets, sets_in, names, sets, SoundFrom}
@@ -33,6 +34,7 @@ use Rattle.read_expressions.specs.Readers.{reading, AskWhole, SayWhole}
 use Rattle.demands.specs.Query.{Outcome, answered, read_from, answer_area}
 use Rattle.demands.specs.Query as Query
 use Rattle.engine.specs.Reply.{reply_for, reply_is}
+use Rattle.engine.specs.declared.Answer.{Answer}
 use Rattle.policy.specs.Codes.{verdict_number}
 use Rattle.policy.specs.declared.codes.Verdict as HeldVerdict
 use Rattle.engine.specs.Steps.{Ready, ReadyPolicy, left_to_read, SoundIf, ReadDefinitions, ReadAll}
@@ -169,6 +171,14 @@ module _ {s : Stores} {ours : ℕ} {policy : List ℕ} {count : ℕ} {definition
   pub place_inside : {n : ℕ} → n ≡ length definitions → 642 * d + 642 ≤ n
   place_inside e = let room = ready.ready.room in omega (arith, number_small)
 
+-- what a reading of the definitions comes to, and of the query after them, whatever part a refusal is about
+abbrev pub ReadsTo : From → Result ℕ Failed.Refused → Type 0
+ReadsTo f r = (query : List ℕ) (es : List Expr) (q : Expr) (v : Verdict) → check f.our_key f.policy query ≡ checked es q v → read_from f.format (names f) es q v [] 0 ≡ left_to_read f q v r
+
+abbrev pub AnswersTo : ℕ → ℕ → Evidence → List ℕ → List ℕ → ℕ → List ℕ → Result Answer Failed.Refused → List ℕ → Type 0
+AnswersTo ours format held policy query verdict area r now = (es : List Expr) (q : Expr) (v : Verdict) → check ours policy query ≡ checked es q v → verdict_word v ≡ verdict →
+    (reply_is r ≡ reply_for (read_from format held es q v [] 0)) × (now ≡ answer_area (read_from format held es q v [] 0) area)
+
 -- the definitions before number `f.known` are read, with so many draws
 pub record Rest (count : ℕ) (f : From) (draws : ℕ) (es : List Expr) (q : Expr) (v : Verdict) : Type 0 where
   pub rest : List Expr
@@ -228,15 +238,16 @@ module _ {count : ℕ} {f : From} {draws : ℕ} (before : ReadSoFar count f draw
           };
     })
 
+    -- the reading ends at the definition, whatever its number
+    pub refused_means : {x : Refusal} {scratch : List ℕ} → SayWhole f words draws (Err x) scratch → ReadsTo (with_sets f f.defs count) (Err (record { refusal = x; part = part.Definition f.known }))
+    unfolding left_to_read outcome
+    refused_means {x} said query es q v h =
+        let n = next_means said query es q v h in
+        n.2 ∙ read_refused f n.0 n.1 q v draws n.3 ∙ ap (Query.refused (number x)) (sets_length f.known f.defs)
+
     pub next_refused : {x : Refusal} {scratch : List ℕ} → f.known ≤ 15 → SayWhole f words draws (Err x) scratch → ReadDefinitions (with_sets f f.defs count) (Err (record { refusal = x; part = part.Definition f.known }))
-    unfolding SoundIf left_to_read outcome
-    next_refused {x} small said = record {
-      sound = tt;
-      part = omega arith;
-      means = λ query es q v h.
-          let n = next_means said query es q v h in
-          n.2 ∙ read_refused f n.0 n.1 q v draws n.3 ∙ ap (Query.refused (number x)) (sets_length f.known f.defs);
-    }
+    unfolding SoundIf
+    next_refused small said = record { sound = tt; part = omega arith; means = refused_means said }
 
   pub all_read : count ≤ f.known → ReadDefinitions (with_sets f f.defs count) (Ok draws)
   unfolding SoundIf left_to_read
@@ -253,15 +264,15 @@ module _ {count : ℕ} {f : From} {draws : ℕ} (before : ReadSoFar count f draw
 
 -- ---- the query, after the definitions
 
+pub refusal_answers : (f : From) (query : List ℕ) (verdict : ℕ) (area : List ℕ) (x : Failed.Refused) → ReadsTo f (Err x) → AnswersTo f.our_key f.format (names f) f.policy query verdict area (Err x) area
+unfolding left_to_read reply_for reply_is answer_area
+refusal_answers f query verdict area x reads es q v h w =
+    let o : read_from f.format (names f) es q v [] 0 ≡ Query.refused (number x.refusal) (part_number x.part) = reads query es q v h in
+    (ap reply_for (sym o), ap (λ (x : Outcome). answer_area x area) (sym o))
+
 module _ {f : From} {query : List ℕ} {verdict : ℕ} {area : List ℕ} where
   pub definition_refused : {x : Failed.Refused} → ReadDefinitions f (Err x) → ReadAll f.our_key f.format (names f) f.policy query verdict area (Err x) area
-  unfolding left_to_read reply_for reply_is answer_area
-  definition_refused {x} said = record {
-    part = said.part;
-    means = λ es q v h w.
-        let o : read_from f.format (names f) es q v [] 0 ≡ Query.refused (number x.refusal) (part_number x.part) = said.means query es q v h in
-        (ap reply_for (sym o), ap (λ (x : Outcome). answer_area x area) (sym o));
-  }
+  definition_refused {x} said = record { part = said.part; means = refusal_answers f query verdict area x said.means }
 
 module _ {f : From} {before : ℕ} (said : ReadDefinitions f (Ok before)) (counted : get_or f.policy 1 0 ≡ f.known) where
   pub query_asked : {query definitions₀ scratch₀ scratch : List ℕ} → Ready f.stores f.our_key f.policy query definitions₀ scratch₀ → length scratch ≡ length scratch₀ → AskWhole f query scratch

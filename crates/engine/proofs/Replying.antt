@@ -31,16 +31,25 @@ use Rattle.demands.specs.Refusal.{soundness, unsound, unsound_links, short}
 use Rattle.engine.specs.Reply.{reply_for, reply_is, Replied}
 use Rattle.engine.specs.Steps.{Ready, ReadAll}
 use Rattle.engine.specs.declared.Answer.{Answer}
+use Rattle.engine.proofs.Driving.{AnswersTo}
 use Rattle.demands.proofs.Outcome.{names_at, stores_sound, call_judged, call_refused, call_reads}
 
--- a call that was refused
-refuses_call : (s : Stores) (c : Call) (r : Refused) → IsPart r.part → query_call s c ≡ Query.refused (number r.refusal) (part_number r.part) → Replied s c (Err r) c.answer s
+-- a call that was refused, whatever part that is about: its reply, and the answer area
+refused_reply : (s : Stores) (c : Call) (r : Refused) → query_call s c ≡ Query.refused (number r.refusal) (part_number r.part) →
+    (reply_is (Err r) ≡ reply_for (query_call s c)) × (c.answer ≡ answer_area (query_call s c) c.answer)
 unfolding reply_for reply_is answer_area
-refuses_call s c r p e = record { reply = ap reply_for (sym e); part = p; area = ap (λ (o : Outcome). answer_area o c.answer) (sym e); unchanged = refl }
+refused_reply s c r e = (ap reply_for (sym e), ap (λ (o : Outcome). answer_area o c.answer) (sym e))
+
+refuses_call : (s : Stores) (c : Call) (r : Refused) → IsPart r.part → query_call s c ≡ Query.refused (number r.refusal) (part_number r.part) → Replied s c (Err r) c.answer s
+refuses_call s c r p e = let said = refused_reply s c r e in record { reply = said.0; part = p; area = said.1; unchanged = refl }
+
+pub judged_reply : (s : Stores) (c : Call) (r : Refused) → judged_is (Err r) ≡ judge c.our_key c.policy c.query →
+    (reply_is (Err r) ≡ reply_for (query_call s c)) × (c.answer ≡ answer_area (query_call s c) c.answer)
+unfolding judged_is
+judged_reply s c r e = refused_reply s c r (call_judged s c (number r.refusal) (part_number r.part) (sym e))
 
 pub refuses_judged : (s : Stores) (c : Call) (r : Refused) → IsPart r.part → judged_is (Err r) ≡ judge c.our_key c.policy c.query → Replied s c (Err r) c.answer s
-unfolding judged_is
-refuses_judged s c r p e = refuses_call s c r p (call_judged s c (number r.refusal) (part_number r.part) (sym e))
+refuses_judged s c r p e = let said = judged_reply s c r e in record { reply = said.0; part = p; area = said.1; unchanged = refl }
 
 -- what a judgement in hand says
 pub is_judged : (ours : ℕ) (p q : List ℕ) (v : HeldVerdict.Verdict) → judged_is (Ok v) ≡ judge ours p q → judge ours p q ≡ verdict (verdict_is v)
@@ -84,10 +93,14 @@ module _ (s : Stores) (c : Call) (v : Verdict) (passes : judge c.our_key c.polic
             let t = (judge_checked c.our_key c.policy c.query v).0 passes in
             record { es = t.0; q = t.1; v = v; passes = t.2; sound = sound; links = links; room = enough.1; space = enough.2 }
 
-        pub replies : (word : ℕ) → verdict_word v ≡ word → (r : Result Answer Refused) (answer : List ℕ) → ReadAll c.our_key (format_of c.policy) (names_at s c) c.policy c.query word c.answer r answer → Replied s c r answer s
+        pub replies_to : (word : ℕ) → verdict_word v ≡ word → (r : Result Answer Refused) (answer : List ℕ) → AnswersTo c.our_key (format_of c.policy) (names_at s c) c.policy c.query word c.answer r answer →
+            (reply_is r ≡ reply_for (query_call s c)) × (answer ≡ answer_area (query_call s c) c.answer)
         unfolding outcome_from
-        replies word w r answer said =
+        replies_to word w r answer said =
             let t = (judge_checked c.our_key c.policy c.query v).0 passes in
             let o : query_call s c ≡ read_from (format_of c.policy) (names_at s c) t.0 t.1 v [] 0 = call_reads s (names_at s c) (stores_sound s sound links) c refl ∙ rw (t.2, room, outcome_from) in
-            let m = said.means t.0 t.1 v t.2 w in
-            record { reply = m.0 ∙ ap reply_for (sym o); part = said.part; area = m.1 ∙ ap (λ (x : Outcome). answer_area x c.answer) (sym o); unchanged = refl }
+            let m = said t.0 t.1 v t.2 w in
+            (m.0 ∙ ap reply_for (sym o), m.1 ∙ ap (λ (x : Outcome). answer_area x c.answer) (sym o))
+
+        pub replies : (word : ℕ) → verdict_word v ≡ word → (r : Result Answer Refused) (answer : List ℕ) → ReadAll c.our_key (format_of c.policy) (names_at s c) c.policy c.query word c.answer r answer → Replied s c r answer s
+        replies word w r answer said = let m = replies_to word w r answer said.means in record { reply = m.0; part = said.part; area = m.1; unchanged = refl }
