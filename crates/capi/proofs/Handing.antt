@@ -13,8 +13,9 @@ use Rattle.judging.specs.Reply.{judged_is}
 use Rattle.policy.specs.External.{Rewriting, rewritten, rewrite_into, area_after}
 use Rattle.policy.specs.External as External
 use Rattle.policy_rewriting.specs.Output.{rewritten_for}
-use Rattle.demands.specs.Query.{Outcome, answered, refused, Call, query_call, answer_area, draws_of}
+use Rattle.demands.specs.Query.{Outcome, answered, refused, Call, query_call, draws_of}
 use Rattle.engine.specs.Reply.{reply_for, reply_is, Replied}
+use Rattle.engine.specs.Steps.{ComesTo}
 use Rattle.engine.specs.declared.Answer.{Answer}
 use Rattle.engine.proofs.Replying.{same_word}
 use Rattle.capi.specs.Replies.{no_refusal, no_verdict, HandedJudgement, hand_judgement, hand_rewriting, RewrittenInto, hand_outcome, Asked}
@@ -75,10 +76,10 @@ module _ (s : Stores) (c : Call) (answer : List ℕ) (left : Stores) where
   hands_answer a n said e = record { reply = rw e (answered_outcome (query_call s c) a said.reply); area = said.area; unchanged = said.unchanged }
 
   -- whatever part the refusal is about
-  pub hands_refusal : (r : Refused) (n part : ℕ) → reply_is (Err r) ≡ reply_for (query_call s c) → answer ≡ answer_area (query_call s c) c.answer → left ≡ s → n ≡ number r.refusal → part ≡ part_number r.part →
+  pub hands_refusal : (r : Refused) (n part : ℕ) → ComesTo (query_call s c) c.answer (Err r) answer → left ≡ s → n ≡ number r.refusal → part ≡ part_number r.part →
       Asked s c (record { number = n; part = part; verdict = no_verdict; draws = 0 }) answer left
-  hands_refusal r n part reply area unchanged e i = record { reply = rw (e, i) (refused_outcome (query_call s c) r reply); area = area; unchanged = unchanged }
+  hands_refusal r n part said unchanged e i = record { reply = rw (e, i) (refused_outcome (query_call s c) r said.0); area = said.1; unchanged = unchanged }
 
   pub hands_refused_query : (r : Refused) (n part : ℕ) → Replied s c (Err r) answer left → n ≡ number r.refusal → part ≡ part_number r.part →
       Asked s c (record { number = n; part = part; verdict = no_verdict; draws = 0 }) answer left
-  hands_refused_query r n part said e i = hands_refusal r n part said.reply said.area said.unchanged e i
+  hands_refused_query r n part said e i = hands_refusal r n part (said.reply, said.area) said.unchanged e i

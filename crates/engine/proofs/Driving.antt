@@ -12,7 +12,7 @@ use Rattle.policy.specs.OwnKey.{Declared}
 use Rattle.policy.specs.Leaf.{declaration}
 use Rattle.policy.specs.Syntax.{Expr}
 use Rattle.policy.specs.Parse.{parse, parsed}
-use Rattle.policy.specs.Polarity.{Known, Verdict, verdict_word}
+use Rattle.policy.specs.Polarity.{Known, Verdict}
 use Rattle.policy.specs.Table.{Entry, entry_at, entry_words, table}
 use Rattle.policy.specs.Definitions.{known_of}
 use Rattle.policy.specs.Checking.{checked, check}
@@ -21,7 +21,6 @@ use Rattle.policy_table.specs.Entries.{entry_place, Inside, entries_from, declar
 use Rattle.policy_table.proofs.Declared.{known_more}
 use Rattle.policy_table.proofs.PartAnswers.{table_parts, Listed, listed_of}
 use Rattle.meaning.specs.Reading.{done, refused}
-use Rattle.meaning.specs.Evidence.{Evidence}
 use Rattle.read_values.specs.Answers.{Filled}
 use Rattle.read_values.specs.Outcomes.{outcome, IfOk}
 use Rattle.read_values.specs.From.{From, with_sets, sets_in, names, sets, SoundFrom}
@@ -34,10 +33,9 @@ use Rattle.read_expressions.specs.Readers.{reading, AskWhole, SayWhole}
 use Rattle.demands.specs.Query.{Outcome, answered, read_from, answer_area}
 use Rattle.demands.specs.Query as Query
 use Rattle.engine.specs.Reply.{reply_for, reply_is}
-use Rattle.engine.specs.declared.Answer.{Answer}
 use Rattle.policy.specs.Codes.{verdict_number}
 use Rattle.policy.specs.declared.codes.Verdict as HeldVerdict
-use Rattle.engine.specs.Steps.{Ready, ReadyPolicy, left_to_read, SoundIf, ReadDefinitions, ReadAll}
+use Rattle.engine.specs.Steps.{Ready, ReadyPolicy, left_to_read, SoundIf, ReadsTo, AnswersTo, ReadDefinitions, ReadAll}
 use Rattle.engine.proofs.Placing.{sets_length, sound_more, sets_more}
 
 -- ---- what is left to read when d of n definitions are read
@@ -170,14 +168,6 @@ module _ {s : Stores} {ours : ℕ} {policy : List ℕ} {count : ℕ} {definition
 
   pub place_inside : {n : ℕ} → n ≡ length definitions → 642 * d + 642 ≤ n
   place_inside e = let room = ready.ready.room in omega (arith, number_small)
-
--- what a reading of the definitions comes to, and of the query after them, whatever part a refusal is about
-abbrev pub ReadsTo : From → Result ℕ Failed.Refused → Type 0
-ReadsTo f r = (query : List ℕ) (es : List Expr) (q : Expr) (v : Verdict) → check f.our_key f.policy query ≡ checked es q v → read_from f.format (names f) es q v [] 0 ≡ left_to_read f q v r
-
-abbrev pub AnswersTo : ℕ → ℕ → Evidence → List ℕ → List ℕ → ℕ → List ℕ → Result Answer Failed.Refused → List ℕ → Type 0
-AnswersTo ours format held policy query verdict area r now = (es : List Expr) (q : Expr) (v : Verdict) → check ours policy query ≡ checked es q v → verdict_word v ≡ verdict →
-    (reply_is r ≡ reply_for (read_from format held es q v [] 0)) × (now ≡ answer_area (read_from format held es q v [] 0) area)
 
 -- the definitions before number `f.known` are read, with so many draws
 pub record Rest (count : ℕ) (f : From) (draws : ℕ) (es : List Expr) (q : Expr) (v : Verdict) : Type 0 where

@@ -29,22 +29,19 @@ use Rattle.demands.specs.Query.{Outcome, read_from, definition_room, scratch_roo
 use Rattle.demands.specs.Query as Query
 use Rattle.demands.specs.Refusal.{soundness, unsound, unsound_links, short}
 use Rattle.engine.specs.Reply.{reply_for, reply_is, Replied}
-use Rattle.engine.specs.Steps.{Ready, ReadAll}
+use Rattle.engine.specs.Steps.{Ready, ComesTo, AnswersTo, ReadAll}
 use Rattle.engine.specs.declared.Answer.{Answer}
-use Rattle.engine.proofs.Driving.{AnswersTo}
 use Rattle.demands.proofs.Outcome.{names_at, stores_sound, call_judged, call_refused, call_reads}
 
--- a call that was refused, whatever part that is about: its reply, and the answer area
-refused_reply : (s : Stores) (c : Call) (r : Refused) → query_call s c ≡ Query.refused (number r.refusal) (part_number r.part) →
-    (reply_is (Err r) ≡ reply_for (query_call s c)) × (c.answer ≡ answer_area (query_call s c) c.answer)
+-- a call that was refused, whatever part that is about
+refused_reply : (s : Stores) (c : Call) (r : Refused) → query_call s c ≡ Query.refused (number r.refusal) (part_number r.part) → ComesTo (query_call s c) c.answer (Err r) c.answer
 unfolding reply_for reply_is answer_area
 refused_reply s c r e = (ap reply_for (sym e), ap (λ (o : Outcome). answer_area o c.answer) (sym e))
 
 refuses_call : (s : Stores) (c : Call) (r : Refused) → IsPart r.part → query_call s c ≡ Query.refused (number r.refusal) (part_number r.part) → Replied s c (Err r) c.answer s
 refuses_call s c r p e = let said = refused_reply s c r e in record { reply = said.0; part = p; area = said.1; unchanged = refl }
 
-pub judged_reply : (s : Stores) (c : Call) (r : Refused) → judged_is (Err r) ≡ judge c.our_key c.policy c.query →
-    (reply_is (Err r) ≡ reply_for (query_call s c)) × (c.answer ≡ answer_area (query_call s c) c.answer)
+pub judged_reply : (s : Stores) (c : Call) (r : Refused) → judged_is (Err r) ≡ judge c.our_key c.policy c.query → ComesTo (query_call s c) c.answer (Err r) c.answer
 unfolding judged_is
 judged_reply s c r e = refused_reply s c r (call_judged s c (number r.refusal) (part_number r.part) (sym e))
 
@@ -94,7 +91,7 @@ module _ (s : Stores) (c : Call) (v : Verdict) (passes : judge c.our_key c.polic
             record { es = t.0; q = t.1; v = v; passes = t.2; sound = sound; links = links; room = enough.1; space = enough.2 }
 
         pub replies_to : (word : ℕ) → verdict_word v ≡ word → (r : Result Answer Refused) (answer : List ℕ) → AnswersTo c.our_key (format_of c.policy) (names_at s c) c.policy c.query word c.answer r answer →
-            (reply_is r ≡ reply_for (query_call s c)) × (answer ≡ answer_area (query_call s c) c.answer)
+            ComesTo (query_call s c) c.answer r answer
         unfolding outcome_from
         replies_to word w r answer said =
             let t = (judge_checked c.our_key c.policy c.query v).0 passes in

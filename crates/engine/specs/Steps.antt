@@ -55,13 +55,25 @@ unfoldable pub SoundIf : From → Result ℕ Refused → Type 0
 SoundIf f (Ok draws) = SoundFrom f
 SoundIf f (Err r) = Unit {0}
 
--- all definitions are read, or a refusal was met in one of them, whichever query they are read for
+-- the reading of the definitions comes to this, whichever query they are read for and whatever part a refusal is about
+abbrev pub ReadsTo : From → Result ℕ Refused → Type 0
+ReadsTo f r = (query : List ℕ) (es : List Expr) (q : Expr) (v : Verdict) → check f.our_key f.policy query ≡ checked es q v → read_from f.format (names f) es q v [] 0 ≡ left_to_read f q v r
+
+-- the reply is this outcome's, and so are the words of the answer area, where `before` stood
+abbrev pub ComesTo : Outcome → List ℕ → Result Answer Refused → List ℕ → Type 0
+ComesTo o before r now = (reply_is r ≡ reply_for o) × (now ≡ answer_area o before)
+
+-- of a policy and a query that pass with this verdict the reading of both comes to this, whatever part a refusal is about
+abbrev pub AnswersTo : ℕ → ℕ → Evidence → List ℕ → List ℕ → ℕ → List ℕ → Result Answer Refused → List ℕ → Type 0
+AnswersTo ours format held policy query verdict area r now =
+    (es : List Expr) (q : Expr) (v : Verdict) → check ours policy query ≡ checked es q v → verdict_word v ≡ verdict → ComesTo (read_from format held es q v [] 0) area r now
+
+-- all definitions are read, or a refusal was met in one of them
 pub record ReadDefinitions (f : From) (r : Result ℕ Refused) : Type 0 where
   pub sound : SoundIf f r
   pub part : IfErr r (λ x. IsPart x.part)
-  pub means : (query : List ℕ) (es : List Expr) (q : Expr) (v : Verdict) → check f.our_key f.policy query ≡ checked es q v → read_from f.format (names f) es q v [] 0 ≡ left_to_read f q v r
+  pub means : ReadsTo f r
 
 pub record ReadAll (ours format : ℕ) (held : Evidence) (policy query : List ℕ) (verdict : ℕ) (area : List ℕ) (r : Result Answer Refused) (now : List ℕ) : Type 0 where
   pub part : IfErr r (λ x. IsPart x.part)
-  pub means : (es : List Expr) (q : Expr) (v : Verdict) → check ours policy query ≡ checked es q v → verdict_word v ≡ verdict →
-      (reply_is r ≡ reply_for (read_from format held es q v [] 0)) × (now ≡ answer_area (read_from format held es q v [] 0) area)
+  pub means : AnswersTo ours format held policy query verdict area r now
